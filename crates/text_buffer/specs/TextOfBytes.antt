@@ -5,7 +5,7 @@ use Rattle.std.specs.Prelude.{ℕ, suc, ◌==◌, nat_lt, not, List, [], ◌∷�
 use Rattle.std.specs.Str.{chars, is_utf8}
 use Rattle.text_buffer.specs.declared.TheConstants.{MOST_LINES, MOST_CHARS, LINE_BREAK}
 use Rattle.text_buffer.specs.declared.TextError.{TextError}
-use Rattle.text_buffer.specs.declared.TextError.TheVariants.{BadUtf8, LineTooLong, TooManyLines}
+use Rattle.text_buffer.specs.declared.TextError.TheVariants.{BadUtf8, LineTooLong, TooManyLines, Memory}
 
 -- a byte put before the first of these pieces
 abbrev pub longer_first : ℕ → List (List ℕ) → List (List ℕ)
@@ -41,6 +41,13 @@ line_fault number bytes =
     if not (is_utf8 bytes) then Some (BadUtf8 number)
     else (if nat_lt MOST_CHARS (length (chars bytes)) then Some (LineTooLong number)
     else (if nat_lt number MOST_LINES then None else Some TooManyLines))
+
+-- the line that a fault names, from 0
+abbrev pub line_of_fault : TextError → ℕ
+line_of_fault (BadUtf8 line) = line
+line_of_fault (LineTooLong line) = line
+line_of_fault TooManyLines = MOST_LINES
+line_of_fault Memory = 0
 
 -- the first of two faults, if there is one
 abbrev pub first_of : Option TextError → Option TextError → Option TextError

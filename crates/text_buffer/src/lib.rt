@@ -4,8 +4,8 @@
 //! `simdutf8`, while the definition that both meet splits the whole list of bytes.
 #![tactic(auto)]
 
-ghost use Rattle.std.specs.Prelude.{◌≡◌, ◌≢◌, Ok, Err, IfOk, IfErr};
-ghost use Rattle.text_buffer.specs.TextOfBytes.{text_of};
+ghost use Rattle.std.specs.Prelude.{◌≡◌, ◌≢◌, ◌≤◌, Ok, Err, IfOk, IfErr};
+ghost use Rattle.text_buffer.specs.TextOfBytes.{line_of_fault, text_of};
 
 mod reading;
 
@@ -78,6 +78,8 @@ impl Text {
     pub fn from_bytes(alloc: Global, bytes: &[u8]) -> Result<Text, TextError>
         ensures text { IfOk result (λ text. text_of bytes.now ≡ Ok text) }
         ensures fault { IfErr result (λ fault. fault ≢ TextError.Memory → text_of bytes.now ≡ Err fault) }
+        // The line of a fault is at most the one that is one too many.
+        ensures near { IfErr result (λ fault. line_of_fault fault ≤ MOST_LINES) }
     {
         let lines = reading::read_lines(alloc, bytes)?;
         Ok(Text {

@@ -2,7 +2,7 @@
 ghost use Rattle.std.specs.Prelude.{◌≡◌, ◌≢◌, ◌<◌, ◌≤◌, ◌+◌, ◌++◌, [], ◌∷◌, Ok, Err, None, Some, IfOk, IfErr, drop, length, slice_range, vec_len};
 ghost use Rattle.std.specs.Str.{chars};
 ghost use Rattle.text_buffer.specs.Reading.{lines_after, read_on};
-ghost use Rattle.text_buffer.specs.TextOfBytes.{byte_lines, line_fault, text_of};
+ghost use Rattle.text_buffer.specs.TextOfBytes.{byte_lines, line_fault, line_of_fault, text_of};
 
 use super::{LINE_BREAK, Line, MOST_CHARS, MOST_LINES, TextError};
 use memchr::memchr;
@@ -15,6 +15,7 @@ pub(super) fn read_lines(alloc: Global, bytes: &[u8]) -> Result<Vec<Line>, TextE
     ensures some { IfOk result (λ lines. 0 < vec_len lines) }
     ensures few { IfOk result (λ lines. vec_len lines ≤ MOST_LINES) }
     ensures fault { IfErr result (λ fault. fault ≢ TextError.Memory → text_of bytes.now ≡ Err fault) }
+    ensures near { IfErr result (λ fault. line_of_fault fault ≤ MOST_LINES) }
 {
     let mut lines = Vec::new(alloc);
     let mut at = push_line(alloc, &mut lines, bytes, 0)?;
@@ -46,7 +47,8 @@ fn push_line(
     bytes: &[u8],
     at: usize,
 ) -> Result<usize, TextError>
-    requires { at ≤ length bytes.now }
+    requires within { at ≤ length bytes.now }
+    requires few { vec_len lines.old ≤ MOST_LINES }
     ensures further { IfOk result (λ next. at < next) }
     ensures read { IfOk result (λ next. read_on lines.old.items (byte_lines (drop at bytes.now))
         ≡ read_on lines.new.items (lines_after bytes.now next)) }
@@ -54,6 +56,7 @@ fn push_line(
     ensures few { IfOk result (λ _. vec_len lines.new ≤ MOST_LINES) }
     ensures fault { IfErr result (λ fault. fault ≢ TextError.Memory
         → read_on lines.old.items (byte_lines (drop at bytes.now)) ≡ Err fault) }
+    ensures near { IfErr result (λ fault. line_of_fault fault ≤ MOST_LINES) }
 {
     let end = line_end(bytes, at);
     let line = read_line(alloc, lines.len(), &bytes[at..end])?;
@@ -63,10 +66,12 @@ fn push_line(
 
 /// The line of that number, from 0, that these bytes are.
 fn read_line(alloc: Global, number: usize, bytes: &[u8]) -> Result<Line, TextError>
+    requires { number ≤ MOST_LINES }
     ensures faultless { IfOk result (λ _. line_fault number bytes.now ≡ None) }
     ensures line { IfOk result (λ line. line ≡ chars bytes.now) }
     ensures few { IfOk result (λ _. number < MOST_LINES) }
     ensures fault { IfErr result (λ fault. fault ≢ TextError.Memory → line_fault number bytes.now ≡ Some fault) }
+    ensures near { IfErr result (λ fault. line_of_fault fault ≤ MOST_LINES) }
 {
     let Ok(text) = simdutf8::compat::from_utf8(bytes) else {
         return Err(TextError::BadUtf8 { line: number });

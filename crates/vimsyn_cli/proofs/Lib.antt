@@ -1,0 +1,4 @@
+mod PaintLaws
+mod PrintLaws
+mod RunLaws
+mod SessionLaws

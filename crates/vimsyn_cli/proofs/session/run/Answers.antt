@@ -1,0 +1,37 @@
+use Rattle.std.proofs.Common.{refl, sym, ◌∙◌}
+use Rattle.vimsyn_cli.specs.Words.{texts_of}
+use Rattle.vimsyn_cli.proofs.RunLaws.{session_err_or_unread, session_err_part, session_gives, session_out_part, usage_gives, usage_part}
+use Rattle.vimsyn_cli.proofs.session.run.Goals as goal
+
+pub returns-in_default-clause-session : goal.returns-in_default-clause-session
+returns-in_default-clause-session g c =
+    usage_gives (g.F.Files.told c.args.files.now) (texts_of c.args.words.now)
+    (record { before = g.O.Sink.written c.args.out.now; after = g.O.Sink.written c.args.out.now; faults = g.O.Sink.faults c.args.out.now; faults_after = g.O.Sink.faults c.args.out.now })
+    (record { before = g.E.Sink.written c.args.err.now; after = g.E.Sink.written c.finish.new.sink; faults = g.E.Sink.faults c.args.err.now; faults_after = g.E.Sink.faults c.finish.new.sink })
+    (g.F.Files.faults c.args.files.now) (g.F.Files.faults c.args.files.now) c.finish.result (sym c.read.ensures ∙ c.in_default.is) (refl, refl) c.finish.ensures
+
+pub returns-in_default-clause-err_part : goal.returns-in_default-clause-err_part
+returns-in_default-clause-err_part g c =
+    usage_part (g.F.Files.told c.args.files.now) (texts_of c.args.words.now)
+    (record { before = g.E.Sink.written c.args.err.now; after = g.E.Sink.written c.finish.new.sink; faults = g.E.Sink.faults c.args.err.now; faults_after = g.E.Sink.faults c.finish.new.sink })
+    (g.F.Files.faults c.args.files.now) (g.F.Files.faults c.args.files.now) c.finish.result (sym c.read.ensures ∙ c.in_default.is) c.finish.ensures
+
+pub returns-clause-session : goal.returns-clause-session
+returns-clause-session g c =
+    session_gives (g.F.Files.told c.args.files.now) (texts_of c.args.words.now) c.in-Some.names c.print_files-painting.result _ _ (g.F.Files.faults c.args.files.now) (g.F.Files.faults c.print_files-painting.new.files) c.deliver.result
+    (sym c.read.ensures ∙ c.in-Some.is) c.print_files-painting.ensures.planned c.deliver.ensures c.print_files-painting.ensures.faults
+
+pub returns-clause-out_part : goal.returns-clause-out_part
+returns-clause-out_part g c =
+    session_out_part (g.F.Files.told c.args.files.now) (texts_of c.args.words.now) c.in-Some.names c.print_files-painting.result _ _ c.deliver.result
+    (sym c.read.ensures ∙ c.in-Some.is) c.print_files-painting.ensures.planned c.deliver.ensures
+
+pub returns-clause-err_part : goal.returns-clause-err_part
+returns-clause-err_part g c =
+    session_err_part (g.F.Files.told c.args.files.now) (texts_of c.args.words.now) c.in-Some.names c.print_files-painting.result _ _ (g.F.Files.faults c.args.files.now) (g.F.Files.faults c.print_files-painting.new.files) c.deliver.result
+    (sym c.read.ensures ∙ c.in-Some.is) c.print_files-painting.ensures.planned c.deliver.ensures c.print_files-painting.ensures.faults
+
+pub returns-clause-err_part_or_unread : goal.returns-clause-err_part_or_unread
+returns-clause-err_part_or_unread g c =
+    session_err_or_unread (g.F.Files.told c.args.files.now) (texts_of c.args.words.now) c.in-Some.names c.print_files-painting.result _ _ c.deliver.result
+    (sym c.read.ensures ∙ c.in-Some.is) c.print_files-painting.ensures.planned c.deliver.ensures

@@ -1,0 +1,80 @@
+-- What a run's clauses say of the bytes that the sinks got and of the status.
+use Rattle.std.specs.Prelude.{◌≡◌, ◌⊎◌, ℕ, Bool, true, false, List, Option, Result, Ok, Err}
+use Rattle.syn_base.specs.Causes.{Rose}
+use Rattle.syn_base.specs.Outside.{appended, AppendsPrefix}
+use Rattle.vimsyn_cli.specs.declared.fault.Cause.{Cause}
+use Rattle.vimsyn_cli.specs.declared.fault.Cause.TheVariants.{TooLong, Unread}
+use Rattle.vimsyn_cli.specs.declared.fault.Stop.{Stop}
+use Rattle.vimsyn_cli.specs.declared.fault.Stop.TheVariants.{Fault}
+use Rattle.vimsyn_cli.specs.declared.fault.Stop.TheVariants as stop
+use Rattle.vimsyn_cli.specs.declared.status.Status.{Status}
+use Rattle.vimsyn_cli.specs.declared.status.Status.TheVariants.{Done, Refused, Usage, ReadFault, WriteFault, Memory}
+use Rattle.vimsyn_cli.specs.declared.words.Role.{Role}
+use Rattle.vimsyn_cli.specs.Report.{fault_line, fault_status}
+use Rattle.vimsyn_cli.specs.Session.{Session}
+use Rattle.vimsyn_cli.specs.Words.{FileNames, name_of}
+
+-- both sinks got the bytes of the session, and the status is its
+pub record Gives (session : Session) (out_before out_after err_before err_after : Option (List ℕ)) (answer : Status) : Type 0 where
+  pub out : out_after ≡ appended out_before session.out
+  pub err : err_after ≡ appended err_before session.err
+  pub status : answer ≡ session.status
+
+-- the statuses that say that nothing failed
+abbrev pub is_unfailed : Status → Bool
+is_unfailed Done = true
+is_unfailed Refused = true
+is_unfailed Usage = true
+is_unfailed ReadFault = false
+is_unfailed WriteFault = false
+is_unfailed Memory = false
+
+-- `err` got the whole line of a fault of one of the files, and the answer is the status of that fault;
+-- it is of a file too long only where the count of such files rose
+pub record TellsFault (names : FileNames) (before after : Option (List ℕ)) (longs longs_after : ℕ) (answer : Status) : Type 0 where
+  pub role : Role
+  pub cause : Cause
+  pub line : after ≡ appended before (fault_line (name_of names role) cause)
+  pub status : answer ≡ fault_status cause
+  pub too_long : cause ≡ TooLong → Rose longs longs_after
+
+-- a part of the line for one of the files that couldn't be read
+pub record TellsUnread (names : FileNames) (before after : Option (List ℕ)) : Type 0 where
+  pub role : Role
+  pub part : AppendsPrefix before after (fault_line (name_of names role) Unread)
+
+-- a sink took all of the bytes, and the answer is the one planned
+pub record WroteAll (before after : Option (List ℕ)) (faults faults_after : ℕ) (bytes : List ℕ) (planned answer : Status) : Type 0 where
+  pub whole : after ≡ appended before bytes
+  pub unfailed : faults_after ≡ faults
+  pub status : answer ≡ planned
+
+-- a write failed after a part of the bytes
+pub record WroteSome (before after : Option (List ℕ)) (faults faults_after : ℕ) (bytes : List ℕ) (answer : Status) : Type 0 where
+  pub part : AppendsPrefix before after bytes
+  pub failed : Rose faults faults_after
+  pub status : answer ≡ WriteFault
+
+-- one sink before and after a call: what it holds, where told, and its count of faults
+pub record SinkChange : Type 0 where
+  pub before : Option (List ℕ)
+  pub after : Option (List ℕ)
+  pub faults : ℕ
+  pub faults_after : ℕ
+
+abbrev pub IsUntouched : SinkChange → Type 0
+IsUntouched sink = (sink.after ≡ sink.before) × (sink.faults_after ≡ sink.faults)
+
+abbrev pub Writes : SinkChange → List ℕ → Status → Status → Type 0
+Writes sink bytes planned answer =
+    WroteAll sink.before sink.after sink.faults sink.faults_after bytes planned answer
+    ⊎ WroteSome sink.before sink.after sink.faults sink.faults_after bytes answer
+
+-- a painting goes to `out`, the line of a fault to `err`, and want of memory is answered in silence
+abbrev pub Delivers : FileNames → Result (List ℕ) Stop → SinkChange → SinkChange → Status → Type 0
+Delivers names (Ok bytes) out err answer = IsUntouched err × Writes out bytes Done answer
+Delivers names (Err (Fault fault)) out err answer =
+    IsUntouched out
+    × (Writes err (fault_line (name_of names fault.role) fault.cause) (fault_status fault.cause) answer
+    ⊎ (IsUntouched err × (answer ≡ Memory)))
+Delivers names (Err stop.Memory) out err answer = IsUntouched out × IsUntouched err × (answer ≡ Memory)

@@ -1,0 +1,9 @@
+pub mod Answers
+pub mod LiteralSyntax
+pub mod Painting
+pub mod Report
+pub mod Session
+pub mod SpanText
+pub mod Stop
+pub mod TextFault
+pub mod Words

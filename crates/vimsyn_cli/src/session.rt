@@ -1,0 +1,121 @@
+//! The run of the program: words, syntax file, text, painting, in this order.
+//!
+//! Nothing is printed before the painting is whole. So a run writes either the painting on `out` or
+//! one line on `err`.
+ghost use Rattle.std.specs.Prelude.{◌≡◌, ◌≢◌, ◌⊎◌, None, IfSome, true};
+ghost use Rattle.syn_base.specs.Causes.{Rose};
+ghost use Rattle.syn_base.specs.Outside.{AppendsPrefix};
+ghost use Rattle.vimsyn_cli.specs.Answers.{Delivers, Gives, TellsFault, TellsUnread, Writes, is_unfailed};
+ghost use Rattle.vimsyn_cli.specs.Session.{session};
+ghost use Rattle.vimsyn_cli.specs.Words.{names_of, texts_of};
+
+use crate::Status;
+use crate::fault::Stop;
+use crate::painting::print_files;
+use crate::words::Names;
+use std::alloc::Global;
+use syn_base::{Files, Ledger, List, Sink, Source, Steps, put_all};
+
+/// The line for words that aren't in the table.
+const USAGE: &[u8; 58] = b"usage: vimsyn check|spans|html|edit|large [options] names\n";
+
+/// Runs the program on its words, which are those behind its name.
+///
+/// Where the files tell their bytes, what is written and the status are those of the session, a
+/// definition that paints the whole text anew. A read fault comes only where a file couldn't be read
+/// or is absent, a write fault only where a write failed. Want of memory may be answered wherever the
+/// words are in the table. Nothing is taken from `script`, and no line is counted in `steps`.
+pub fn run<F: Files, I: Source, O: Sink, E: Sink, L: Ledger>(
+    alloc: Global,
+    words: &[String],
+    files: &mut F,
+    script: &mut I,
+    out: &mut O,
+    err: &mut E,
+    steps: &mut Steps<L>,
+) -> Status
+    // The rules run anew: where the files tell and nothing fails, all is as in the session.
+    ensures session { IfSome (F.told files.old) (λ known.
+        ¬ Rose (F.faults files.old) (F.faults files.new) → ¬ Rose (O.faults out.old) (O.faults out.new)
+        → ¬ Rose (E.faults err.old) (E.faults err.new) → result ≢ Status.Memory
+        → Gives (session (texts_of words.now) known)
+        (O.written out.old) (O.written out.new) (E.written err.old) (E.written err.new) result) }
+
+    // Whatever the answer, the sinks got a part of the session's bytes from their front, but that `err`
+    // may have got the line for a file that couldn't be read.
+    ensures out_part { IfSome (F.told files.old) (λ known.
+        AppendsPrefix (O.written out.old) (O.written out.new) (session (texts_of words.now) known).out) }
+    ensures err_part { IfSome (F.told files.old) (λ known. ¬ Rose (F.faults files.old) (F.faults files.new)
+        → AppendsPrefix (E.written err.old) (E.written err.new) (session (texts_of words.now) known).err) }
+    ensures err_part_or_unread { IfSome (F.told files.old) (λ known.
+        AppendsPrefix (E.written err.old) (E.written err.new) (session (texts_of words.now) known).err
+        ⊎ IfSome (names_of (texts_of words.now)) (λ names. TellsUnread names (E.written err.old) (E.written err.new))) }
+
+    // Each answer and its cause.
+    ensures usage { result ≡ Status.Usage → names_of (texts_of words.now) ≡ None }
+    ensures faulty_words { names_of (texts_of words.now) ≡ None → (result ≡ Status.Usage) ⊎ (result ≡ Status.WriteFault) }
+    ensures refused { result ≡ Status.Refused → IfSome (names_of (texts_of words.now)) (λ names.
+        TellsFault names (E.written err.old) (E.written err.new) (F.longs files.old) (F.longs files.new) result) }
+    ensures read_fault { result ≡ Status.ReadFault
+        → Rose (F.faults files.old) (F.faults files.new) ⊎ Rose (F.misses files.old) (F.misses files.new) }
+    ensures read_fault_line { result ≡ Status.ReadFault → IfSome (names_of (texts_of words.now)) (λ names.
+        TellsFault names (E.written err.old) (E.written err.new) (F.longs files.old) (F.longs files.new) result) }
+    ensures write_fault { result ≡ Status.WriteFault
+        → Rose (O.faults out.old) (O.faults out.new) ⊎ Rose (E.faults err.old) (E.faults err.new) }
+
+    // What stays as it was.
+    ensures files_unfailed { is_unfailed result ≡ true → F.faults files.new ≡ F.faults files.old }
+    ensures out_unfailed { is_unfailed result ≡ true → O.faults out.new ≡ O.faults out.old }
+    ensures err_unfailed { is_unfailed result ≡ true → E.faults err.new ≡ E.faults err.old }
+    ensures done_misses { result ≡ Status.Done → F.misses files.new ≡ F.misses files.old }
+    ensures done_longs { result ≡ Status.Done → F.longs files.new ≡ F.longs files.old }
+    ensures files_kept { F.told files.new ≡ F.told files.old }
+    ensures script_left { I.left script.new ≡ I.left script.old }
+    ensures script_unfailed { I.faults script.new ≡ I.faults script.old }
+    ensures steps_kept { steps.new ≡ steps.old }
+{
+    let Some(names) = Names::read(words) else {
+        return finish(err, USAGE, Status::Usage);
+    };
+    let painting = print_files(alloc, files, &names);
+    deliver(alloc, &names, painting, out, err)
+}
+
+/// Writes a painting to `out`, or the line of a fault to `err`.
+fn deliver<O: Sink, E: Sink>(
+    alloc: Global,
+    names: &Names<'_>,
+    painting: Result<List<u8>, Stop>,
+    out: &mut O,
+    err: &mut E,
+) -> Status
+    ensures { Delivers names.now painting
+        (record { before = O.written out.old; after = O.written out.new; faults = O.faults out.old; faults_after = O.faults out.new })
+        (record { before = E.written err.old; after = E.written err.new; faults = E.faults err.old; faults_after = E.faults err.new })
+        result }
+{
+    match painting {
+        Ok(bytes) => finish(out, bytes.as_slice(), Status::Done),
+        Err(Stop::Fault(fault)) => match fault.line(alloc, names) {
+            Ok(line) => finish(err, line.as_slice(), fault.status()),
+            Err(_) => Status::Memory,
+        },
+        Err(Stop::Memory) => Status::Memory,
+    }
+}
+
+/// Writes the bytes, and answers the status, or that a write failed.
+fn finish<S: Sink>(sink: &mut S, bytes: &[u8], status: Status) -> Status
+    ensures { Writes (record {
+      before = S.written sink.old;
+      after = S.written sink.new;
+      faults = S.faults sink.old;
+      faults_after = S.faults sink.new;
+    }) bytes.now status result }
+{
+    if put_all(sink, bytes) {
+        status
+    } else {
+        Status::WriteFault
+    }
+}
