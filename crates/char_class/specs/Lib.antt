@@ -1,0 +1,6 @@
+pub mod Bits
+pub mod CharSet
+pub mod Classes
+pub mod Folds
+pub mod OptionValue
+pub mod SoFar
