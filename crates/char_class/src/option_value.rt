@@ -2,7 +2,7 @@
 ghost use Rattle.std.specs.Prelude.{◌≡◌, ◌==◌, ◌&&◌, ◌+◌, ◌-◌, ◌<◌, ◌≤◌, ◌^◌, Bool, true, false, not, Some, None, Err, OnOk, IfErr, ℕ, List, [], ◌∷◌, if◌then◌else◌};
 ghost use Rattle.std.specs.Str.{chars};
 ghost use Rattle.char_class.specs.Classes.{is_digit};
-ghost use Rattle.char_class.specs.OptionValue.{codes_between, is_named, set_of, valid_code};
+ghost use Rattle.char_class.specs.OptionValue.{codes_between, ends_part, is_named, set_of, valid_code};
 ghost use Rattle.char_class.specs.SoFar.{bounds_of, code_with, is_nothing, is_untouched, longer_code, longer_part, members_with, nothing_read, part_with, place_in, resumed};
 
 use crate::CharSet;
@@ -156,6 +156,13 @@ impl PartSoFar {
         self.last.is_none() && self.first.is_nothing()
     }
 
+    /// Whether `c`, where it comes next, stands behind the part: a comma does that isn't the part's own.
+    fn ends_at(self, c: char) -> bool
+        ensures { result ≡ ends_part (place_in self) c }
+    {
+        c == ',' && !self.is_untouched()
+    }
+
     /// With one more character, where a part can go on so.
     fn with(self, c: char) -> Option<PartSoFar>
         ensures { result ≡ longer_part self c }
@@ -250,7 +257,7 @@ impl Reader {
         ensures next { OnOk result (self.new.at ≡ self.old.at + 1) }
         ensures bad { IfErr result (λ bad. (cs : List ℕ) → resumed self.old (c ∷ cs) ≡ Err bad) }
     {
-        if c == ',' && !self.part.is_untouched() {
+        if self.part.ends_at(c) {
             let part = self.part.part().ok_or(BadOption { at: self.start })?;
             self.set.apply(part);
             self.part = PartSoFar::new();
