@@ -1,2 +1,5 @@
-pub mod SetLaws
+mod KnownCharacters
+mod KnownValues
 pub mod ReadingLaws
+pub mod SetLaws
+pub mod UsualValues

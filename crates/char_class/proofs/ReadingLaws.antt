@@ -1,18 +1,15 @@
 -- Laws of reading a value character by character: what stands for the characters read so far means
 -- with each further one what it meant before.
-use Rattle.std.proofs.Common.{◌≡◌, ◌≢◌, ◌⊎◌, inl, inr, ℕ, zero, suc, ◌+◌, ◌-◌, ◌*◌, ◌<◌, ◌≤◌, Bool, true, false, cond, ◌&&◌, eqb, List, [], ◌∷◌, length, get_or, drop, refl, sym, ap, ◌∙◌, arith, min, add-zero}
+use Rattle.std.proofs.Common.{◌≡◌, inl, inr, ℕ, suc, ◌+◌, ◌-◌, ◌*◌, ◌<◌, ◌≤◌, Bool, true, false, eqb, List, [], ◌∷◌, length, get_or, drop, refl, sym, ap, ◌∙◌, arith, add-zero}
 use Rattle.std.specs.Prelude.{Option, Some, None, MatchOption, Result, Ok, Err}
-use Rattle.std.specs.List.{list_all}
 use Rattle.std.specs.Option.{option_map}
 use Rattle.std.proofs.lemmas.List.{at_drop_more}
 use Rattle.std.proofs.lemmas.Bool.{cases_Bool, cases_lt}
 use Rattle.std.proofs.lemmas.Bool.Decides.{nat_tests}
 use Rattle.char_class.specs.Classes.{is_digit}
-use Rattle.char_class.specs.Folds.{lies_in}
-use Rattle.char_class.specs.OptionValue.{Where, set_of, number_from, valid_code, number_alone, character_alone, code_of, before_dash, behind_dash, codes_between, range_to, range_of, members_of, members_of_one, part_of, next_place, ends_part, pieces_from, parts_of, or_bad, with_first, with_part, set_with, start, behind_caret, inside}
-use Rattle.char_class.specs.SoFar.{resumed, nothing_read, code_with, range_with, members_with, members_of_character, part_with, as_part, place_in, longer_number, longer_code, longer_part, longer_first, is_nothing, is_untouched}
+use Rattle.char_class.specs.OptionValue.{Where, set_of, number_from, valid_code, code_of, before_dash, behind_dash, codes_between, range_to, members_of, next_place, ends_part, pieces_from, parts_of, or_bad, with_first, with_part, set_with}
+use Rattle.char_class.specs.SoFar.{resumed, nothing_read, code_with, range_with, members_with, part_with, as_part, place_in, longer_number, longer_code, longer_part}
 use Rattle.char_class.specs.declared.option_value.Members.{Members}
-use Rattle.char_class.specs.declared.option_value.Members.TheVariants.{Letters, Codes}
 use Rattle.char_class.specs.declared.option_value.Part.{Part}
 use Rattle.char_class.specs.declared.option_value.CodeSoFar.{CodeSoFar}
 use Rattle.char_class.specs.declared.option_value.CodeSoFar.TheVariants.{Nothing, Number, Character}
@@ -46,8 +43,8 @@ valid_code-longer n c cs =
     elim (cases_lt 65535 (n * 10 + (c - 48))) [
       | inl above ↦ no_code_from (longer_number n c) cs (omega arith) ∙ sym (no_code_from (n * 10 + (c - 48)) cs (omega arith))
       | inr within ↦
-        let same : longer_number n c ≡ n * 10 + (c - 48) = omega arith in
-        ap (λ m. valid_code (number_from m cs)) same
+          let same : longer_number n c ≡ n * 10 + (c - 48) = omega arith in
+          ap (λ m. valid_code (number_from m cs)) same
     ]
 
 -- ---- codes
@@ -84,7 +81,7 @@ range_after-longer : (code : CodeSoFar) (c : ℕ) (cs : List ℕ) → eqb c 45 �
 range_after-longer code c cs e =
     rw (e, ← code_after-longer code c (before_dash cs))
     (elim (longer_code code c) as (λ o. range_after o cs ≡ range_to (code_after o (before_dash cs)) (behind_dash cs))
-      [ None ↦ sym (range_to-none (behind_dash cs)) | Some next ↦ refl ])
+    [ None ↦ sym (range_to-none (behind_dash cs)) | Some next ↦ refl ])
 
 range_with-dash : (code : CodeSoFar) (c : ℕ) (cs : List ℕ) → eqb c 45 ≡ true → range_with code (c ∷ cs) ≡ codes_between (code_with code []) (code_of cs)
 range_with-dash code c cs e = rw e refl
@@ -216,7 +213,7 @@ resumed-longer reader c cs part next goes_on longer e =
     let pieces = pieces_from (next_place (place_in reader.part) c) cs in
     let place : reader.at + 1 + length pieces.first + 1 ≡ reader.at + suc (length pieces.first) + 1 = omega arith in
     rw (e, goes_on) (resumed_at-place reader part (place_in part) (next_place (place_in reader.part) c) cs law.1
-      ∙ rw (law.0 pieces.first, place) refl)
+    ∙ rw (law.0 pieces.first, place) refl)
 
 pub resumed-bad : (reader : Reader) (c : ℕ) (cs : List ℕ) → is_end reader.part c ≡ false → longer_part reader.part c ≡ None → resumed reader (c ∷ cs) ≡ Err (record { at = reader.start })
 resumed-bad reader c cs goes_on longer =

@@ -1,11 +1,11 @@
 -- Laws of sets: a set by its test, and one bit of its words that is set or cleared.
-use Rattle.std.proofs.Common.{◌≡◌, ◌≢◌, ◌⊎◌, inl, inr, ℕ, zero, suc, ◌+◌, ◌*◌, ◌/◌, ◌%◌, ◌^◌, ◌<◌, ◌≤◌, Bool, true, false, cond, ◌&&◌, ◌||◌, not, eqb, ltb, List, [], ◌∷◌, length, get_or, set, refl, sym, ap, ◌∙◌, arith, eq-eqb, get_or-set_same, get_or-set_other}
-use Rattle.std.specs.Prelude.{filter, slice_index, slice_set, bit_and, bit_or}
+use Rattle.std.proofs.Common.{◌≡◌, ◌≢◌, inl, inr, ℕ, zero, suc, ◌+◌, ◌*◌, ◌/◌, ◌%◌, ◌^◌, ◌<◌, ◌≤◌, Bool, true, false, cond, ◌&&◌, not, eqb, ltb, List, [], ◌∷◌, length, get_or, set, refl, sym, ap, ◌∙◌, arith, eq-eqb, get_or-set_same, get_or-set_other}
+use Rattle.std.specs.Prelude.{filter, bit_and, bit_or}
 use Rattle.std.specs.List.{list_any, range_with_len}
 use Rattle.std.specs.Int.{bit_at, bit_not, w64}
-use Rattle.std.proofs.lemmas.Bool.{cases_Bool, cases_eq, cases_lt, lt-ltb, cond_both, ne_eqb, eqb-true}
+use Rattle.std.proofs.lemmas.Bool.{cases_eq, cases_lt, lt-ltb, ne_eqb}
 use Rattle.std.proofs.lemmas.Bool.Decides.{nat_tests}
-use Rattle.std.proofs.lemmas.Nat.Bits.{bit_at-zero, bit_at_set_same, bit_at_set_other, bit_at_clear_same, bit_at_clear_other}
+use Rattle.std.proofs.lemmas.Nat.Bits.{bit_at_set_same, bit_at_set_other, bit_at_clear_same, bit_at_clear_other}
 use Rattle.char_class.specs.CharSet.{low_codes, set_where, is_member}
 use Rattle.char_class.specs.Bits.{has_bit, members_in}
 use Rattle.char_class.specs.OptionValue.{is_named, with_part}
@@ -23,23 +23,23 @@ before_all test c a (suc n) before =
     let rest = before_all test c (a + 1) n (omega arith) in
     let here : eqb a c ≡ false = ne_eqb a c (λ e. omega arith) in
     elim (test a) as (λ t. list_any (λ k. eqb k c) (cond t (a ∷ filter test (range_with_len (a + 1) n)) (filter test (range_with_len (a + 1) n))) ≡ false)
-      [ true ↦ rw here rest | false ↦ rest ]
+    [ true ↦ rw here rest | false ↦ rest ]
 
 any_where : (test : ℕ → Bool) (c a n : ℕ) → a ≤ c → c < a + n → list_any (λ k. eqb k c) (filter test (range_with_len a n)) ≡ test c
 any_where test c a zero low high = absurd (omega arith)
 any_where test c a (suc n) low high =
     let rest = filter test (range_with_len (a + 1) n) in
     let first : (t : Bool) → test a ≡ t → c ≡ a → list_any (λ k. eqb k c) (cond t (a ∷ rest) rest) ≡ test c = λ t was e.
-      let is : eqb a c ≡ true = eq-eqb a c (sym e) in
-      let none = before_all test c (a + 1) n (omega arith) in
-      let same : t ≡ test c = sym was ∙ ap test (sym e) in
-      elim t as (λ u. u ≡ test c → list_any (λ k. eqb k c) (cond u (a ∷ rest) rest) ≡ test c)
-        [ true ↦ λ h. rw is h | false ↦ λ h. none ∙ h ] same in
+    let is : eqb a c ≡ true = eq-eqb a c (sym e) in
+    let none = before_all test c (a + 1) n (omega arith) in
+    let same : t ≡ test c = sym was ∙ ap test (sym e) in
+    elim t as (λ u. u ≡ test c → list_any (λ k. eqb k c) (cond u (a ∷ rest) rest) ≡ test c)
+    [ true ↦ λ h. rw is h | false ↦ λ h. none ∙ h ] same in
     let later : (t : Bool) → (c ≡ a → ⊥) → list_any (λ k. eqb k c) (cond t (a ∷ rest) rest) ≡ test c = λ t ne.
-      let isnt : eqb a c ≡ false = ne_eqb a c (λ e. ne (sym e)) in
-      let found = any_where test c (a + 1) n (omega arith) (omega arith) in
-      elim t as (λ u. list_any (λ k. eqb k c) (cond u (a ∷ rest) rest) ≡ test c)
-        [ true ↦ rw isnt found | false ↦ found ] in
+    let isnt : eqb a c ≡ false = ne_eqb a c (λ e. ne (sym e)) in
+    let found = any_where test c (a + 1) n (omega arith) (omega arith) in
+    elim t as (λ u. list_any (λ k. eqb k c) (cond u (a ∷ rest) rest) ≡ test c)
+    [ true ↦ rw isnt found | false ↦ found ] in
     elim (cases_eq c a) [ inl e ↦ first (test a) refl e | inr ne ↦ later (test a) ne ]
 
 pub is_member-set_where : (test : ℕ → Bool) (c : ℕ) → c < 256 → is_member (set_where test) c ≡ test c
@@ -74,30 +74,30 @@ unfolding has_bit
 has_bit-set words k c w b within here others =
     elim (cases_eq c k) [
       | inl e ↦
-        let yes : eqb c k ≡ true = eq-eqb c k e in
-        rw (yes, e, get_or-set_same words (k / 64) w 0 within) here
+          let yes : eqb c k ≡ true = eq-eqb c k e in
+          rw (yes, e, get_or-set_same words (k / 64) w 0 within) here
       | inr ne ↦
-        let no : eqb c k ≡ false = ne_eqb c k ne in
-        rw no (elim (cases_eq (c / 64) (k / 64)) [
-          | inl same ↦
-            let bit_ne : c % 64 ≢ k % 64 = λ e. ne (omega arith) in
-            let same_bit = others (c % 64) (omega arith) bit_ne in
-            rw (same, get_or-set_same words (k / 64) w 0 within) (ap (λ n. eqb n 1) same_bit)
-          | inr other ↦ rw (get_or-set_other words (k / 64) (c / 64) w 0 other) refl
-        ])
+          let no : eqb c k ≡ false = ne_eqb c k ne in
+          rw no (elim (cases_eq (c / 64) (k / 64)) [
+            | inl same ↦
+                let bit_ne : c % 64 ≢ k % 64 = λ e. ne (omega arith) in
+                let same_bit = others (c % 64) (omega arith) bit_ne in
+                rw (same, get_or-set_same words (k / 64) w 0 within) (ap (λ n. eqb n 1) same_bit)
+            | inr other ↦ rw (get_or-set_other words (k / 64) (c / 64) w 0 other) refl
+          ])
     ]
 
 pub has_bit-put : (words : List ℕ) (k c : ℕ) → k / 64 < length words → has_bit (set words (k / 64) (bit_or (get_or words (k / 64) 0) (1 * 2 ^ (k % 64) % 2 ^ 64))) c ≡ cond (eqb c k) true (has_bit words c)
 has_bit-put words k c within =
     let bit : k % 64 < 64 = omega arith in
     has_bit-set words k c _ true within (eq-eqb _ _ (bit_at_set_same w64 (get_or words (k / 64) 0) (k % 64) bit))
-      (λ i under ne. bit_at_set_other w64 (get_or words (k / 64) 0) (k % 64) bit i ne)
+    (λ i under ne. bit_at_set_other w64 (get_or words (k / 64) 0) (k % 64) bit i ne)
 
 pub has_bit-cut : (words : List ℕ) (k c : ℕ) → k / 64 < length words → has_bit (set words (k / 64) (bit_and (get_or words (k / 64) 0) (bit_not w64 (1 * 2 ^ (k % 64) % 2 ^ 64)))) c ≡ cond (eqb c k) false (has_bit words c)
 has_bit-cut words k c within =
     let bit : k % 64 < 64 = omega arith in
     has_bit-set words k c _ false within (ap (λ n. eqb n 1) (bit_at_clear_same w64 (get_or words (k / 64) 0) (k % 64) bit))
-      (λ i under ne. bit_at_clear_other w64 (get_or words (k / 64) 0) (k % 64) bit i under ne)
+    (λ i under ne. bit_at_clear_other w64 (get_or words (k / 64) 0) (k % 64) bit i under ne)
 
 pub is_member-members_in : (words : List ℕ) (c : ℕ) → c < 256 → is_member (members_in words) c ≡ has_bit words c
 unfolding members_in
@@ -137,12 +137,12 @@ pub members_in-applied : (old words : List ℕ) (part : Part) (code : ℕ) → (
 unfolding members_in with_part
 members_in-applied old words part code changed done =
     set_where-same _ _ (λ c within.
-      let above : code ≤ c → is_named part.members c ≡ false = λ h. is_named-above part.members c within (omega arith) in
-      let member = is_member-members_in old c within in
-      changed c ∙ rw member (elim (cases_lt c code) [
-        | inl below ↦ cond-and_true (is_named part.members c) (ltb c code) _ _ (lt-ltb c code below)
-        | inr from ↦ cond-and_false (is_named part.members c) (ltb c code) _ _ (above from)
-      ]))
+    let above : code ≤ c → is_named part.members c ≡ false = λ h. is_named-above part.members c within (omega arith) in
+    let member = is_member-members_in old c within in
+    changed c ∙ rw member (elim (cases_lt c code) [
+      | inl below ↦ cond-and_true (is_named part.members c) (ltb c code) _ _ (lt-ltb c code below)
+      | inr from ↦ cond-and_false (is_named part.members c) (ltb c code) _ _ (above from)
+    ]))
 
 -- one more code is put in or taken out
 pub one_more_code : (named out old : Bool) (c code : ℕ) → cond (named && eqb c code) out (cond (named && ltb c code) out old) ≡ cond (named && ltb c (code + 1)) out old

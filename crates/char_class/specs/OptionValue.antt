@@ -7,7 +7,7 @@
 --     ,        the comma, which is a part of its own alone
 --     ^a-z     a part with `^` before it is taken out
 --     ^        the character `^`, at the end of the value alone
-use Rattle.std.specs.Prelude.{ℕ, ◌==◌, ◌+◌, ◌-◌, ◌*◌, Bool, true, false, ◌&&◌, not, nat_le, List, [], ◌∷◌, length, fold, if◌then◌else◌, Option, Some, None, Result, Ok, Err}
+use Rattle.std.specs.Prelude.{ℕ, ◌==◌, ◌+◌, ◌-◌, ◌*◌, Bool, true, false, not, nat_le, List, [], ◌∷◌, length, fold, if◌then◌else◌, Option, Some, None, Result, Ok, Err}
 use Rattle.std.specs.List.{list_all}
 use Rattle.std.specs.Option.{option_map}
 use Rattle.unicode.specs.Binary.{is_alphabetic}

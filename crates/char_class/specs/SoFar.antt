@@ -1,6 +1,6 @@
 -- What is read of an option's value from left to right, a character at a time: what stands for the
 -- characters of a part that were read, and what each further one makes of it.
-use Rattle.std.specs.Prelude.{ℕ, ◌==◌, ◌+◌, ◌-◌, ◌*◌, Bool, true, false, ◌&&◌, not, min, List, [], ◌∷◌, length, if◌then◌else◌, Option, Some, None, Result, Ok, Err}
+use Rattle.std.specs.Prelude.{ℕ, ◌==◌, ◌+◌, ◌-◌, ◌*◌, Bool, true, false, ◌&&◌, not, min, List, [], ◌∷◌, length, if◌then◌else◌, Option, Some, None, Result}
 use Rattle.std.specs.Option.{option_map}
 use Rattle.char_class.specs.Classes.{is_digit}
 use Rattle.char_class.specs.OptionValue.{Where, start, behind_caret, inside, number_alone, character_alone, code_of, before_dash, behind_dash, codes_between, range_to, members_of, part_of, valid_code, part_behind_caret, pieces_from, parts_of, or_bad, set_with}

@@ -17,11 +17,7 @@ pub fn fold(c: char) -> char
 pub fn same(c: char, d: char, ignore: bool) -> bool
     ensures { result ≡ is_same c d ignore }
 {
-    if ignore {
-        fold(c) == fold(d)
-    } else {
-        c == d
-    }
+    if ignore { fold(c) == fold(d) } else { c == d }
 }
 
 /// Whether the range of a collection (`/[]`) from `low` to `high`, both included, holds `c`, where

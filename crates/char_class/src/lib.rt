@@ -11,6 +11,8 @@ mod classes;
 mod folds;
 mod option_value;
 mod sets;
+#[cfg(test)]
+mod tests;
 
 pub use char_set::CharSet;
 pub use classes::class_has;

@@ -1,4 +1,4 @@
-use Rattle.std.proofs.Common.{◌≡◌, ◌<◌, arith}
+use Rattle.std.proofs.Common.{◌<◌, arith}
 use Rattle.char_class.proofs.SetLaws.{has_bit-put_at, has_bit-cut_at}
 use Rattle.char_class.proofs.char_set.put.Goals as goal
 use Rattle.char_class.proofs.char_set.put.Goals.{then-member, else-member}

@@ -1,5 +1,4 @@
-use Rattle.std.proofs.Common.{◌≡◌, ℕ, ◌+◌, ◌<◌, ◌&&◌, not, cond, eqb, ap, ◌∙◌, arith}
-use Rattle.std.proofs.lemmas.Bool.Decides.{nat_tests}
+use Rattle.std.proofs.Common.{ℕ, ◌+◌, ◌<◌, ◌&&◌, not, cond, eqb, ap, ◌∙◌, arith}
 use Rattle.char_class.specs.SoFar.{bounds_of}
 use Rattle.char_class.specs.Bits.{has_bit}
 use Rattle.char_class.specs.OptionValue.{is_named}
@@ -18,6 +17,6 @@ returns-2 c =
     let code = c.loop-code.code in
     let done : (bounds_of part.members).1 < code + 1 = rw (← c.bounds-low.ensures) (omega arith) in
     let changed = λ (k : ℕ). c.apply_to.ensures k
-      ∙ ap (λ b. cond (is_named part.members k && eqb k code) (not part.taken_out) b) (c.loop-code.invariant k)
-      ∙ one_more_code (is_named part.members k) (not part.taken_out) (has_bit old k) k code in
+    ∙ ap (λ b. cond (is_named part.members k && eqb k code) (not part.taken_out) b) (c.loop-code.invariant k)
+    ∙ one_more_code (is_named part.members k) (not part.taken_out) (has_bit old k) k code in
     rw (← c.self.view_is) (members_in-applied old _ part (code + 1) changed done)

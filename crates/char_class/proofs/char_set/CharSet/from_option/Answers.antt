@@ -1,4 +1,4 @@
-use Rattle.std.proofs.Common.{◌≡◌, ℕ, ◌+◌, ◌≤◌, ◌++◌, [], ◌∷◌, length, drop, sym, ap, ◌∙◌, arith}
+use Rattle.std.proofs.Common.{◌≡◌, ◌+◌, ◌≤◌, ◌∷◌, length, drop, sym, ap, ◌∙◌, arith}
 use Rattle.std.specs.Str.{chars}
 use Rattle.std.proofs.lemmas.Iterator.{YieldsList-from_chars}
 use Rattle.std.proofs.lemmas.Iterator.Consumers.{YieldsList-turn, YieldsList-end}
@@ -17,8 +17,8 @@ loop-c-preserved c =
     record {
       at = next ∙ sym (length_push c.loop-c.yielded c.in-Some.c);
       rest = c.in_ok-take.ensures.ok (drop c.take.new.self.at text)
-        ∙ ap (λ n. resumed c.loop-c.reader (c.in-Some.c ∷ drop n text)) next
-        ∙ sym here ∙ c.loop-c.invariant.rest;
+          ∙ ap (λ n. resumed c.loop-c.reader (c.in-Some.c ∷ drop n text)) next
+          ∙ sym here ∙ c.loop-c.invariant.rest;
     }
 
 pub returns-in_err-take : goal.returns-in_err-take

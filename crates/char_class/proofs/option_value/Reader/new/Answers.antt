@@ -1,4 +1,3 @@
-use Rattle.std.proofs.Common.{refl}
 use Rattle.char_class.proofs.ReadingLaws.{resumed-start}
 use Rattle.char_class.proofs.option_value.Reader.new.Goals as goal
 
