@@ -64,6 +64,9 @@ character_too_great = refl
 behind_a_wide_character : reading_of (233 ∷ 44 ∷ 322 ∷ []) ≡ bad_at 2
 behind_a_wide_character = refl
 
+character_zero : reading_of (0 ∷ []) ≡ bad_at 0
+character_zero = refl
+
 backwards : reading_of (codes "z-a") ≡ bad_at 0
 backwards = refl
 

@@ -1,6 +1,7 @@
-pub mod Bits
+pub mod OptionValue
 pub mod CharSet
 pub mod Classes
 pub mod Folds
-pub mod OptionValue
+-- below here, what the code alone cites
 pub mod SoFar
+pub mod Bits

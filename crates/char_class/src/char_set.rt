@@ -1,10 +1,12 @@
 //! A set of characters, as a bit set of its members below 256.
 ghost use Rattle.std.specs.Prelude.{◌≡◌, ◌==◌, ◌&&◌, ℕ, not, [], if◌then◌else◌};
+ghost use Rattle.std.specs.Str.{chars};
 ghost use Rattle.char_class.specs.Bits.{has_bit};
 ghost use Rattle.char_class.specs.CharSet.{is_member, is_numeric, set_has, set_where};
-ghost use Rattle.char_class.specs.OptionValue.{is_named, with_part};
+ghost use Rattle.char_class.specs.OptionValue.{is_named, set_of, with_part};
 
-use crate::option_value::Part;
+use crate::BadOption;
+use crate::option_value::{Part, Reader};
 use std::marker::Model;
 use unicode::properties::{GeneralCategory, GeneralCategoryGroup, is_alphabetic};
 
@@ -25,6 +27,22 @@ impl Model for CharSet {
 }
 
 impl CharSet {
+    /// The set of an option's value (`'isfname'`): parts with commas between, taken from left to
+    /// right. `BadOption` tells the first part that has no reading.
+    ///
+    /// This profile's are: the letters of `@` are the alphabetic codes; a number is a code, so `64` is
+    /// the character `@`; a comma is a part of its own alone, never an end of a range; a blank is a
+    /// character like any other; an empty value has no reading.
+    pub fn from_option(text: &str) -> Result<CharSet, BadOption>
+        ensures { result ≡ set_of (chars text.now) }
+    {
+        let mut reader = Reader::new();
+        for c in text.chars() {
+            reader.take(c)?;
+        }
+        reader.end()
+    }
+
     /// Whether the set has `c`. Which characters it has from 256 on is this profile's.
     pub fn has(&self, c: char) -> bool
         ensures { result ≡ set_has self.now c }

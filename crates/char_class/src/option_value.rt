@@ -1,6 +1,8 @@
 //! The value of an option such as 'iskeyword' (`'isfname'`), read a character at a time.
-ghost use Rattle.std.specs.Prelude.{◌≡◌, ◌==◌, ◌&&◌, ◌+◌, ◌-◌, ◌<◌, ◌≤◌, ◌^◌, Bool, true, false, not, Some, None, Err, OnOk, IfErr, ℕ, List, [], ◌∷◌, if◌then◌else◌};
-ghost use Rattle.std.specs.Str.{chars};
+//!
+//! A reader looks at each character once and keeps no text: what was read of a part is at most two
+//! codes.
+ghost use Rattle.std.specs.Prelude.{◌≡◌, ◌+◌, ◌-◌, ◌<◌, ◌^◌, ℕ, List, [], ◌∷◌, if◌then◌else◌, Some, Err, OnOk, IfErr};
 ghost use Rattle.char_class.specs.Classes.{is_digit};
 ghost use Rattle.char_class.specs.OptionValue.{codes_between, ends_part, is_named, set_of, valid_code};
 ghost use Rattle.char_class.specs.SoFar.{bounds_of, code_with, is_nothing, is_untouched, longer_code, longer_part, members_with, nothing_read, part_with, place_in, resumed};
@@ -156,7 +158,7 @@ impl PartSoFar {
         self.last.is_none() && self.first.is_nothing()
     }
 
-    /// Whether `c`, where it comes next, stands behind the part: a comma does that isn't the part's own.
+    /// Whether `c`, where it comes next, is a comma that ends the part.
     fn ends_at(self, c: char) -> bool
         ensures { result ≡ ends_part (place_in self) c }
     {
@@ -230,7 +232,7 @@ fn codes_between(first: u8, last: u8) -> Option<Members>
 /// What was read of a value: the set of the parts before, and the part that began at `start`, of
 /// which the character at `at` comes next.
 #[derive(Drop)]
-struct Reader {
+pub(crate) struct Reader {
     set: CharSet,
     part: PartSoFar,
     start: usize,
@@ -238,7 +240,7 @@ struct Reader {
 }
 
 impl Reader {
-    fn new() -> Reader
+    pub(crate) fn new() -> Reader
         ensures fresh { (cs : List ℕ) → resumed result cs ≡ set_of cs }
         ensures front { result.at ≡ 0 }
     {
@@ -251,7 +253,7 @@ impl Reader {
     }
 
     /// Reads one more character.
-    fn take(&mut self, c: char) -> Result<(), BadOption>
+    pub(crate) fn take(&mut self, c: char) -> Result<(), BadOption>
         requires { self.old.at + 1 < 2 ^ 64 }
         ensures ok { OnOk result ((cs : List ℕ) → resumed self.new cs ≡ resumed self.old (c ∷ cs)) }
         ensures next { OnOk result (self.new.at ≡ self.old.at + 1) }
@@ -270,28 +272,12 @@ impl Reader {
     }
 
     /// The set, where nothing follows.
-    fn end(self) -> Result<CharSet, BadOption>
+    pub(crate) fn end(self) -> Result<CharSet, BadOption>
         ensures { result ≡ resumed self [] }
     {
         let part = self.part.part().ok_or(BadOption { at: self.start })?;
         let mut set = self.set;
         set.apply(part);
         Ok(set)
-    }
-}
-
-impl CharSet {
-    /// The set of an option's value (`'isfname'`): parts that are parted by commas, taken from left
-    /// to right. A comma is a part of its own alone, never an end of a range, and a blank is a
-    /// character like any other; a value without a part, a code 0 or above 255 and a range backwards
-    /// have no reading. Which characters the letters of `@` are is this profile's.
-    pub fn from_option(text: &str) -> Result<CharSet, BadOption>
-        ensures { result ≡ set_of (chars text.now) }
-    {
-        let mut reader = Reader::new();
-        for c in text.chars() {
-            reader.take(c)?;
-        }
-        reader.end()
     }
 }
