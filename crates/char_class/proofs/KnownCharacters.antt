@@ -22,29 +22,29 @@ first_above_hard_space = refl
 -- ---- above 255
 
 a_letter : set_has [] 0x8A9E ≡ true
-unfolding ucd_derived ucd_category
+unfolding set_has ucd_derived ucd_category
 a_letter = refl
 
 a_roman_numeral : set_has [] 0x2167 ≡ true
-unfolding ucd_derived ucd_category
+unfolding set_has ucd_derived ucd_category
 a_roman_numeral = refl
 
 a_currency_sign : set_has [] 0x20AC ≡ false
-unfolding ucd_derived ucd_category
+unfolding set_has ucd_derived ucd_category
 a_currency_sign = refl
 
 no_letter_below_256 : set_has [] 97 ≡ false
-unfolding is_member
+unfolding set_has is_member
 no_letter_below_256 = refl
 
 -- ---- folds and ranges with case ignored
 
 final_sigma : is_same 0x3C2 0x3A3 true ≡ true
-unfolding ucd_case
+unfolding is_same ucd_case
 final_sigma = refl
 
 sharp_s_is_no_s : is_same 0xDF 115 true ≡ false
-unfolding ucd_case
+unfolding is_same ucd_case
 sharp_s_is_no_s = refl
 
 dotted_capital_i : simple_fold 0x130 ≡ 0x130
@@ -53,21 +53,23 @@ dotted_capital_i = refl
 
 -- a range of small letters holds the long s, whose fold is one
 long_s_among_small_letters : range_holds 97 122 0x17F true ≡ true
-unfolding ucd_case
+unfolding range_holds ucd_case
 long_s_among_small_letters = refl
 
 -- a range of capitals holds it by the capital of its fold
 long_s_among_capitals : range_holds 65 90 0x17F true ≡ true
-unfolding ucd_case
+unfolding range_holds ucd_case
 long_s_among_capitals = refl
 
 -- beyond a to z no capital counts
 capital_e_acute_alone : range_holds 0xC9 0xC9 0xE9 true ≡ false
-unfolding ucd_case
+unfolding range_holds ucd_case
 capital_e_acute_alone = refl
 
 itself : range_holds 0xC9 0xC9 0xC9 true ≡ true
+unfolding range_holds
 itself = refl
 
 case_counts : range_holds 65 90 97 false ≡ false
+unfolding range_holds
 case_counts = refl

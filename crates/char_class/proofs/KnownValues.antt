@@ -82,6 +82,12 @@ caret_before_a_comma = refl
 caret_begins_no_range : reading_of (codes "^-z") ≡ bad_at 0
 caret_begins_no_range = refl
 
+two_carets : reading_of (codes "^^a-z") ≡ bad_at 0
+two_carets = refl
+
+range_from_a_caret_taken_out : reading_of (codes "^^-z") ≡ Ok (take_out (Codes 94 122) ∷ [])
+range_from_a_caret_taken_out = refl
+
 empty_part_at_the_end : reading_of (codes "a,") ≡ bad_at 2
 empty_part_at_the_end = refl
 

@@ -3,3 +3,4 @@ mod KnownValues
 pub mod ReadingLaws
 pub mod SetLaws
 pub mod UsualValues
+pub mod ValueLaws

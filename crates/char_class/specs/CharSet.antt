@@ -23,5 +23,5 @@ is_member set c = list_any (λ k. k == c) set
 abbrev pub is_numeric : ℕ → Bool
 is_numeric c = in_group Number (general_category c)
 
-abbrev pub set_has : List ℕ → ℕ → Bool
+unfoldable pub set_has : List ℕ → ℕ → Bool
 set_has set c = if nat_lt c 256 then is_member set c else (is_alphabetic c || is_numeric c)

@@ -3,7 +3,7 @@ use Rattle.std.specs.Prelude.{ℕ, ◌==◌, ◌-◌, Bool, ◌&&◌, ◌||◌, 
 use Rattle.unicode.specs.CaseFolding.{simple_fold}
 
 -- one character, where case is ignored or not
-abbrev pub is_same : ℕ → ℕ → Bool → Bool
+unfoldable pub is_same : ℕ → ℕ → Bool → Bool
 is_same c d ignore = if ignore then simple_fold c == simple_fold d else c == d
 
 abbrev pub lies_in : ℕ → ℕ → ℕ → Bool
@@ -24,5 +24,5 @@ holds_ignoring_case low high c =
     lies_in low high c || lies_in low high (simple_fold c)
     || (is_small_letter (simple_fold c) && lies_in low high (capital_of (simple_fold c)))
 
-abbrev pub range_holds : ℕ → ℕ → ℕ → Bool → Bool
+unfoldable pub range_holds : ℕ → ℕ → ℕ → Bool → Bool
 range_holds low high c ignore = if ignore then holds_ignoring_case low high c else lies_in low high c

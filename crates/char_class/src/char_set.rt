@@ -44,6 +44,7 @@ impl CharSet {
     }
 
     /// Whether the set has `c`. Which characters it has from 256 on is this profile's.
+    #[tactic(auto, unfolding(crate::specs::CharSet::set_has))]
     pub fn has(&self, c: char) -> bool
         ensures { result ≡ set_has self.now c }
     {
@@ -78,7 +79,9 @@ impl CharSet {
 
 /// Puts one code in or takes it out, where the part names it.
 fn apply_to(words: &mut [u64; 4], part: Part, code: u8)
-    ensures { (c : ℕ) → has_bit words.new c ≡ (if is_named part.members c && c == code then not part.taken_out else has_bit words.old c) }
+    ensures { (c : ℕ) → has_bit words.new c ≡
+        (if is_named part.members c && c == code then not part.taken_out
+        else has_bit words.old c) }
 {
     if part.members.have(code) {
         put(words, code, !part.taken_out);

@@ -14,6 +14,7 @@ pub fn fold(c: char) -> char
 
 /// Whether `c` and `d` are one character, where `ignore` says that case is ignored
 /// (`/ignorecase`).
+#[tactic(auto, unfolding(crate::specs::Folds::is_same))]
 pub fn same(c: char, d: char, ignore: bool) -> bool
     ensures { result ≡ is_same c d ignore }
 {
@@ -23,6 +24,7 @@ pub fn same(c: char, d: char, ignore: bool) -> bool
 /// Whether the range of a collection (`/[]`) from `low` to `high`, both included, holds `c`, where
 /// `ignore` says that case is ignored. That a range holds a character by the capital of its fold
 /// too is this profile's.
+#[tactic(auto, unfolding(crate::specs::Folds::range_holds))]
 pub fn range_has(low: char, high: char, c: char, ignore: bool) -> bool
     ensures { result ≡ range_holds low high c ignore }
 {

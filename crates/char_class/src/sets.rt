@@ -8,8 +8,11 @@ use crate::CharSet;
 /// The sets of 'isident', 'iskeyword' and 'isfname'.
 #[derive(Drop)]
 pub struct Sets {
+    /// Of `\i`.
     pub ident: CharSet,
+    /// Of `\k`, `\<` and `\>`.
     pub keyword: CharSet,
+    /// Of `\f`.
     pub file: CharSet,
 }
 
