@@ -19,6 +19,19 @@ use Rattle.char_class.specs.declared.option_value.Members.{Members}
 use Rattle.char_class.specs.declared.option_value.Members.TheVariants.{Letters, Codes}
 use Rattle.char_class.specs.declared.option_value.Part.{Part}
 
+-- the characters that parts are spelled with
+abbrev pub comma : ℕ
+comma = 44
+
+abbrev pub dash : ℕ
+dash = 45
+
+abbrev pub at_sign : ℕ
+at_sign = 64
+
+abbrev pub caret : ℕ
+caret = 94
+
 -- ---- the pieces between the commas
 
 -- where in a part a character stands
@@ -31,11 +44,11 @@ pub data Where : Type 0 where
 abbrev pub ends_part : Where → ℕ → Bool
 ends_part start c = false
 ends_part behind_caret c = false
-ends_part inside c = c == 44
+ends_part inside c = c == comma
 
 -- where the character behind c stands
 abbrev pub next_place : Where → ℕ → Where
-next_place start c = if c == 94 then behind_caret else inside
+next_place start c = if c == caret then behind_caret else inside
 next_place behind_caret c = inside
 next_place inside c = inside
 
@@ -69,7 +82,7 @@ valid_code n = if lies_in 1 255 n then Some n else None
 
 -- a character that nothing follows; a comma is none
 abbrev pub character_alone : ℕ → List ℕ → Option ℕ
-character_alone c [] = if c == 44 then None else valid_code c
+character_alone c [] = if c == comma then None else valid_code c
 character_alone c (d ∷ cs) = None
 
 -- a number whose digits go on behind n
@@ -84,11 +97,11 @@ code_of (c ∷ cs) = if is_digit c then number_alone (c - 48) cs else character_
 -- what stands before the first dash, and behind it
 abbrev pub before_dash : List ℕ → List ℕ
 before_dash [] = []
-before_dash (c ∷ cs) = if c == 45 then [] else c ∷ before_dash cs
+before_dash (c ∷ cs) = if c == dash then [] else c ∷ before_dash cs
 
 abbrev pub behind_dash : List ℕ → Option (List ℕ)
 behind_dash [] = None
-behind_dash (c ∷ cs) = if c == 45 then Some cs else behind_dash cs
+behind_dash (c ∷ cs) = if c == dash then Some cs else behind_dash cs
 
 -- from a first code to a last one that isn't less
 abbrev pub codes_between : Option ℕ → Option ℕ → Option Members
@@ -109,7 +122,7 @@ range_of (c ∷ cs) = range_to (code_of (c ∷ before_dash cs)) (behind_dash cs)
 -- one character alone: `@`, `,` or a code
 abbrev pub members_of_one : ℕ → Option Members
 members_of_one c =
-    if c == 64 then Some Letters else if c == 44 then Some (Codes 44 44) else range_of (c ∷ [])
+    if c == at_sign then Some Letters else if c == comma then Some (Codes comma comma) else range_of (c ∷ [])
 
 abbrev pub members_of : List ℕ → Option Members
 members_of [] = None
@@ -124,12 +137,12 @@ take_out members = record { taken_out = true; members = members }
 
 -- what stands behind a `^` at a part's start: nothing, at the value's end, makes it the character
 abbrev pub part_behind_caret : List ℕ → Option Part
-part_behind_caret [] = Some (put_in (Codes 94 94))
+part_behind_caret [] = Some (put_in (Codes caret caret))
 part_behind_caret (c ∷ cs) = option_map take_out (members_of (c ∷ cs))
 
 abbrev pub part_of : List ℕ → Option Part
 part_of [] = None
-part_of (c ∷ cs) = if c == 94 then part_behind_caret cs else option_map put_in (members_of (c ∷ cs))
+part_of (c ∷ cs) = if c == caret then part_behind_caret cs else option_map put_in (members_of (c ∷ cs))
 
 -- ---- a value as its parts
 

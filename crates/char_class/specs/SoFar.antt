@@ -3,7 +3,7 @@
 use Rattle.std.specs.Prelude.{ℕ, ◌==◌, ◌+◌, ◌-◌, ◌*◌, Bool, true, false, ◌&&◌, not, min, List, [], ◌∷◌, length, if◌then◌else◌, Option, Some, None, Result}
 use Rattle.std.specs.Option.{option_map}
 use Rattle.char_class.specs.Classes.{is_digit}
-use Rattle.char_class.specs.OptionValue.{Where, start, behind_caret, inside, number_alone, character_alone, code_of, before_dash, behind_dash, codes_between, range_to, members_of, part_of, valid_code, part_behind_caret, pieces_from, parts_of, or_bad, set_with}
+use Rattle.char_class.specs.OptionValue.{comma, dash, at_sign, caret, Where, start, behind_caret, inside, number_alone, character_alone, code_of, before_dash, behind_dash, codes_between, range_to, members_of, part_of, valid_code, part_behind_caret, pieces_from, parts_of, or_bad, set_with}
 use Rattle.char_class.specs.declared.option_value.Members.{Members}
 use Rattle.char_class.specs.declared.option_value.Members.TheVariants.{Letters, Codes}
 use Rattle.char_class.specs.declared.option_value.Part.{Part}
@@ -26,7 +26,7 @@ range_with first cs = range_to (code_with first (before_dash cs)) (behind_dash c
 -- one character that is no digit, alone
 abbrev pub members_of_character : ℕ → Option Members
 members_of_character c =
-    if c == 64 then Some Letters else if c == 44 then Some (Codes 44 44)
+    if c == at_sign then Some Letters else if c == comma then Some (Codes comma comma)
     else codes_between (valid_code c) (valid_code c)
 
 abbrev pub members_with : CodeSoFar → Option CodeSoFar → List ℕ → Option Members
@@ -87,8 +87,8 @@ longer_last part last c = option_map (λ longer. record part { last = Some longe
 -- before it, there may be the `^`, the dash or more of the first code
 abbrev pub longer_first : PartSoFar → ℕ → Option PartSoFar
 longer_first part c =
-    if is_nothing part.first && (c == 94 && not part.taken_out) then Some (record part { taken_out = true })
-    else if not (is_nothing part.first) && c == 45 then Some (record part { last = Some Nothing })
+    if is_nothing part.first && (c == caret && not part.taken_out) then Some (record part { taken_out = true })
+    else if not (is_nothing part.first) && c == dash then Some (record part { last = Some Nothing })
     else option_map (λ longer. record part { first = longer }) (longer_code part.first c)
 
 abbrev pub longer_by : PartSoFar → Option CodeSoFar → ℕ → Option PartSoFar

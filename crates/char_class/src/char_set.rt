@@ -30,9 +30,9 @@ impl CharSet {
     /// The set of an option's value (`'isfname'`): parts with commas between, taken from left to
     /// right. `BadOption` tells the first part that has no reading.
     ///
-    /// This profile's are: the letters of `@` are the alphabetic codes; a number is a code, so `64` is
-    /// the character `@`; a comma is a part of its own alone, never an end of a range; a blank is a
-    /// character like any other; an empty value has no reading.
+    /// This profile's own: the letters of `@` are the alphabetic codes; a number is a code, so `64`
+    /// is the character `@`; a comma is a part of its own alone, never an end of a range; a blank
+    /// is a character like any other; an empty value has no reading.
     pub fn from_option(text: &str) -> Result<CharSet, BadOption>
         ensures { result ≡ set_of (chars text.now) }
     {
