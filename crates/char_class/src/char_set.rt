@@ -1,0 +1,104 @@
+//! A set of characters, as a bit set of its members below 256.
+ghost use Rattle.std.specs.Prelude.{◌≡◌, ◌==◌, ◌&&◌, ℕ, not, [], if◌then◌else◌};
+ghost use Rattle.std.specs.Str.{chars};
+ghost use Rattle.char_class.specs.Bits.{has_bit};
+ghost use Rattle.char_class.specs.CharSet.{is_member, is_numeric, set_has, set_where};
+ghost use Rattle.char_class.specs.OptionValue.{is_named, set_of, with_part};
+
+use crate::BadOption;
+use crate::option_value::{Part, Reader};
+use std::marker::Model;
+use unicode::properties::{GeneralCategory, GeneralCategoryGroup, is_alphabetic};
+
+/// A set of characters, by the value of an option such as 'iskeyword'. A contract sees the list of
+/// its members below 256, least first.
+#[derive(Drop)]
+pub struct CharSet {
+    words: [u64; 4],
+}
+
+impl Model for CharSet {
+    ghost use Rattle.std.specs.Prelude.{ℕ, List};
+    ghost use Rattle.char_class.specs.Bits.{members_in};
+
+    ghost Value = { List ℕ };
+
+    ghost view = { λ s. members_in s.words };
+}
+
+impl CharSet {
+    /// The set of an option's value (`'isfname'`): parts with commas between, taken from left to
+    /// right. `BadOption` tells the first part that has no reading.
+    ///
+    /// This profile's own: the letters of `@` are the alphabetic codes; a number is a code, so `64`
+    /// is the character `@`; a comma is a part of its own alone, never an end of a range; a blank
+    /// is a character like any other; an empty value has no reading.
+    pub fn from_option(text: &str) -> Result<CharSet, BadOption>
+        ensures { result ≡ set_of (chars text.now) }
+    {
+        let mut reader = Reader::new();
+        for c in text.chars() {
+            reader.take(c)?;
+        }
+        reader.end()
+    }
+
+    /// Whether the set has `c`. Which characters it has from 256 on is this profile's.
+    #[tactic(auto, unfolding(crate::specs::CharSet::set_has))]
+    pub fn has(&self, c: char) -> bool
+        ensures { result ≡ set_has self.now c }
+    {
+        match u8::try_from(c) {
+            Ok(code) => self.has_code(code),
+            Err(_) => is_alphabetic(c) || is_number(c),
+        }
+    }
+
+    fn has_code(&self, code: u8) -> bool
+        ensures { result ≡ is_member self.now code }
+    {
+        self.words[usize::from(code / 64)] >> (code % 64) & 1 == 1
+    }
+
+    pub(crate) fn new() -> CharSet
+        ensures { result ≡ [] }
+    {
+        CharSet { words: [0; 4] }
+    }
+
+    /// Puts what the part names in, or takes it out.
+    pub(crate) fn apply(&mut self, part: Part)
+        ensures { self.new ≡ with_part self.old part }
+    {
+        let (low, high) = part.members.bounds();
+        for code in low..=high {
+            apply_to(&mut self.words, part, code);
+        }
+    }
+}
+
+/// Puts one code in or takes it out, where the part names it.
+fn apply_to(words: &mut [u64; 4], part: Part, code: u8)
+    ensures { (c : ℕ) → has_bit words.new c ≡
+        (if is_named part.members c && c == code then not part.taken_out
+        else has_bit words.old c) }
+{
+    if part.members.have(code) {
+        put(words, code, !part.taken_out);
+    }
+}
+
+fn put(words: &mut [u64; 4], code: u8, member: bool)
+    ensures { (c : ℕ) → has_bit words.new c ≡ (if c == code then member else has_bit words.old c) }
+{
+    let at = usize::from(code / 64);
+    let bit: u64 = 1 << (code % 64);
+    let word = words[at];
+    words[at] = if member { word | bit } else { word & !bit };
+}
+
+fn is_number(c: char) -> bool
+    ensures { result ≡ is_numeric c }
+{
+    GeneralCategoryGroup::Number.contains(GeneralCategory::for_char(c))
+}
