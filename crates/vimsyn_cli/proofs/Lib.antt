@@ -2,3 +2,5 @@ mod PaintLaws
 mod PrintLaws
 mod RunLaws
 mod SessionLaws
+mod SpanLaws
+mod SyntaxLaws

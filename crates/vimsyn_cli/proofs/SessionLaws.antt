@@ -1,7 +1,8 @@
 -- A session goes from file to file: what was read so far decides what is left of it.
-use Rattle.std.proofs.Common.{◌≡◌, ℕ, List, refl, ap, subst, sym, ◌∙◌}
+use Rattle.std.proofs.Common.{◌≡◌, ℕ, List, refl, ap, subst, sym, ◌∙◌, ◌≤◌, length}
+use Rattle.std.proofs.lemmas.Bool.{le-ltb}
 use Rattle.std.specs.Prelude.{Option, Some, None, Result, Ok, Err, IfSome}
-use Rattle.syn_base.specs.Outside.{FileMap}
+use Rattle.syn_base.specs.Outside.{FileMap, file_named}
 use Rattle.text_buffer.specs.TextOfBytes.{text_of}
 use Rattle.vimsyn_cli.specs.declared.fault.Cause.{Cause}
 use Rattle.vimsyn_cli.specs.declared.fault.Cause.TheVariants.{Missing, Unread, TooLong, NotBuilt, BadUtf8, LineTooLong, TooManyLines}
@@ -11,7 +12,10 @@ use Rattle.vimsyn_cli.specs.declared.words.Role.{Role}
 use Rattle.vimsyn_cli.specs.declared.words.Role.TheVariants.{Text}
 use Rattle.vimsyn_cli.specs.declared.painting.TheConstants.{MOST_SYNTAX_BYTES, MOST_TEXT_BYTES}
 use Rattle.vimsyn_cli.specs.LiteralSyntax.{LiteralMatch, literal_syntax}
-use Rattle.vimsyn_cli.specs.Session.{Session, ends, file_bytes, session_of, with_text, with_text_file}
+use Rattle.vimsyn_cli.specs.Laws.{AcceptedFiles}
+use Rattle.vimsyn_cli.specs.Session.{Session, ends, file_bytes, session, session_of, shows, with_names, with_syntax, with_syntax_file, with_text, with_text_file}
+use Rattle.vimsyn_cli.specs.SpanText.{painting_text}
+use Rattle.vimsyn_cli.proofs.SyntaxLaws.{spelled_is_read}
 use Rattle.vimsyn_cli.specs.Stop.{IfFault, Plans, Reads, Unless}
 use Rattle.vimsyn_cli.specs.Words.{FileNames, name_of}
 
@@ -62,3 +66,17 @@ text_read (Some known) after names bytes more syntax result read form same whole
     let session : session_of names known ≡ with_text names.text syntax (text_of more) = text_file_next known names bytes syntax read form ∙ ap (with_text_file names.text syntax) whole' in
     let P : Session → Type 0 = λ s. Plans names s result in
     subst P (sym session) planned
+
+-- a file that is there and short enough
+file_is : (files : FileMap) (name bytes : List ℕ) (limit : ℕ) → file_named files name ≡ Some bytes → length bytes ≤ limit → file_bytes files name limit ≡ Ok bytes
+file_is files name bytes limit there short = rw (there, le-ltb limit (length bytes) short) refl
+
+-- an accepted run prints the painting
+pub accepted_painted : (words : List (List ℕ)) (files : FileMap) (syntax : LiteralMatch) (lines : List (List ℕ)) → AcceptedFiles words files syntax lines → session words files ≡ shows (painting_text syntax lines)
+accepted_painted words files syntax lines accepted =
+    let names = accepted.names in
+    ap (with_names files) accepted.words_are
+    ∙ ap (with_syntax_file names files) (file_is files names.syntax accepted.syntax_bytes MOST_SYNTAX_BYTES accepted.syntax_file accepted.syntax_short)
+    ∙ ap (with_syntax names files) (spelled_is_read accepted.syntax_bytes syntax accepted.syntax_is)
+    ∙ ap (with_text_file names.text syntax) (file_is files names.text accepted.text_bytes MOST_TEXT_BYTES accepted.text_file accepted.text_short)
+    ∙ ap (with_text names.text syntax) accepted.text_is

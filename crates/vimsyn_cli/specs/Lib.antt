@@ -1,4 +1,5 @@
 pub mod Answers
+pub mod Laws
 pub mod LiteralSyntax
 pub mod Painting
 pub mod Report

@@ -2,6 +2,7 @@
 #![tactic(auto)]
 
 mod fault;
+pub mod laws;
 mod literal_syntax;
 mod paint;
 mod painting;
