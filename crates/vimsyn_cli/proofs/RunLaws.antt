@@ -1,6 +1,6 @@
 -- What a run delivers, against the session that it is a run of.
 use Rattle.std.proofs.Common.{◌≡◌, ◌≢◌, ℕ, Bool, true, false, List, [], length, refl, ap, subst, sym, ◌∙◌, inl, inr}
-use Rattle.std.specs.Prelude.{◌⊎◌, Option, Some, None, Result, Ok, Err, IfSome}
+use Rattle.std.specs.Prelude.{◌⊎◌, Option, Some, None, Result, Ok, Err, IfSome, IsSomeAnd}
 use Rattle.std.proofs.lemmas.List.{append-nil}
 use Rattle.std.proofs.Math.Seq.{take-length}
 use Rattle.syn_base.specs.Causes.{Counted, Rose}
@@ -50,6 +50,10 @@ pub usage_part : (told : Option FileMap) (words : List (List ℕ)) (err : SinkCh
 usage_part None words err faults faults_after answer faulty written = tt
 usage_part (Some known) words err faults faults_after answer faulty written =
     λ readable. rw faulty (part_of err usage_line Usage answer written)
+
+pub usage_part_or : (told : Option FileMap) (words : List (List ℕ)) (err : SinkChange) (answer : Status) → names_of words ≡ None → Writes err usage_line Usage answer → IfSome told (λ known. AppendsPrefix err.before err.after (session words known).err ⊎ IsSomeAnd (names_of words) (λ given. TellsUnread given err.before err.after))
+usage_part_or None words err answer faulty written = tt
+usage_part_or (Some known) words err answer faulty written = rw faulty (inl (part_of err usage_line Usage answer written))
 
 -- a cause that the files' map decides
 decided : (cause : Cause) (P : Type 0) → Unless cause P → is_unread cause ≡ false → P
@@ -137,7 +141,7 @@ session_err_part (Some known) words names result out err faults faults_after ans
     without_fault (inl p) = p
     without_fault (inr q) = absurd (cc (q.0))
 
-pub session_err_or_unread : (told : Option FileMap) (words : List (List ℕ)) (names : FileNames) (result : Result (List ℕ) Stop) (out err : SinkChange) (answer : Status) → names_of words ≡ Some names → IfSome told (λ known. Plans names (session_of names known) result) → Delivers names result out err answer → IfSome told (λ known. AppendsPrefix err.before err.after (session words known).err ⊎ IfSome (names_of words) (λ given. TellsUnread given err.before err.after))
+pub session_err_or_unread : (told : Option FileMap) (words : List (List ℕ)) (names : FileNames) (result : Result (List ℕ) Stop) (out err : SinkChange) (answer : Status) → names_of words ≡ Some names → IfSome told (λ known. Plans names (session_of names known) result) → Delivers names result out err answer → IfSome told (λ known. AppendsPrefix err.before err.after (session words known).err ⊎ IsSomeAnd (names_of words) (λ given. TellsUnread given err.before err.after))
 session_err_or_unread None words names result out err answer is planned delivered = tt
 session_err_or_unread (Some known) words names result out err answer is planned delivered =
     rw is (either (err_part_of names (session_of names known) result out err answer planned delivered (stops_for is_unread result) refl))

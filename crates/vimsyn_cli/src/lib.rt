@@ -1,4 +1,7 @@
-//! The program's one call.
+//! The run of the program, as one call over files, a script and two sinks.
+//!
+//! What a run is to write, and its status, are a function of its words and files: the session, which
+//! paints the whole text anew. `run` is proved against it, and says the cause of each of its answers.
 #![tactic(auto)]
 
 mod fault;

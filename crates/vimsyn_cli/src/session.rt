@@ -2,7 +2,7 @@
 //!
 //! Nothing is printed before the painting is whole. So a run writes either the painting on `out` or
 //! one line on `err`.
-ghost use Rattle.std.specs.Prelude.{◌≡◌, ◌≢◌, ◌⊎◌, None, IfSome, true};
+ghost use Rattle.std.specs.Prelude.{◌≡◌, ◌≢◌, ◌⊎◌, None, IfSome, IsSomeAnd, true};
 ghost use Rattle.syn_base.specs.Causes.{Rose};
 ghost use Rattle.syn_base.specs.Outside.{AppendsPrefix};
 ghost use Rattle.vimsyn_cli.specs.Answers.{Delivers, Gives, TellsFault, TellsUnread, Writes, is_unfailed};
@@ -49,16 +49,16 @@ pub fn run<F: Files, I: Source, O: Sink, E: Sink, L: Ledger>(
         → AppendsPrefix (E.written err.old) (E.written err.new) (session (texts_of words.now) known).err) }
     ensures err_part_or_unread { IfSome (F.told files.old) (λ known.
         AppendsPrefix (E.written err.old) (E.written err.new) (session (texts_of words.now) known).err
-        ⊎ IfSome (names_of (texts_of words.now)) (λ names. TellsUnread names (E.written err.old) (E.written err.new))) }
+        ⊎ IsSomeAnd (names_of (texts_of words.now)) (λ names. TellsUnread names (E.written err.old) (E.written err.new))) }
 
     // Each answer and its cause.
     ensures usage { result ≡ Status.Usage → names_of (texts_of words.now) ≡ None }
     ensures faulty_words { names_of (texts_of words.now) ≡ None → (result ≡ Status.Usage) ⊎ (result ≡ Status.WriteFault) }
-    ensures refused { result ≡ Status.Refused → IfSome (names_of (texts_of words.now)) (λ names.
+    ensures refused { result ≡ Status.Refused → IsSomeAnd (names_of (texts_of words.now)) (λ names.
         TellsFault names (E.written err.old) (E.written err.new) (F.longs files.old) (F.longs files.new) result) }
     ensures read_fault { result ≡ Status.ReadFault
         → Rose (F.faults files.old) (F.faults files.new) ⊎ Rose (F.misses files.old) (F.misses files.new) }
-    ensures read_fault_line { result ≡ Status.ReadFault → IfSome (names_of (texts_of words.now)) (λ names.
+    ensures read_fault_line { result ≡ Status.ReadFault → IsSomeAnd (names_of (texts_of words.now)) (λ names.
         TellsFault names (E.written err.old) (E.written err.new) (F.longs files.old) (F.longs files.new) result) }
     ensures write_fault { result ≡ Status.WriteFault
         → Rose (O.faults out.old) (O.faults out.new) ⊎ Rose (E.faults err.old) (E.faults err.new) }

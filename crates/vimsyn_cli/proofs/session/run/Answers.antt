@@ -1,6 +1,6 @@
 use Rattle.std.proofs.Common.{refl, sym, ◌∙◌}
 use Rattle.vimsyn_cli.specs.Words.{texts_of}
-use Rattle.vimsyn_cli.proofs.RunLaws.{session_err_or_unread, session_err_part, session_gives, session_out_part, usage_gives, usage_part}
+use Rattle.vimsyn_cli.proofs.RunLaws.{session_err_or_unread, session_err_part, session_gives, session_out_part, usage_gives, usage_part, usage_part_or}
 use Rattle.vimsyn_cli.proofs.session.run.Goals as goal
 
 pub returns-in_default-clause-session : goal.returns-in_default-clause-session
@@ -15,6 +15,12 @@ returns-in_default-clause-err_part g c =
     usage_part (g.F.Files.told c.args.files.now) (texts_of c.args.words.now)
     (record { before = g.E.Sink.written c.args.err.now; after = g.E.Sink.written c.finish.new.sink; faults = g.E.Sink.faults c.args.err.now; faults_after = g.E.Sink.faults c.finish.new.sink })
     (g.F.Files.faults c.args.files.now) (g.F.Files.faults c.args.files.now) c.finish.result (sym c.read.ensures ∙ c.in_default.is) c.finish.ensures
+
+pub returns-in_default-clause-err_part_or_unread : goal.returns-in_default-clause-err_part_or_unread
+returns-in_default-clause-err_part_or_unread g c =
+    usage_part_or (g.F.Files.told c.args.files.now) (texts_of c.args.words.now)
+      (record { before = g.E.Sink.written c.args.err.now; after = g.E.Sink.written c.finish.new.sink; faults = g.E.Sink.faults c.args.err.now; faults_after = g.E.Sink.faults c.finish.new.sink })
+      c.finish.result (sym c.read.ensures ∙ c.in_default.is) c.finish.ensures
 
 pub returns-clause-session : goal.returns-clause-session
 returns-clause-session g c =
