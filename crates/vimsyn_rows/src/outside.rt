@@ -1,8 +1,7 @@
 //! The forms of the machine and those in memory, and a text from its bytes, each called once.
 
-use std::env;
-use std::fs;
 use std::test::Fail;
+use std::{env, fs};
 use syn_base::{
     Fetched, Files, HostFiles, Lines, List, MemorySource, Place, Put, Sink, Source, StdSink,
     StdSource, Taken, put_all,
@@ -23,7 +22,11 @@ fn word(fetched: &Fetched) -> &'static str {
 #[test]
 fn files_of_the_machine_are_told_apart(rt: HostRuntime) -> Result<(), Fail> {
     let folder = env::temp_dir(&rt)?;
-    let name = format!(in rt.alloc(); "{}/vimsyn-{}", folder.as_str(), std::process::id(rt.process()))?;
+    let name = format!(in rt.alloc();
+        "{}/vimsyn-{}",
+        folder.as_str(),
+        std::process::id(rt.process())
+    )?;
     fs::write(&rt, name.as_str(), b"abc")?;
     let mut files = HostFiles::new(rt);
     let whole = files.fetch(rt.alloc(), name.as_str(), 3);

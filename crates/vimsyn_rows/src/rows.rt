@@ -18,7 +18,11 @@ const NUM: &[u8] = b"syn match Num /12/";
 /// A syntax file `s`, a text file `t`, and the spans that are printed.
 const PAINTED: &[(&[u8], &[u8], &str)] = &[
     (NUM, b"a12b12", "1:2-3 Num Num\n1:5-6 Num Num\n"),
-    (b"syn match Num /12/\n", b"a12b12\n", "1:2-3 Num Num\n1:5-6 Num Num\n"),
+    (
+        b"syn match Num /12/\n",
+        b"a12b12\n",
+        "1:2-3 Num Num\n1:5-6 Num Num\n",
+    ),
     // There is one empty line.
     (NUM, b"", ""),
     (NUM, b"\n", ""),
@@ -30,25 +34,74 @@ const PAINTED: &[(&[u8], &[u8], &str)] = &[
     // The match at the first column reaches over the second; neighbours are one run.
     (b"syn match Num /aa/", b"aaa", "1:1-2 Num Num\n"),
     (b"syn match Num /aa/", b"aaaaa", "1:1-4 Num Num\n"),
-    (b"syn match Num /aba/", b"ababa aba", "1:1-3 Num Num\n1:7-9 Num Num\n"),
+    (
+        b"syn match Num /aba/",
+        b"ababa aba",
+        "1:1-3 Num Num\n1:7-9 Num Num\n",
+    ),
     (b"syn match A /x/", b"xx-x", "1:1-2 A A\n1:4-4 A A\n"),
 ];
 
 /// Words, files, the line on `err` and the status.
 const ENDED: &[(&[&str], &[(&str, &[u8])], &str, Status)] = &[
-    (SPANS, &[("s", NUM), ("t", b"a\n\xff")], "t:2: bad utf-8\n", Status::Refused),
+    (
+        SPANS,
+        &[("s", NUM), ("t", b"a\n\xff")],
+        "t:2: bad utf-8\n",
+        Status::Refused,
+    ),
     (SPANS, &[("s", NUM)], "t: no such file\n", Status::ReadFault),
-    (SPANS, &[("t", b"12")], "s: no such file\n", Status::ReadFault),
+    (
+        SPANS,
+        &[("t", b"12")],
+        "s: no such file\n",
+        Status::ReadFault,
+    ),
     // The syntax file comes before the text.
     (SPANS, &[("s", b"x")], "s: not built yet\n", Status::Refused),
     // Other forms than the one that is built.
-    (SPANS, &[("s", b"syn match Num \"12\""), ("t", b"")], "s: not built yet\n", Status::Refused),
-    (SPANS, &[("s", b"syn  match Num /12/"), ("t", b"")], "s: not built yet\n", Status::Refused),
-    (SPANS, &[("s", b"syn match Num /12/\n\n"), ("t", b"")], "s: not built yet\n", Status::Refused),
-    (SPANS, &[("s", b"syn match Num /1.2/"), ("t", b"")], "s: not built yet\n", Status::Refused),
-    (SPANS, &[("s", b"syn match Num //"), ("t", b"")], "s: not built yet\n", Status::Refused),
-    (SPANS, &[("s", b"syn match cOmment /12/"), ("t", b"")], "s: not built yet\n", Status::Refused),
-    (SPANS, &[("s", b"syn match Contained /12/"), ("t", b"")], "s: not built yet\n", Status::Refused),
+    (
+        SPANS,
+        &[("s", b"syn match Num \"12\""), ("t", b"")],
+        "s: not built yet\n",
+        Status::Refused,
+    ),
+    (
+        SPANS,
+        &[("s", b"syn  match Num /12/"), ("t", b"")],
+        "s: not built yet\n",
+        Status::Refused,
+    ),
+    (
+        SPANS,
+        &[("s", b"syn match Num /12/\n\n"), ("t", b"")],
+        "s: not built yet\n",
+        Status::Refused,
+    ),
+    (
+        SPANS,
+        &[("s", b"syn match Num /1.2/"), ("t", b"")],
+        "s: not built yet\n",
+        Status::Refused,
+    ),
+    (
+        SPANS,
+        &[("s", b"syn match Num //"), ("t", b"")],
+        "s: not built yet\n",
+        Status::Refused,
+    ),
+    (
+        SPANS,
+        &[("s", b"syn match cOmment /12/"), ("t", b"")],
+        "s: not built yet\n",
+        Status::Refused,
+    ),
+    (
+        SPANS,
+        &[("s", b"syn match Contained /12/"), ("t", b"")],
+        "s: not built yet\n",
+        Status::Refused,
+    ),
     // Words that aren't in the table.
     (&["spans", "s"], &[("s", NUM)], USAGE, Status::Usage),
     (&[], &[], USAGE, Status::Usage),
@@ -56,7 +109,12 @@ const ENDED: &[(&[&str], &[(&str, &[u8])], &str, Status)] = &[
     (&["check", "s"], &[("s", NUM)], USAGE, Status::Usage),
     (&["spans", "-s", "t"], &[("s", NUM)], USAGE, Status::Usage),
     (&["spans", "s", ""], &[("s", NUM)], USAGE, Status::Usage),
-    (&["spans", "s", "t", "u"], &[("s", NUM)], USAGE, Status::Usage),
+    (
+        &["spans", "s", "t", "u"],
+        &[("s", NUM)],
+        USAGE,
+        Status::Usage,
+    ),
 ];
 
 const USAGE: &str = "usage: vimsyn check|spans|html|edit|large [options] names\n";
@@ -65,7 +123,10 @@ const USAGE: &str = "usage: vimsyn check|spans|html|edit|large [options] names\n
 fn painted_rows_print_their_spans(rt: HostRuntime) -> Result<(), Fail> {
     for (syntax, text, out) in PAINTED {
         let files = [("s", *syntax), ("t", *text)];
-        let case = Case { words: SPANS, files: &files };
+        let case = Case {
+            words: SPANS,
+            files: &files,
+        };
         let outcome = outcome_of(rt.alloc(), &case, AMPLE, 0)?;
         assert_eq!(rt; outcome.out.as_slice(), out.as_bytes());
         assert!(rt; outcome.err.is_empty());
@@ -102,13 +163,22 @@ fn a_file_that_fails_is_told(rt: HostRuntime) -> Result<(), Fail> {
 
 /// Sinks that take few bytes a call and fail at their n-th call: what was written is a part of what
 /// the row gives, from its front, and the status is the row's only if that call never came.
-fn fails_in_time(rt: &impl Abort, alloc: Global, case: &Case<'_>, whole: &Outcome) -> Result<(), Fail> {
+fn fails_in_time(
+    rt: &impl Abort,
+    alloc: Global,
+    case: &Case<'_>,
+    whole: &Outcome,
+) -> Result<(), Fail> {
     for most in [1, 4] {
         for failing in [1, 2, 3, 30] {
             let outcome = outcome_of(alloc, case, Sinks { most, failing }, 0)?;
             let taken = most.saturating_mul((failing - 1) as usize);
             let length = whole.out.len().max(whole.err.len());
-            let status = if taken < length { Status::WriteFault } else { whole.status };
+            let status = if taken < length {
+                Status::WriteFault
+            } else {
+                whole.status
+            };
             assert_eq!(rt; outcome.status, status);
             assert_eq!(rt; outcome.out.as_slice(), front(whole.out.as_slice(), taken));
             assert_eq!(rt; outcome.err.as_slice(), front(whole.err.as_slice(), taken));
@@ -125,7 +195,10 @@ fn front(bytes: &[u8], length: usize) -> &[u8] {
 fn failing_sinks_get_a_part(rt: HostRuntime) -> Result<(), Fail> {
     for (syntax, text, _) in PAINTED {
         let files = [("s", *syntax), ("t", *text)];
-        let case = Case { words: SPANS, files: &files };
+        let case = Case {
+            words: SPANS,
+            files: &files,
+        };
         let whole = outcome_of(rt.alloc(), &case, AMPLE, 0)?;
         fails_in_time(&rt, rt.alloc(), &case, &whole)?;
     }
@@ -141,7 +214,10 @@ fn failing_sinks_get_a_part(rt: HostRuntime) -> Result<(), Fail> {
 fn a_syntax_file_has_at_most_eight_mebibytes(rt: HostRuntime) -> Result<(), Fail> {
     let long = vec![in rt.alloc(); b'x'; 8_388_609]?;
     let files = [("s", long.as_slice()), ("t", b"12".as_slice())];
-    let case = Case { words: SPANS, files: &files };
+    let case = Case {
+        words: SPANS,
+        files: &files,
+    };
     let outcome = outcome_of(rt.alloc(), &case, AMPLE, 0)?;
     assert_eq!(rt; outcome.err.as_slice(), b"s: file too long\n".as_slice());
     assert_eq!(rt; outcome.status, Status::Refused);

@@ -19,8 +19,8 @@ returns-in_default-clause-err_part g c =
 pub returns-in_default-clause-err_part_or_unread : goal.returns-in_default-clause-err_part_or_unread
 returns-in_default-clause-err_part_or_unread g c =
     usage_part_or (g.F.Files.told c.args.files.now) (texts_of c.args.words.now)
-      (record { before = g.E.Sink.written c.args.err.now; after = g.E.Sink.written c.finish.new.sink; faults = g.E.Sink.faults c.args.err.now; faults_after = g.E.Sink.faults c.finish.new.sink })
-      c.finish.result (sym c.read.ensures ∙ c.in_default.is) c.finish.ensures
+    (record { before = g.E.Sink.written c.args.err.now; after = g.E.Sink.written c.finish.new.sink; faults = g.E.Sink.faults c.args.err.now; faults_after = g.E.Sink.faults c.finish.new.sink })
+    c.finish.result (sym c.read.ensures ∙ c.in_default.is) c.finish.ensures
 
 pub returns-clause-session : goal.returns-clause-session
 returns-clause-session g c =
