@@ -1,0 +1,2 @@
+pub mod CollectionLaws
+pub mod PlaceLaws
