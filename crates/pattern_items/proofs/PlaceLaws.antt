@@ -1,11 +1,20 @@
 -- One item of a text.
-use Rattle.std.proofs.Common.{◌≡◌, ℕ, zero, suc, ◌+◌, ◌-◌, ◌<◌, ◌≤◌, length, drop, List, [], ◌∷◌, Bool, Some, None, false, refl, ap, ◌∙◌, arith}
-use Rattle.std.specs.Prelude.{Option}
+use Rattle.std.proofs.Common.{◌≡◌, ℕ, zero, suc, ◌+◌, ◌-◌, ◌<◌, ◌≤◌, length, drop, take, List, [], ◌∷◌, Bool, Some, None, true, false, refl, ap, ◌∙◌, arith}
+use Rattle.std.specs.Prelude.{Option, if◌then◌else◌, cond, nat_lt, nat_le}
+use Rattle.pattern_items.specs.declared.atom.Atom.{Atom}
+use Rattle.pattern_items.specs.declared.cause.PatternCause.{PatternCause}
+use Rattle.pattern_items.specs.declared.collection.Piece.{Piece}
+use Rattle.pattern_items.specs.declared.item.Kind.TheVariants as kind
+use Rattle.pattern_items.specs.declared.item.Multi.{Multi}
+use Rattle.pattern_items.specs.declared.item.Raw.TheVariants as raw
+use Rattle.pattern_items.specs.declared.item.Sign.{Sign}
+use Rattle.pattern_items.specs.declared.item.Sign.TheVariants as sign
+use Rattle.pattern_items.specs.Collection.{pieces, members, body_of, is_turned, first_fault, first_marked, fault_or_set, marked_or_set}
 use Rattle.pattern_items.specs.declared.item.Level.{Level}
 use Rattle.pattern_items.specs.declared.item.Raw.{Raw}
 use Rattle.pattern_items.specs.declared.item.Context.{Context}
 use Rattle.pattern_items.specs.Spelling.{spelling}
-use Rattle.pattern_items.specs.Place.{stops, is_stop, level_past, items_from, item, placed}
+use Rattle.pattern_items.specs.Place.{stops, is_stop, level_past, items_from, item, placed, groups_next, externals_next, is_counted, is_external, in_place, inner_of, star_is_char, is_start, is_end}
 
 stops_skip : (k : ℕ) (level : Level) (cs : List ℕ) → stops k level cs ≡ stops 0 level (drop k cs)
 stops_skip zero level cs = refl
@@ -44,3 +53,69 @@ pub items_step : (x : Context) (at : ℕ) (text : List ℕ) → 0 < length text 
     items_from 0 x at text ≡ item at (placed x text).sign ∷ items_from 0 (placed x text).next (at + (placed x text).len) (drop (placed x text).len text)
 items_step x at [] h k = absurd (omega arith)
 items_step x at (c ∷ cs) h k = ap (λ is. item at (placed x (c ∷ cs)).sign ∷ is) (items_rest (placed x (c ∷ cs)).len (placed x (c ∷ cs)).next at c cs k)
+
+-- An item counts the groups and the externals that it opens.
+
+pub record Counts (x : Context) (s : Sign) : Type 0 where
+  pub groups : groups_next x.groups s ≡ x.groups + (if is_counted s then 1 else 0)
+  pub externals : externals_next x.externals s ≡ x.externals + (if is_external s then 1 else 0)
+
+counts_atom : (x : Context) (a : Atom) → Counts x (sign.Atom a)
+counts_atom x a = record { groups = omega arith; externals = omega arith }
+
+counts_wrong : (x : Context) (n : ℕ) (c : PatternCause) → Counts x (sign.Wrong n c)
+counts_wrong x n c = record { groups = omega arith; externals = omega arith }
+
+counts_multi : (x : Context) (m : Multi) → Counts x (sign.Multi m)
+counts_multi x m = record { groups = omega arith; externals = omega arith }
+
+counts_quiet : (x : Context) (o : Option Bool) → Counts x (sign.Quiet o)
+counts_quiet x o = record { groups = omega arith; externals = omega arith }
+
+counts_if : (x : Context) (b : Bool) (s t : Sign) → Counts x s → Counts x t → Counts x (cond b s t)
+counts_if x true s t h k = h
+counts_if x false s t h k = k
+
+counts_group : (x : Context) → Counts x (sign.Open (kind.Counted (x.groups + 1)))
+counts_group x = record { groups = refl; externals = omega arith }
+
+counts_external : (x : Context) → Counts x (sign.Open (kind.External (x.externals + 1)))
+counts_external x = record { groups = omega arith; externals = refl }
+
+counts_marked : (x : Context) (turned line_end : Bool) (before : ℕ) (ps : List Piece) (o : Option (ℕ × ℕ)) → Counts x (marked_or_set turned line_end before ps o)
+counts_marked x turned line_end before ps None = counts_atom x _
+counts_marked x turned line_end before ps (Some m) = counts_wrong x before _
+
+counts_set : (x : Context) (turned line_end : Bool) (before : ℕ) (ps : List Piece) (o : Option PatternCause) → Counts x (fault_or_set turned line_end before ps o)
+counts_set x turned line_end before ps None = counts_marked x turned line_end before ps (first_marked ps)
+counts_set x turned line_end before ps (Some c) = counts_wrong x before c
+
+counts_place : (x : Context) (text : List ℕ) (len : ℕ) (r : Raw) → Counts x (in_place x text len r)
+counts_place x text len (raw.Atom a) = counts_atom x a
+counts_place x text len raw.Caret = counts_atom x _
+counts_place x text len raw.Dollar = counts_atom x _
+counts_place x text len raw.Star = counts_if x (star_is_char x.before) _ _ (counts_atom x _) (counts_multi x _)
+counts_place x text len (raw.Collection line_end before) =
+    let inner = inner_of (take (len - 1) text) before in
+    let ps = pieces (members (body_of inner)) in
+    counts_set x (is_turned inner) line_end before ps (first_fault ps)
+counts_place x text len (raw.Multi m) = counts_multi x m
+counts_place x text len raw.Group = counts_if x (nat_lt x.groups 9) _ _ (counts_group x) (counts_wrong x 0 _)
+counts_place x text len raw.Plain = record { groups = omega arith; externals = omega arith }
+counts_place x text len raw.External =
+    counts_if x (is_start x.usage) _ _ (counts_if x (nat_lt x.externals 9) _ _ (counts_external x) (counts_wrong x 0 _)) (counts_wrong x 0 _)
+counts_place x text len raw.Optional = record { groups = omega arith; externals = omega arith }
+counts_place x text len raw.Close = record { groups = omega arith; externals = omega arith }
+counts_place x text len raw.Square = record { groups = omega arith; externals = omega arith }
+counts_place x text len raw.Bar = record { groups = omega arith; externals = omega arith }
+counts_place x text len raw.Also = record { groups = omega arith; externals = omega arith }
+counts_place x text len (raw.Magic level) = counts_quiet x None
+counts_place x text len (raw.Case ignore) = counts_quiet x (Some ignore)
+counts_place x text len raw.Engine = counts_quiet x None
+counts_place x text len (raw.Reference n) = counts_if x (nat_le n x.groups) _ _ (counts_atom x _) (counts_wrong x 0 _)
+counts_place x text len (raw.ExternalReference n) = counts_if x (is_end x.usage) _ _ (counts_atom x _) (counts_wrong x 0 _)
+counts_place x text len raw.LeftOut = counts_wrong x 0 _
+counts_place x text len (raw.Wrong c) = counts_wrong x 0 c
+
+pub placed_counts : (x : Context) (text : List ℕ) → Counts x (placed x text).sign
+placed_counts x text = counts_place x text (spelling x.first x.level text).len (spelling x.first x.level text).raw

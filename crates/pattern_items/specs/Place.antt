@@ -201,3 +201,11 @@ first_context usage = record { usage = usage; level = Usual; before = Begin; gro
 -- the items of a pattern
 abbrev pub items_of : PatternUse → List ℕ → List Item
 items_of usage text = items_from 0 (first_context usage) 0 text
+
+abbrev pub is_counted : Sign → Bool
+is_counted (sign.Open k) = elim k [ kind.Counted m ↦ true | _ ↦ false ]
+is_counted _ = false
+
+abbrev pub is_external : Sign → Bool
+is_external (sign.Open k) = elim k [ kind.External m ↦ true | _ ↦ false ]
+is_external _ = false

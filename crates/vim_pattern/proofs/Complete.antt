@@ -1,15 +1,16 @@
 -- What the grammar spells is read, and gives its tree.
 use Rattle.std.proofs.Common.{◌≡◌, ℕ, suc, ◌+◌, length, List, [], ◌∷◌, ◌++◌, false, Ok, refl, sym, ◌∙◌, ap, append_assoc, append-nil, arith}
 use Rattle.std.proofs.lemmas.Bool.{lt-ltb}
-use Rattle.vim_pattern.specs.declared.node.Leaf.TheVariants.{Char}
-use Rattle.vim_pattern.specs.declared.node.Times.{Times}
-use Rattle.vim_pattern.specs.declared.node.Kind.{Kind}
-use Rattle.vim_pattern.specs.declared.node.Kind.TheVariants.{Counted, Plain, External, Optional}
-use Rattle.vim_pattern.specs.declared.node.Item.{Item}
-use Rattle.vim_pattern.specs.declared.node.Sign.TheVariants.{Multi, Open, Close, Square, Bar, Also, Quiet}
-use Rattle.vim_pattern.specs.Shape.{Shape, one, group, external, repeat, seq_of, and_of, or_of, optional_of}
+use Rattle.pattern_items.specs.declared.atom.Atom.TheVariants.{Char}
+use Rattle.pattern_items.specs.declared.item.Multi.{Multi as AnyMulti}
+use Rattle.pattern_items.specs.declared.item.Kind.{Kind}
+use Rattle.pattern_items.specs.declared.item.Kind.TheVariants.{Counted, Plain, External, Optional}
+use Rattle.pattern_items.specs.declared.item.Item.{Item}
+use Rattle.pattern_items.specs.declared.item.Sign.TheVariants.{Multi, Open, Close, Square, Bar, Also, Quiet}
+use Rattle.vim_pattern.specs.Shape.{Shape, one, group, external, with_multi, seq_of, and_of, or_of, optional_of}
+use Rattle.pattern_items.specs.Place.{item}
 use Rattle.vim_pattern.specs.Grammar
-use Rattle.vim_pattern.specs.Grammar.{item, IsPattern, IsBranch, IsConcat, IsPiece, IsLoose, IsAtom, IsAtoms, IsTree}
+use Rattle.vim_pattern.specs.Grammar.{IsPattern, IsBranch, IsConcat, IsPiece, IsLoose, IsAtom, IsAtoms, IsTree}
 use Rattle.vim_pattern.specs.Read.{fixed, Part, new_part, settled, branch_of, put, ended, with_bar, with_also, Outer, State, start, in_list, after, read, list_step}
 
 abbrev st : List Outer → Part → State
@@ -48,8 +49,8 @@ reads_square : (at : ℕ) (u : List Outer) (p : Part) → in_list u ≡ false �
 reads_square at [] p free rest = refl
 reads_square at (o ∷ os) p free rest = rw free refl
 
-reads_multi : (at : ℕ) (m : Times) (t : Shape) (u : List Outer) (p : Part) → in_list u ≡ false →
-    Reads u (item at (Multi m) ∷ []) (put t p) (record p { pieces = settled p; last = fixed (repeat t m) })
+reads_multi : (at : ℕ) (m : AnyMulti) (t : Shape) (u : List Outer) (p : Part) → in_list u ≡ false →
+    Reads u (item at (Multi m) ∷ []) (put t p) (record p { pieces = settled p; last = fixed (with_multi m t) })
 reads_multi at m t u p free rest = rw free refl
 
 reads_bar : (at : ℕ) (u : List Outer) (p : Part) → in_list u ≡ false → Reads u (item at Bar ∷ []) p (with_bar p)
@@ -121,16 +122,16 @@ mutual
       let r = concat_reads d p u fits free in
       let q = piece_reads e r.0 u fits free in
       (q.0, both u is js p r.0 q.0 r.1 q.1, grows_both ts (t ∷ []) p r.0 q.0 r.2 q.2)
-  concat_reads (Grammar.quiet {is = is} {ts = ts} at d) p u fits free =
+  concat_reads (Grammar.quiet {is = is} {ts = ts} at ignore d) p u fits free =
       let r = concat_reads d p u fits free in
-      (ended r.0, both u is (item at Quiet ∷ []) p r.0 (ended r.0) r.1 (λ rest. refl), grows_ended ts p r.0 r.2)
+      (ended r.0, both u is (item at (Quiet ignore) ∷ []) p r.0 (ended r.0) r.1 (λ rest. refl), grows_ended ts p r.0 r.2)
 
   piece_reads : {room : ℕ} {is : List Item} {t : Shape} → IsPiece room is t → (p : Part) (u : List Outer) → HasRoom room u → in_list u ≡ false →
       (q : Part) × Reads u is p q × Grows (t ∷ []) p q
   piece_reads (Grammar.once {t = t} d) p u fits free = (put t p, loose_reads d p u fits free, grows_put t p)
   piece_reads (Grammar.times {is = is} {t = t} at m d) p u fits free = (
-    record p { pieces = settled p; last = fixed (repeat t m) },
-    both u is (item at (Multi m) ∷ []) p (put t p) (record p { pieces = settled p; last = fixed (repeat t m) }) (loose_reads d p u fits free) (reads_multi at m t u p free),
+    record p { pieces = settled p; last = fixed (with_multi m t) },
+    both u is (item at (Multi m) ∷ []) p (put t p) (record p { pieces = settled p; last = fixed (with_multi m t) }) (loose_reads d p u fits free) (reads_multi at m t u p free),
     record { branches = refl; concats = refl; pieces = refl },
   )
 
@@ -160,9 +161,9 @@ mutual
   atoms_read (Grammar.next_atom {is = is} {ts = ts} {js = js} {t = t} d e) p u fits =
       let r = atoms_read d p u fits in
       (put t r.0, both u is js p r.0 (put t r.0) r.1 (atom_reads e r.0 u fits), grows_both ts (t ∷ []) p r.0 (put t r.0) r.2 (grows_put t r.0))
-  atoms_read (Grammar.quiet_atom {is = is} {ts = ts} at d) p u fits =
+  atoms_read (Grammar.quiet_atom {is = is} {ts = ts} at ignore d) p u fits =
       let r = atoms_read d p u fits in
-      (ended r.0, both u is (item at Quiet ∷ []) p r.0 (ended r.0) r.1 (λ rest. refl), grows_ended ts p r.0 r.2)
+      (ended r.0, both u is (item at (Quiet ignore) ∷ []) p r.0 (ended r.0) r.1 (λ rest. refl), grows_ended ts p r.0 r.2)
 
 -- what has a tree is read, and gives that tree
 pub tree_reads : (is : List Item) (t : Shape) → IsTree is t → read is start ≡ Ok t

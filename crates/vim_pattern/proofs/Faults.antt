@@ -1,18 +1,19 @@
 -- The reading gives the tree, or the first fault.
 use Rattle.std.proofs.Common.{◌≡◌, ℕ, length, List, [], ◌∷◌, ◌++◌, Bool, true, false, Ok, Err, refl, sym, ◌∙◌, ap, subst, append_assoc, append-nil}
-use Rattle.std.specs.Prelude.{Result, nat_lt, cond}
-use Rattle.vim_pattern.specs.declared.node.Leaf.{Leaf}
-use Rattle.vim_pattern.specs.declared.node.Leaf.TheVariants.{Any}
-use Rattle.vim_pattern.specs.declared.node.Times.{Times}
-use Rattle.vim_pattern.specs.declared.node.Kind.{Kind}
-use Rattle.vim_pattern.specs.declared.node.Kind.TheVariants.{Counted, Plain, External, Optional}
-use Rattle.vim_pattern.specs.declared.node.Cause.TheVariants as cause
-use Rattle.vim_pattern.specs.declared.node.Item.{Item}
-use Rattle.vim_pattern.specs.declared.node.Sign.{Sign}
-use Rattle.vim_pattern.specs.declared.node.Sign.TheVariants.{Atom, Multi, Open, Close, Square, Bar, Also, Quiet, Wrong}
+use Rattle.std.specs.Prelude.{Result, nat_lt, cond, Option}
+use Rattle.pattern_items.specs.declared.atom.Atom.{Atom as AnyAtom}
+use Rattle.pattern_items.specs.declared.atom.Atom.TheVariants.{LineEnd}
+use Rattle.pattern_items.specs.declared.item.Multi.{Multi as AnyMulti}
+use Rattle.pattern_items.specs.declared.item.Kind.{Kind}
+use Rattle.pattern_items.specs.declared.item.Kind.TheVariants.{Counted, Plain, External, Optional}
+use Rattle.pattern_items.specs.declared.cause.PatternCause.TheVariants as cause
+use Rattle.pattern_items.specs.declared.item.Item.{Item}
+use Rattle.pattern_items.specs.declared.item.Sign.{Sign}
+use Rattle.pattern_items.specs.declared.item.Sign.TheVariants.{Atom, Multi, Open, Close, Square, Bar, Also, Quiet, Wrong}
 use Rattle.vim_pattern.specs.Shape.{Shape, one}
+use Rattle.pattern_items.specs.Place.{item}
 use Rattle.vim_pattern.specs.Grammar
-use Rattle.vim_pattern.specs.Grammar.{item, IsPattern, IsAtoms, IsTree, IsStart}
+use Rattle.vim_pattern.specs.Grammar.{IsPattern, IsAtoms, IsTree, IsStart}
 use Rattle.vim_pattern.specs.Fault.{Fault, fault_at, is_multi, ends_in_multi, Opened, open_with, open_after, outermost_of, innermost, blame, IsFault, at_item, at_end}
 use Rattle.vim_pattern.specs.Read.{Last, nothing, loose, fixed, Part, new_part, settled, pattern_of, put, ended, with_bar, with_also, top_at, Outer, State, start, Step, in_list, step, after, read, finish, outermost, close_kind, list_step, square_step, multi_step}
 use Rattle.vim_pattern.proofs.Complete.{tree_reads}
@@ -40,9 +41,9 @@ top_completes (Counted n) is from q p os h = (item 0 Close ∷ [], _, kept_close
 top_completes (External n) is from q p os h = (item 0 Close ∷ [], _, kept_close (External n) is from 0 q p os h)
 top_completes Plain is from q p os h = (item 0 Close ∷ [], _, kept_close Plain is from 0 q p os h)
 top_completes Optional is from q p os h =
-    let a = kept_atom h (item 0 (Atom Any) ∷ []) (one Any) (Grammar.leaf 0 Any) in
-    let l = list_completes (settled p) (one Any) (is ++ (item 0 (Atom Any) ∷ [])) a.ks a.room from a.js q os a.below a.here a.all in
-    (item 0 (Atom Any) ∷ item 0 Square ∷ [], l.0, rw (← append_assoc is (item 0 (Atom Any) ∷ []) (item 0 Square ∷ [])) l.1)
+    let a = kept_atom h (item 0 (Atom LineEnd) ∷ []) (one LineEnd) (Grammar.leaf 0 LineEnd) in
+    let l = list_completes (settled p) (one LineEnd) (is ++ (item 0 (Atom LineEnd) ∷ [])) a.ks a.room from a.js q os a.below a.here a.all in
+    (item 0 (Atom LineEnd) ∷ item 0 Square ∷ [], l.0, rw (← append_assoc is (item 0 (Atom LineEnd) ∷ []) (item 0 Square ∷ [])) l.1)
 
 completes : (u : List Outer) (is : List Item) (p : Part) → Stands is u p → IsStart is
 completes [] is p h = ([], pattern_of p, rw (append-nil is) (whole is p h))
@@ -65,7 +66,7 @@ abbrev Tells : List Outer → Last → ℕ → Sign → Step → Type 0
 Tells u l at sign (Ok s) = (is_fixed s.here.last ≡ is_multi sign) × (opens_of s.under ≡ open_with (opens_of u) at sign)
 Tells u l at sign (Err f) = f ≡ blame (is_fixed l) (opens_of u) at sign
 
-multi_tells : (u : List Outer) (bs cs ps : List Shape) (l : Last) (at : ℕ) (m : Times) (b : Bool) → Tells u l at (Multi m) (multi_step at m b (st u (record { branches = bs; concats = cs; pieces = ps; last = l })) l)
+multi_tells : (u : List Outer) (bs cs ps : List Shape) (l : Last) (at : ℕ) (m : AnyMulti) (b : Bool) → Tells u l at (Multi m) (multi_step at m b (st u (record { branches = bs; concats = cs; pieces = ps; last = l })) l)
 multi_tells u bs cs ps nothing at m b = refl
 multi_tells u bs cs ps (loose t) at m false = (refl, refl)
 multi_tells u bs cs ps (loose t) at m true = refl
@@ -117,8 +118,8 @@ tells [] p at Square = (refl, refl)
 tells (o ∷ os) p at Square = square_tells o.kind o.at at o.part p os
 tells u p at Bar = bar_tells u p (with_bar p) at (in_list u) refl
 tells u p at Also = also_tells u p (with_also p) at (in_list u) refl
-tells u p at Quiet = (refl, refl)
-tells u p at (Wrong c) = refl
+tells u p at (Quiet ignore) = (refl, refl)
+tells u p at (Wrong before c) = refl
 
 -- what is known when these items have been read
 record Read (done : List Item) (s : State) : Type 0 where
@@ -212,12 +213,12 @@ reached (i ∷ is) done s rest t r h =
     (λ x rx hx. reached is (done ++ (i ∷ [])) x rest t rx hx)
 
 -- an atom, and an item without room, may follow any start of a tree: they are never the first with which there is none
-pub atom_follows : (is : List Item) (at : ℕ) (l : Leaf) → IsStart is → IsStart (is ++ (item at (Atom l) ∷ []))
+pub atom_follows : (is : List Item) (at : ℕ) (l : AnyAtom) → IsStart is → IsStart (is ++ (item at (Atom l) ∷ []))
 atom_follows is at l h =
     let r = reached is [] start h.0 h.1 nothing_read (tree_reads (is ++ h.0) h.1 h.2) in
     completes (r.0).under (is ++ (item at (Atom l) ∷ [])) (put (one l) (r.0).here) (kept is (r.0).under (r.0).here at (Atom l) r.1.stands)
 
-pub quiet_follows : (is : List Item) (at : ℕ) → IsStart is → IsStart (is ++ (item at Quiet ∷ []))
-quiet_follows is at h =
+pub quiet_follows : (is : List Item) (at : ℕ) (ignore : Option Bool) → IsStart is → IsStart (is ++ (item at (Quiet ignore) ∷ []))
+quiet_follows is at ignore h =
     let r = reached is [] start h.0 h.1 nothing_read (tree_reads (is ++ h.0) h.1 h.2) in
-    completes (r.0).under (is ++ (item at Quiet ∷ [])) (ended (r.0).here) (kept is (r.0).under (r.0).here at Quiet r.1.stands)
+    completes (r.0).under (is ++ (item at (Quiet ignore) ∷ [])) (ended (r.0).here) (kept is (r.0).under (r.0).here at (Quiet ignore) r.1.stands)

@@ -1,18 +1,19 @@
 -- What is read is spelled by the grammar, and what has been read at any moment is the start of a tree.
 use Rattle.std.proofs.Common.{◌≡◌, ℕ, zero, suc, ◌+◌, ◌<◌, length, List, [], ◌∷◌, ◌++◌, Bool, true, false, Ok, Err, refl, sym, subst, append_assoc, append-nil, arith}
-use Rattle.std.specs.Prelude.{nat_lt, cond}
+use Rattle.std.specs.Prelude.{nat_lt, cond, Option}
 use Rattle.std.proofs.lemmas.Bool.{ltb-true}
-use Rattle.vim_pattern.specs.declared.node.Leaf.TheVariants.{Char}
-use Rattle.vim_pattern.specs.declared.node.Times.{Times}
-use Rattle.vim_pattern.specs.declared.node.Kind.{Kind}
-use Rattle.vim_pattern.specs.declared.node.Kind.TheVariants.{Counted, Plain, External, Optional}
-use Rattle.vim_pattern.specs.declared.node.Item.{Item}
-use Rattle.vim_pattern.specs.declared.node.Sign.{Sign}
-use Rattle.vim_pattern.specs.declared.node.Sign.TheVariants.{Atom, Multi, Open, Close, Square, Bar, Also, Quiet, Wrong}
-use Rattle.vim_pattern.specs.Shape.{Shape, one, group, external, repeat, seq_of, and_of, optional_of}
+use Rattle.pattern_items.specs.declared.atom.Atom.TheVariants.{Char}
+use Rattle.pattern_items.specs.declared.item.Multi.{Multi as AnyMulti}
+use Rattle.pattern_items.specs.declared.item.Kind.{Kind}
+use Rattle.pattern_items.specs.declared.item.Kind.TheVariants.{Counted, Plain, External, Optional}
+use Rattle.pattern_items.specs.declared.item.Item.{Item}
+use Rattle.pattern_items.specs.declared.item.Sign.{Sign}
+use Rattle.pattern_items.specs.declared.item.Sign.TheVariants.{Atom, Multi, Open, Close, Square, Bar, Also, Quiet, Wrong}
+use Rattle.vim_pattern.specs.Shape.{Shape, one, group, external, with_multi, seq_of, and_of, optional_of}
 use Rattle.vim_pattern.specs.Fault.{Fault, is_optional}
+use Rattle.pattern_items.specs.Place.{item}
 use Rattle.vim_pattern.specs.Grammar
-use Rattle.vim_pattern.specs.Grammar.{item, IsPattern, IsBranch, IsConcat, IsPiece, IsLoose, IsAtom, IsAtoms, IsTree, IsStart}
+use Rattle.vim_pattern.specs.Grammar.{IsPattern, IsBranch, IsConcat, IsPiece, IsLoose, IsAtom, IsAtoms, IsTree, IsStart}
 use Rattle.vim_pattern.specs.Read.{Last, nothing, loose, fixed, shapes_of, Part, new_part, settled, branch_of, pattern_of, put, ended, with_bar, with_also, Outer, State, Step, in_list, step, close_kind, list_step, square_step, multi_step}
 
 -- the branches before, each with its bar
@@ -96,15 +97,15 @@ module _ {room : ℕ} {is : List Item} {p : Part} (h : Holds room is p) where
     all = rw h.all (simp append_assoc);
   }
 
-  end_piece : (at : ℕ) → Holds room (is ++ (item at Quiet ∷ [])) (ended p)
-  end_piece at = record {
+  end_piece : (at : ℕ) (ignore : Option Bool) → Holds room (is ++ (item at (Quiet ignore) ∷ [])) (ended p)
+  end_piece at ignore = record {
     bs = h.bs;
     cs = h.cs;
-    ps = (h.ps ++ h.ls) ++ (item at Quiet ∷ []);
+    ps = (h.ps ++ h.ls) ++ (item at (Quiet ignore) ∷ []);
     ls = [];
     of_branches = h.of_branches;
     of_concats = h.of_concats;
-    of_pieces = Grammar.quiet at concat_here;
+    of_pieces = Grammar.quiet at ignore concat_here;
     of_last = last_none;
     all = rw h.all (simp (append_assoc, append-nil));
   }
@@ -143,9 +144,9 @@ put_atom : (k : Bool) (room : ℕ) (is : List Item) (p : Part) (js : List Item) 
 put_atom false room is p js t h e = put_loose h js t (Grammar.atom e)
 put_atom true room is p js t h e = Grammar.next_atom h e
 
-put_quiet : (k : Bool) (room : ℕ) (is : List Item) (p : Part) (at : ℕ) → Spells k room is p → Spells k room (is ++ (item at Quiet ∷ [])) (ended p)
-put_quiet false room is p at h = end_piece h at
-put_quiet true room is p at h = rw (append-nil (settled p)) (Grammar.quiet_atom at h)
+put_quiet : (k : Bool) (room : ℕ) (is : List Item) (p : Part) (at : ℕ) (ignore : Option Bool) → Spells k room is p → Spells k room (is ++ (item at (Quiet ignore) ∷ [])) (ended p)
+put_quiet false room is p at ignore h = end_piece h at ignore
+put_quiet true room is p at ignore h = rw (append-nil (settled p)) (Grammar.quiet_atom at ignore h)
 
 -- a group or a list is whole: its atom goes to what had been read before it
 pub back_to : {room : ℕ} {js : List Item} {at : ℕ} {k : Kind} {p : Part} {os : List Outer} → Under room js (record { at = at; kind = k; part = p } ∷ os) →
@@ -183,8 +184,8 @@ module _ {is : List Item} {u : List Outer} {p : Part} (h : Stands is u p) where
   kept_loose : in_list u ≡ false → (js : List Item) (t : Shape) → IsLoose h.room js t → Stands (is ++ js) u (put t p)
   kept_loose e js t d = with_holds e js (put t p) (put_loose (holds_here e) js t d)
 
-  kept_quiet : (at : ℕ) → Stands (is ++ (item at Quiet ∷ [])) u (ended p)
-  kept_quiet at = with_here (item at Quiet ∷ []) (ended p) (put_quiet (in_list u) h.room h.ks p at h.here)
+  kept_quiet : (at : ℕ) (ignore : Option Bool) → Stands (is ++ (item at (Quiet ignore) ∷ [])) u (ended p)
+  kept_quiet at ignore = with_here (item at (Quiet ignore) ∷ []) (ended p) (put_quiet (in_list u) h.room h.ks p at ignore h.here)
 
   kept_bar : (at : ℕ) (f : Fault) (b : Bool) → in_list u ≡ b → Kept (is ++ (item at Bar ∷ [])) (cond b (Err f) (Ok (st u (with_bar p))))
   kept_bar at f true e = tt
@@ -197,9 +198,9 @@ module _ {is : List Item} {u : List Outer} {p : Part} (h : Stands is u p) where
 loose_of : {room : ℕ} {is : List Item} {t : Shape} → IsLast room is (loose t) → IsLoose room is t
 loose_of (last_loose d) = d
 
-times_here : (room : ℕ) (is : List Item) (bs cs ps : List Shape) (t : Shape) (at : ℕ) (m : Times) →
+times_here : (room : ℕ) (is : List Item) (bs cs ps : List Shape) (t : Shape) (at : ℕ) (m : AnyMulti) →
     Holds room is (record { branches = bs; concats = cs; pieces = ps; last = loose t }) →
-    Holds room (is ++ (item at (Multi m) ∷ [])) (record { branches = bs; concats = cs; pieces = ps; last = fixed (repeat t m) })
+    Holds room (is ++ (item at (Multi m) ∷ [])) (record { branches = bs; concats = cs; pieces = ps; last = fixed (with_multi m t) })
 times_here room is bs cs ps t at m h = record {
   bs = h.bs;
   cs = h.cs;
@@ -212,12 +213,12 @@ times_here room is bs cs ps t at m h = record {
   all = rw h.all (simp append_assoc);
 }
 
-kept_last : (is : List Item) (u : List Outer) (bs cs ps : List Shape) (l : Last) (at : ℕ) (m : Times) (b : Bool) → in_list u ≡ b →
+kept_last : (is : List Item) (u : List Outer) (bs cs ps : List Shape) (l : Last) (at : ℕ) (m : AnyMulti) (b : Bool) → in_list u ≡ b →
     Stands is u (record { branches = bs; concats = cs; pieces = ps; last = l }) →
     Kept (is ++ (item at (Multi m) ∷ [])) (multi_step at m b (st u (record { branches = bs; concats = cs; pieces = ps; last = l })) l)
 kept_last is u bs cs ps nothing at m b e h = tt
 kept_last is u bs cs ps (loose t) at m false e h =
-    with_holds h e (item at (Multi m) ∷ []) (record { branches = bs; concats = cs; pieces = ps; last = fixed (repeat t m) }) (times_here h.room h.ks bs cs ps t at m (holds_here h e))
+    with_holds h e (item at (Multi m) ∷ []) (record { branches = bs; concats = cs; pieces = ps; last = fixed (with_multi m t) }) (times_here h.room h.ks bs cs ps t at m (holds_here h e))
 kept_last is u bs cs ps (loose t) at m true e h = tt
 kept_last is u bs cs ps (fixed t) at m b e h = tt
 
@@ -272,5 +273,5 @@ kept is [] p at Square h = kept_loose h refl (item at Square ∷ []) (one (Char 
 kept is (o ∷ os) p at Square h = kept_square o.kind is o.at at o.part p os h
 kept is u p at Bar h = kept_bar h at _ (in_list u) refl
 kept is u p at Also h = kept_also h at _ (in_list u) refl
-kept is u p at Quiet h = kept_quiet h at
-kept is u p at (Wrong c) h = tt
+kept is u p at (Quiet ignore) h = kept_quiet h at ignore
+kept is u p at (Wrong before c) h = tt

@@ -2,11 +2,11 @@
 use Rattle.std.proofs.Common.{◌≡◌, ℕ, List, [], ◌∷◌, ◌++◌, map, refl, ap, ◌∙◌, Err, Ok, false, length}
 use Rattle.std.specs.Prelude.{reverse}
 use Rattle.std.proofs.lemmas.List.{map-append, reverse-append, length-reverse, length-map}
-use Rattle.vim_pattern.specs.declared.node.Cause.TheVariants as cause
+use Rattle.pattern_items.specs.declared.cause.PatternCause.TheVariants as cause
 use Rattle.vim_pattern.specs.declared.build.OpenItem.{OpenItem}
 use Rattle.vim_pattern.specs.Fault.{fault_at}
 use Rattle.vim_pattern.specs.Shape.{one}
-use Rattle.vim_pattern.specs.declared.node.Leaf.TheVariants.{Char}
+use Rattle.pattern_items.specs.declared.atom.Atom.TheVariants.{Char}
 use Rattle.vim_pattern.specs.Read.{Part, Outer, State, finish, outermost, in_list, square_step, on_part, put}
 use Rattle.vim_pattern.specs.Built.{under_of, outer_of}
 

@@ -1,5 +1,5 @@
 -- What the reader has built, without addresses.
-use Rattle.std.specs.Prelude.{ℕ, ◌≡◌, ◌<◌, length, Option, Some, None, Result, Ok, Err, List, [], map, reverse}
+use Rattle.std.specs.Prelude.{◌≡◌, ◌<◌, length, Option, Some, None, Result, Ok, Err, List, [], map, reverse}
 use Rattle.vim_pattern.specs.declared.node.Node.{Node}
 use Rattle.vim_pattern.specs.declared.build.Join.{Join}
 use Rattle.vim_pattern.specs.declared.build.Join.TheVariants.{Pieces, Concats, Branches}
@@ -8,11 +8,12 @@ use Rattle.vim_pattern.specs.declared.build.LastNode.TheVariants.{Nothing, Loose
 use Rattle.vim_pattern.specs.declared.build.Built.{Built}
 use Rattle.vim_pattern.specs.declared.build.OpenItem.{OpenItem}
 use Rattle.vim_pattern.specs.declared.read.Reading.{Reading}
-use Rattle.vim_pattern.specs.declared.read.PatternError.{PatternError}
-use Rattle.vim_pattern.specs.declared.read.PatternError.TheVariants.{At, Memory}
+use Rattle.vim_pattern.specs.declared.error.PatternError.{PatternError}
+use Rattle.vim_pattern.specs.declared.error.PatternError.TheVariants.{At, Memory}
 use Rattle.vim_pattern.specs.Fault.{Fault, fault_at}
-use Rattle.vim_pattern.specs.declared.node.PatternUse.{PatternUse}
-use Rattle.vim_pattern.specs.Pattern.{HasFault}
+use Rattle.vim_pattern.specs.Pattern.{IsSummaryOf}
+use Rattle.vim_pattern.specs.Tree.{PatternTree}
+use Rattle.pattern_items.specs.declared.item.Item.{Item}
 use Rattle.vim_pattern.specs.Shape.{Shape, bare, seq, and, or, optional_of}
 use Rattle.vim_pattern.specs.Read.{Last, nothing, loose, fixed, Part, Outer, State}
 
@@ -46,7 +47,7 @@ IsList ts (Some n) = (0 < length ts) × (bare n ≡ optional_of ts)
 abbrev pub state_of : Reading → State
 state_of r = record { here = part_of r.here; under = under_of r.under.items }
 
--- What a function returned, seen by `view`, is what the rules give, unless memory ran out.
+-- What a step returned, seen by `view`, is what the rules give, unless memory ran out.
 abbrev pub Fails : {Y : Type 0} → PatternError → Result Y Fault → Type 0
 Fails (At n c) rules = rules ≡ Err (fault_at n c)
 Fails Memory rules = Unit {0}
@@ -55,7 +56,7 @@ abbrev pub Gives : {X Y : Type 0} → (X → Y) → Result X PatternError → Re
 Gives view (Ok x) rules = rules ≡ Ok (view x)
 Gives view (Err e) rules = Fails e rules
 
--- what a reading of a text returned is its tree or its fault, or memory ran out
-abbrev pub Refuses : List ℕ → PatternUse → PatternError → Type 0
-Refuses text usage (At n c) = HasFault text usage (fault_at n c)
-Refuses text usage Memory = Unit {0}
+-- what a reading of items returned is the tree that the rules give, with the items' summary
+abbrev pub GivesTree : List Item → Result PatternTree PatternError → Result Shape Fault → Type 0
+GivesTree is (Ok t) rules = (rules ≡ Ok t.node) × IsSummaryOf is t
+GivesTree is (Err e) rules = Fails e rules

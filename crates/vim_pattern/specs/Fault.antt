@@ -1,19 +1,20 @@
 -- The fault of items that have no tree. It belongs to the first item with which the items before it are
 -- the start of no tree. If there is no such item, it is Unclosed, at the first item that is still open.
-use Rattle.std.specs.Prelude.{◌≡◌, ℕ, if◌then◌else◌, List, [], ◌∷◌, ◌++◌, Bool, true, false}
-use Rattle.vim_pattern.specs.declared.node.Kind.{Kind}
-use Rattle.vim_pattern.specs.declared.node.Kind.TheVariants.{Counted, Plain, External, Optional}
-use Rattle.vim_pattern.specs.declared.node.Cause.{Cause}
-use Rattle.vim_pattern.specs.declared.node.Cause.TheVariants as cause
-use Rattle.vim_pattern.specs.declared.node.Item.{Item}
-use Rattle.vim_pattern.specs.declared.node.Sign.{Sign}
-use Rattle.vim_pattern.specs.declared.node.Sign.TheVariants.{Atom, Multi, Open, Close, Square, Bar, Also, Quiet, Wrong}
+use Rattle.std.specs.Prelude.{◌≡◌, ℕ, ◌+◌, if◌then◌else◌, List, [], ◌∷◌, ◌++◌, Bool, true, false}
+use Rattle.pattern_items.specs.declared.item.Kind.{Kind}
+use Rattle.pattern_items.specs.declared.item.Kind.TheVariants.{Counted, Plain, External, Optional}
+use Rattle.pattern_items.specs.declared.cause.PatternCause.{PatternCause}
+use Rattle.pattern_items.specs.declared.cause.PatternCause.TheVariants as cause
+use Rattle.pattern_items.specs.declared.item.Item.{Item}
+use Rattle.pattern_items.specs.declared.item.Sign.{Sign}
+use Rattle.pattern_items.specs.declared.item.Sign.TheVariants.{Atom, Multi, Open, Close, Square, Bar, Also, Quiet, Wrong}
 use Rattle.vim_pattern.specs.Shape.{Shape}
 use Rattle.vim_pattern.specs.Grammar.{IsTree, IsStart}
 
+-- the place of the offending character, from 0, and the cause
 pub record Fault : Type 0 where
   pub at : ℕ
-  pub cause : Cause
+  pub cause : PatternCause
 
 -- the last of these items is a multi
 abbrev pub is_multi : Sign → Bool
@@ -63,12 +64,13 @@ abbrev pub outermost_of : Opened → List Opened → ℕ
 outermost_of o [] = o.at
 outermost_of o (p ∷ os) = outermost_of p os
 
-abbrev pub fault_at : ℕ → Cause → Fault
+abbrev pub fault_at : ℕ → PatternCause → Fault
 fault_at at c = record { at = at; cause = c }
 
--- what is wrong with an item behind others: a multi may come after a multi, and a bar may leave an optional list unclosed
+-- What is wrong with an item behind others. A multi may come after a multi, and a bar or an ampersand may leave an
+-- optional list unclosed. Atoms and items that take no room are always the start of a tree with what is before them.
 abbrev pub blame : Bool → List Opened → ℕ → Sign → Fault
-blame after_multi os at (Wrong c) = fault_at at c
+blame after_multi os at (Wrong before c) = fault_at (at + before) c
 blame after_multi os at (Open k) = fault_at at cause.TooNested
 blame after_multi os at Close = fault_at at cause.UnopenedClose
 blame after_multi os at Square = fault_at at cause.EmptyOptional
@@ -76,7 +78,7 @@ blame after_multi os at (Multi m) = fault_at at (if after_multi then cause.Doubl
 blame after_multi os at Bar = fault_at (innermost os) cause.Unclosed
 blame after_multi os at Also = fault_at (innermost os) cause.Unclosed
 blame after_multi os at (Atom l) = fault_at at cause.BadCode
-blame after_multi os at Quiet = fault_at at cause.BadCode
+blame after_multi os at (Quiet ignore) = fault_at at cause.BadCode
 
 pub data IsFault : List Item → Fault → Type 0 where
   at_item : (before : List Item) (i : Item) (more : List Item) → IsStart before → (IsStart (before ++ (i ∷ [])) → ⊥) →

@@ -1,18 +1,15 @@
 -- The grammar. A pattern is one or more branches with `\|` between them, a branch one or more concats
 -- with `\&` between them, a concat a list of pieces, and a piece an atom with at most one multi after it.
 -- The number is how many levels may still be opened.
-use Rattle.std.specs.Prelude.{◌≡◌, ℕ, suc, List, [], ◌∷◌, ◌++◌}
-use Rattle.vim_pattern.specs.declared.node.Leaf.{Leaf}
-use Rattle.vim_pattern.specs.declared.node.Leaf.TheVariants.{Char}
-use Rattle.vim_pattern.specs.declared.node.Times.{Times}
-use Rattle.vim_pattern.specs.declared.node.Kind.TheVariants.{Counted, Plain, External, Optional}
-use Rattle.vim_pattern.specs.declared.node.Item.{Item}
-use Rattle.vim_pattern.specs.declared.node.Sign.{Sign}
-use Rattle.vim_pattern.specs.declared.node.Sign.TheVariants.{Atom, Multi, Open, Close, Square, Bar, Also, Quiet}
-use Rattle.vim_pattern.specs.Shape.{Shape, one, group, external, repeat, seq_of, and_of, or_of, optional_of}
-
-abbrev pub item : ℕ → Sign → Item
-item at sign = record { at = at; sign = sign }
+use Rattle.std.specs.Prelude.{◌≡◌, ℕ, suc, List, [], ◌∷◌, ◌++◌, Bool, Option}
+use Rattle.pattern_items.specs.declared.atom.Atom.{Atom as AnyAtom}
+use Rattle.pattern_items.specs.declared.atom.Atom.TheVariants.{Char}
+use Rattle.pattern_items.specs.declared.item.Multi.{Multi as AnyMulti}
+use Rattle.pattern_items.specs.declared.item.Kind.TheVariants.{Counted, Plain, External, Optional}
+use Rattle.pattern_items.specs.declared.item.Item.{Item}
+use Rattle.pattern_items.specs.declared.item.Sign.TheVariants.{Atom, Multi, Open, Close, Square, Bar, Also, Quiet}
+use Rattle.pattern_items.specs.Place.{item}
+use Rattle.vim_pattern.specs.Shape.{Shape, one, group, external, with_multi, seq_of, and_of, or_of, optional_of}
 
 mutual
   -- one or more branches
@@ -27,24 +24,28 @@ mutual
     and_concat : {room : ℕ} {is : List Item} {ts : List Shape} {js : List Item} {us : List Shape} (at : ℕ) →
         IsBranch room is ts → IsConcat room js us → IsBranch room (is ++ (item at Also ∷ js)) (ts ++ (seq_of us ∷ []))
 
-  -- any number of pieces; an item without room may stand between them
+  -- any number of pieces; an item that takes no room may stand between them
   pub data IsConcat : ℕ → List Item → List Shape → Type 0 where
     none : {room : ℕ} → IsConcat room [] []
     piece : {room : ℕ} {is : List Item} {ts : List Shape} {js : List Item} {t : Shape} →
         IsConcat room is ts → IsPiece room js t → IsConcat room (is ++ js) (ts ++ (t ∷ []))
-    quiet : {room : ℕ} {is : List Item} {ts : List Shape} (at : ℕ) → IsConcat room is ts → IsConcat room (is ++ (item at Quiet ∷ [])) ts
+    quiet : {room : ℕ} {is : List Item} {ts : List Shape} (at : ℕ) (ignore : Option Bool) →
+        IsConcat room is ts → IsConcat room (is ++ (item at (Quiet ignore) ∷ [])) ts
 
+  -- an atom alone, or with its multi
   pub data IsPiece : ℕ → List Item → Shape → Type 0 where
     once : {room : ℕ} {is : List Item} {t : Shape} → IsLoose room is t → IsPiece room is t
-    times : {room : ℕ} {is : List Item} {t : Shape} (at : ℕ) (m : Times) → IsLoose room is t → IsPiece room (is ++ (item at (Multi m) ∷ [])) (repeat t m)
+    times : {room : ℕ} {is : List Item} {t : Shape} (at : ℕ) (m : AnyMulti) →
+        IsLoose room is t → IsPiece room (is ++ (item at (Multi m) ∷ [])) (with_multi m t)
 
   -- an atom outside of an optional list, where a bracket is a character
   pub data IsLoose : ℕ → List Item → Shape → Type 0 where
     atom : {room : ℕ} {is : List Item} {t : Shape} → IsAtom room is t → IsLoose room is t
     square : {room : ℕ} (at : ℕ) → IsLoose room (item at Square ∷ []) (one (Char 93))
 
+  -- one item, a group of any kind, or an optional list of one atom or more
   pub data IsAtom : ℕ → List Item → Shape → Type 0 where
-    leaf : {room : ℕ} (at : ℕ) (l : Leaf) → IsAtom room (item at (Atom l) ∷ []) (one l)
+    leaf : {room : ℕ} (at : ℕ) (l : AnyAtom) → IsAtom room (item at (Atom l) ∷ []) (one l)
     counted : {room : ℕ} {is : List Item} {ts : List Shape} (at : ℕ) (n : ℕ) (to : ℕ) →
         IsPattern room is ts → IsAtom (suc room) (item at (Open (Counted n)) ∷ (is ++ (item to Close ∷ []))) (group (or_of ts) n)
     plain : {room : ℕ} {is : List Item} {ts : List Shape} (at : ℕ) (to : ℕ) →
@@ -54,14 +55,15 @@ mutual
     optional : {room : ℕ} {is : List Item} {t : Shape} {ts : List Shape} (at : ℕ) (to : ℕ) →
         IsAtoms room is (t ∷ ts) → IsAtom (suc room) (item at (Open Optional) ∷ (is ++ (item to Square ∷ []))) (optional_of (t ∷ ts))
 
-  -- the atoms of an optional list
+  -- the atoms of an optional list, of which none has a multi
   pub data IsAtoms : ℕ → List Item → List Shape → Type 0 where
     no_atoms : {room : ℕ} → IsAtoms room [] []
     next_atom : {room : ℕ} {is : List Item} {ts : List Shape} {js : List Item} {t : Shape} →
         IsAtoms room is ts → IsAtom room js t → IsAtoms room (is ++ js) (ts ++ (t ∷ []))
-    quiet_atom : {room : ℕ} {is : List Item} {ts : List Shape} (at : ℕ) → IsAtoms room is ts → IsAtoms room (is ++ (item at Quiet ∷ [])) ts
+    quiet_atom : {room : ℕ} {is : List Item} {ts : List Shape} (at : ℕ) (ignore : Option Bool) →
+        IsAtoms room is ts → IsAtoms room (is ++ (item at (Quiet ignore) ∷ [])) ts
 
--- the tree of a list of items
+-- the tree of a list of items: 100 levels may be opened
 abbrev pub IsTree : List Item → Shape → Type 0
 IsTree is t = (ts : List Shape) × IsPattern 100 is ts × (t ≡ or_of ts)
 

@@ -1,16 +1,16 @@
 -- Reading from the left: what has been read so far, and the first item that cannot follow it.
-use Rattle.std.specs.Prelude.{ℕ, nat_lt, if◌then◌else◌, length, List, [], ◌∷◌, ◌++◌, Result, Ok, Err, Bool, false}
-use Rattle.vim_pattern.specs.declared.node.Leaf.TheVariants.{Char}
-use Rattle.vim_pattern.specs.declared.node.Times.{Times}
-use Rattle.vim_pattern.specs.declared.node.Kind.{Kind}
-use Rattle.vim_pattern.specs.declared.node.Kind.TheVariants.{Counted, Plain, External, Optional}
-use Rattle.vim_pattern.specs.declared.node.Cause.{Cause}
-use Rattle.vim_pattern.specs.declared.node.Cause.TheVariants as cause
-use Rattle.vim_pattern.specs.declared.node.Item.{Item}
-use Rattle.vim_pattern.specs.declared.node.Sign.{Sign}
-use Rattle.vim_pattern.specs.declared.node.Sign.TheVariants.{Atom, Multi, Open, Close, Square, Bar, Also, Quiet, Wrong}
+use Rattle.std.specs.Prelude.{ℕ, ◌+◌, nat_lt, if◌then◌else◌, length, List, [], ◌∷◌, ◌++◌, Result, Ok, Err, Bool, false}
+use Rattle.pattern_items.specs.declared.atom.Atom.TheVariants.{Char}
+use Rattle.pattern_items.specs.declared.item.Multi.{Multi as AnyMulti}
+use Rattle.pattern_items.specs.declared.item.Kind.{Kind}
+use Rattle.pattern_items.specs.declared.item.Kind.TheVariants.{Counted, Plain, External, Optional}
+use Rattle.pattern_items.specs.declared.cause.PatternCause.{PatternCause}
+use Rattle.pattern_items.specs.declared.cause.PatternCause.TheVariants as cause
+use Rattle.pattern_items.specs.declared.item.Item.{Item}
+use Rattle.pattern_items.specs.declared.item.Sign.{Sign}
+use Rattle.pattern_items.specs.declared.item.Sign.TheVariants.{Atom, Multi, Open, Close, Square, Bar, Also, Quiet, Wrong}
 use Rattle.vim_pattern.specs.Fault.{Fault, fault_at, is_optional}
-use Rattle.vim_pattern.specs.Shape.{Shape, one, group, external, repeat, seq_of, and_of, or_of, optional_of}
+use Rattle.vim_pattern.specs.Shape.{Shape, one, group, external, with_multi, seq_of, and_of, or_of, optional_of}
 
 -- what stands directly before: nothing that a multi can repeat, an atom, or a piece that has its multi
 pub data Last : Type 0 where
@@ -70,7 +70,7 @@ start = record { here = new_part; under = [] }
 abbrev pub Step : Type 0
 Step = Result State Fault
 
-abbrev pub refuse : ℕ → Cause → Step
+abbrev pub refuse : ℕ → PatternCause → Step
 refuse at c = Err (record { at = at; cause = c })
 
 abbrev pub on_part : (Part → Part) → State → State
@@ -85,9 +85,9 @@ abbrev pub top_at : List Outer → ℕ
 top_at [] = 0
 top_at (o ∷ os) = o.at
 
-abbrev pub multi_step : ℕ → Times → Bool → State → Last → Step
+abbrev pub multi_step : ℕ → AnyMulti → Bool → State → Last → Step
 multi_step at m in_a_list s nothing = refuse at cause.NothingToRepeat
-multi_step at m in_a_list s (loose t) = if in_a_list then refuse at cause.NothingToRepeat else Ok (record s { here = record s.here { last = fixed (repeat t m) } })
+multi_step at m in_a_list s (loose t) = if in_a_list then refuse at cause.NothingToRepeat else Ok (record s { here = record s.here { last = fixed (with_multi m t) } })
 multi_step at m in_a_list s (fixed t) = refuse at cause.DoubleCount
 
 abbrev pub open_step : ℕ → Kind → State → Step
@@ -123,8 +123,8 @@ step s at Close = close_step at s.here s.under
 step s at Square = square_step at s s.under
 step s at Bar = if in_list s.under then refuse (top_at s.under) cause.Unclosed else Ok (on_part with_bar s)
 step s at Also = if in_list s.under then refuse (top_at s.under) cause.Unclosed else Ok (on_part with_also s)
-step s at Quiet = Ok (on_part ended s)
-step s at (Wrong c) = refuse at c
+step s at (Quiet ignore) = Ok (on_part ended s)
+step s at (Wrong before c) = refuse (at + before) c
 
 -- the first item that is still open
 abbrev pub outermost : Outer → List Outer → ℕ

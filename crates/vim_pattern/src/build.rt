@@ -6,7 +6,8 @@ ghost use Rattle.vim_pattern.specs.Built as built;
 ghost use Rattle.vim_pattern.specs.Built.{bares, pair_of, part_of};
 ghost use Rattle.vim_pattern.specs.Read as read;
 
-use crate::node::{Kind, Node, Times};
+use crate::Node;
+use pattern_items::{Kind, Multi};
 use std::alloc::{AllocError, Global};
 
 /// What joins parts.
@@ -70,14 +71,32 @@ fn joined(alloc: Global, how: Join, nodes: Vec<Node>) -> Result<Node, AllocError
 }
 
 fn at_most_once(alloc: Global, node: Node) -> Result<Node, AllocError>
-    ensures { IfOk result (λ n. bare n ≡ shape.repeat (bare node) shape.at_most_once) }
+    ensures { IfOk result (λ n. bare n ≡ shape.at_most_once (bare node)) }
 {
-    let times = Times {
+    Ok(Node::Repeat {
+        part: Box::new(alloc, node)?,
         least: 0,
         most: Some(1),
         lazy: false,
-    };
-    Ok(Node::Repeat(Box::new(alloc, node)?, times))
+    })
+}
+
+/// An atom with its multi.
+pub fn with_multi(alloc: Global, multi: Multi, node: Node) -> Result<Node, AllocError>
+    ensures { IfOk result (λ n. bare n ≡ shape.with_multi multi (bare node)) }
+{
+    let part = Box::new(alloc, node)?;
+    match multi {
+        Multi::Count(times) => Ok(Node::Repeat {
+            part,
+            least: times.least,
+            most: times.most,
+            lazy: times.lazy,
+        }),
+        Multi::Ahead { not } => Ok(Node::Ahead { part, not }),
+        Multi::Before { not, limit } => Ok(Node::Before { part, not, limit }),
+        Multi::Whole => Ok(Node::Whole(part)),
+    }
 }
 
 /// The node of an optional list.

@@ -1,47 +1,29 @@
-//! The reader.
+//! The reader: what has been read, what is open, and one item more.
 ghost use Rattle.std.specs.Prelude.{◌≡◌, ◌^◌, [], ◌∷◌, ◌++◌, ◌<◌, ◌≤◌, length, IfOk, List, ℕ, true, MatchOption, IfErr, ◌⊎◌};
-ghost use Rattle.vim_pattern.specs.Shape.{bare, Shape};
+ghost use Rattle.vim_pattern.specs.Shape.{bare};
 ghost use Rattle.vim_pattern.specs.Shape as shape;
-ghost use Rattle.vim_pattern.specs.Pattern.{IsTreeOf, HasFault};
-ghost use Rattle.vim_pattern.specs.Built.{Refuses, part_of, state_of, under_of, Gives};
+ghost use Rattle.vim_pattern.specs.Pattern.{IsTreeOf};
+ghost use Rattle.vim_pattern.specs.Answer.{TellsFault, HasNoTree};
+ghost use Rattle.vim_pattern.specs.Built.{GivesTree, part_of, state_of, under_of, Gives};
 ghost use Rattle.vim_pattern.specs.Read as read;
 ghost use Rattle.vim_pattern.specs.Fault as fault;
-ghost use Rattle.vim_pattern.specs.Items as items;
+ghost use Rattle.vim_pattern.specs.Pattern as pattern;
+ghost use Rattle.vim_pattern.specs.Summary as summary;
+ghost use Rattle.pattern_items.specs.Place.{items_of};
 
 use crate::build::{
     Built, LastNode, OpenItem, ended, list_of, new_part, pattern_of, put, with_also, with_bar,
+    with_multi,
 };
-use crate::items::{behind, context_next, sign_at};
-use crate::node::{Before, Cause, Context, Kind, Leaf, Level, Node, PatternUse, Sign, Times};
-use crate::spelling::spelling;
-use std::alloc::{AllocError, AllocFailed, Global};
+use crate::{Atom, Node, PatternCause, PatternError, PatternUse, Tree};
+use pattern_items::{Before, Context, Kind, Level, Multi, Placed, Sign, behind, next_item};
+use std::alloc::Global;
 
-/// Why a pattern wasn't read.
-#[derive(Drop)]
-pub enum PatternError {
-    At { at: usize, cause: Cause },
-    Memory,
-}
+/// The most characters of a pattern.
+const MOST_CHARACTERS: usize = 4000;
 
-impl From<AllocError> for PatternError {
-    ghost use Rattle.vim_pattern.specs.declared.read.PatternError.TheVariants.{Memory};
-
-    ghost from_gives = { λ _ e. e ≡ Memory };
-
-    fn from(_: AllocError) -> PatternError {
-        PatternError::Memory
-    }
-}
-
-impl<T: Drop> From<AllocFailed<T>> for PatternError {
-    ghost use Rattle.vim_pattern.specs.declared.read.PatternError.TheVariants.{Memory};
-
-    ghost from_gives = { λ _ e. e ≡ Memory };
-
-    fn from(_: AllocFailed<T>) -> PatternError {
-        PatternError::Memory
-    }
-}
+/// The most levels of a pattern: groups of every kind and optional lists that are open at a place.
+const MOST_LEVELS: usize = 100;
 
 /// What has been read, and what is open, the innermost last.
 #[derive(Drop)]
@@ -50,7 +32,7 @@ pub struct Reading {
     pub under: Vec<OpenItem>,
 }
 
-fn at<T>(at: usize, cause: Cause) -> Result<T, PatternError>
+fn at<T>(at: usize, cause: PatternCause) -> Result<T, PatternError>
     ensures { result ≡ Err (PatternError.At at cause) }
 {
     Err(PatternError::At { at, cause })
@@ -81,9 +63,9 @@ fn multi(
     alloc: Global,
     reading: Reading,
     place: usize,
-    times: Times,
+    found: Multi,
 ) -> Result<Reading, PatternError>
-    ensures { Gives state_of result (read.multi_step place times (read.in_list (under_of reading.under.items)) (state_of reading) (part_of reading.here).last) }
+    ensures { Gives state_of result (read.multi_step place found (read.in_list (under_of reading.under.items)) (state_of reading) (part_of reading.here).last) }
 {
     let (list, _) = top(&reading.under);
     let Reading { here, under } = reading;
@@ -94,13 +76,13 @@ fn multi(
         last,
     } = here;
     match last {
-        LastNode::Nothing => at(place, Cause::NothingToRepeat),
-        LastNode::Fixed(_) => at(place, Cause::DoubleCount),
+        LastNode::Nothing => at(place, PatternCause::NothingToRepeat),
+        LastNode::Fixed(_) => at(place, PatternCause::DoubleCount),
         LastNode::Loose(node) => {
             if list {
-                return at(place, Cause::NothingToRepeat);
+                return at(place, PatternCause::NothingToRepeat);
             }
-            let last = LastNode::Fixed(Node::Repeat(Box::new(alloc, node)?, times));
+            let last = LastNode::Fixed(with_multi(alloc, found, node)?);
             let here = Built {
                 branches,
                 concats,
@@ -122,7 +104,7 @@ fn open_item(
     ensures { Gives state_of result (read.open_step place kind (state_of reading)) }
 {
     let Reading { here, mut under } = reading;
-    if under.len() < 100 {
+    if under.len() < MOST_LEVELS {
         under.push(OpenItem {
             at: place,
             kind,
@@ -133,7 +115,7 @@ fn open_item(
             under,
         })
     } else {
-        at(place, Cause::TooNested)
+        at(place, PatternCause::TooNested)
     }
 }
 
@@ -152,7 +134,7 @@ fn close(alloc: Global, reading: Reading, place: usize) -> Result<Reading, Patte
 {
     let Reading { here, mut under } = reading;
     let Some(outer) = under.pop() else {
-        return at(place, Cause::UnopenedClose);
+        return at(place, PatternCause::UnopenedClose);
     };
     match outer.kind {
         Kind::Counted(number) => {
@@ -172,15 +154,15 @@ fn close(alloc: Global, reading: Reading, place: usize) -> Result<Reading, Patte
             )
         }
         Kind::Plain => back(outer.part, under, pattern_of(alloc, here)?),
-        Kind::Optional => at(place, Cause::UnopenedClose),
+        Kind::Optional => at(place, PatternCause::UnopenedClose),
     }
 }
 
-fn put_here(reading: Reading, leaf: Leaf) -> Result<Reading, PatternError>
-    ensures { Gives state_of result (Ok (read.on_part (read.put (shape.one leaf)) (state_of reading))) }
+fn put_here(reading: Reading, atom: Atom) -> Result<Reading, PatternError>
+    ensures { Gives state_of result (Ok (read.on_part (read.put (shape.one atom)) (state_of reading))) }
 {
     Ok(Reading {
-        here: put(reading.here, Node::One(leaf))?,
+        here: put(reading.here, Node::One(atom))?,
         under: reading.under,
     })
 }
@@ -192,10 +174,10 @@ fn end_list(alloc: Global, reading: Reading, place: usize) -> Result<Reading, Pa
 {
     let Reading { here, mut under } = reading;
     let Some(outer) = under.pop() else {
-        return at(place, Cause::UnopenedClose);
+        return at(place, PatternCause::UnopenedClose);
     };
     match list_of(alloc, here)? {
-        None => at(place, Cause::EmptyOptional),
+        None => at(place, PatternCause::EmptyOptional),
         Some(node) => back(outer.part, under, node),
     }
 }
@@ -208,7 +190,7 @@ fn square(alloc: Global, reading: Reading, place: usize) -> Result<Reading, Patt
     if list {
         end_list(alloc, reading, place)
     } else {
-        put_here(reading, Leaf::Char(']'))
+        put_here(reading, Atom::Char(']'))
     }
 }
 
@@ -217,7 +199,7 @@ fn bar(alloc: Global, reading: Reading) -> Result<Reading, PatternError>
 {
     let (list, open) = top(&reading.under);
     if list {
-        return at(open, Cause::Unclosed);
+        return at(open, PatternCause::Unclosed);
     }
     Ok(Reading {
         here: with_bar(alloc, reading.here)?,
@@ -230,7 +212,7 @@ fn also(alloc: Global, reading: Reading) -> Result<Reading, PatternError>
 {
     let (list, open) = top(&reading.under);
     if list {
-        return at(open, Cause::Unclosed);
+        return at(open, PatternCause::Unclosed);
     }
     Ok(Reading {
         here: with_also(alloc, reading.here)?,
@@ -240,28 +222,29 @@ fn also(alloc: Global, reading: Reading) -> Result<Reading, PatternError>
 
 /// One item more.
 fn step(alloc: Global, reading: Reading, place: usize, sign: Sign) -> Result<Reading, PatternError>
+    requires { place < 2 ^ 61 }
     ensures { Gives state_of result (read.step (state_of reading) place sign) }
 {
     match sign {
-        Sign::Atom(leaf) => put_here(reading, leaf),
-        Sign::Multi(times) => multi(alloc, reading, place, times),
+        Sign::Atom(atom) => put_here(reading, atom),
+        Sign::Multi(found) => multi(alloc, reading, place, found),
         Sign::Open(kind) => open_item(alloc, reading, place, kind),
         Sign::Close => close(alloc, reading, place),
         Sign::Square => square(alloc, reading, place),
         Sign::Bar => bar(alloc, reading),
         Sign::Also => also(alloc, reading),
-        Sign::Quiet => Ok(Reading {
+        Sign::Quiet { ignore: _ } => Ok(Reading {
             here: ended(reading.here)?,
             under: reading.under,
         }),
-        Sign::Wrong(cause) => at(place, cause),
+        Sign::Wrong { before, cause } => at(place + before as usize, cause),
     }
 }
 
 /// The place of the first item that is still open.
 #[tactic(auto, using(crate::proofs::Under::finish_open))]
 fn first_open(under: &[OpenItem]) -> Option<usize>
-    ensures { MatchOption result (under_of under.now ≡ []) (λ at. (p : read.Part) → read.finish p (under_of under.now) ≡ Err (fault.fault_at at Cause.Unclosed)) }
+    ensures { MatchOption result (under_of under.now ≡ []) (λ at. (p : read.Part) → read.finish p (under_of under.now) ≡ Err (fault.fault_at at PatternCause.Unclosed)) }
 {
     match under.split_first() {
         None => None,
@@ -275,67 +258,131 @@ fn finish(alloc: Global, reading: Reading) -> Result<Node, PatternError>
 {
     match first_open(&reading.under) {
         None => Ok(pattern_of(alloc, reading.here)?),
-        Some(open) => at(open, Cause::Unclosed),
+        Some(open) => at(open, PatternCause::Unclosed),
+    }
+}
+
+/// What the items say beside the nodes.
+#[derive(Clone, Copy)]
+pub struct Noted {
+    pub ignores_case: bool,
+    pub heeds_case: bool,
+    pub moves_start: bool,
+    pub line_end: bool,
+}
+
+fn asks_case(ignore: bool, sign: &Sign) -> bool
+    ensures { result ≡ pattern.asks_case ignore sign.now }
+{
+    match sign {
+        Sign::Quiet {
+            ignore: Some(asked),
+        } => *asked == ignore,
+        _ => false,
+    }
+}
+
+fn sets_match_start(sign: &Sign) -> bool
+    ensures { result ≡ pattern.sets_match_start sign.now }
+{
+    match sign {
+        Sign::Atom(Atom::MatchStart) => true,
+        _ => false,
+    }
+}
+
+fn holds_line_stop(sign: &Sign) -> bool
+    ensures { result ≡ pattern.holds_line_stop sign.now }
+{
+    match sign {
+        Sign::Atom(Atom::LineStop) => true,
+        _ => false,
+    }
+}
+
+fn noted_next(noted: Noted, sign: &Sign) -> Noted
+    ensures { result ≡ summary.noted_next noted sign.now }
+{
+    Noted {
+        ignores_case: noted.ignores_case || asks_case(true, sign),
+        heeds_case: noted.heeds_case || asks_case(false, sign),
+        moves_start: noted.moves_start || sets_match_start(sign),
+        line_end: noted.line_end || holds_line_stop(sign),
+    }
+}
+
+fn case_of(noted: Noted) -> Option<bool>
+    ensures { result ≡ summary.case_of noted }
+{
+    if noted.ignores_case {
+        Some(true)
+    } else if noted.heeds_case {
+        Some(false)
+    } else {
+        None
+    }
+}
+
+/// The tree of what has been read.
+fn tree_of(node: Node, noted: Noted, groups: u8, externals: u8) -> Tree
+    ensures { result ≡ summary.tree_of (bare node) noted groups externals }
+{
+    Tree {
+        node,
+        case: case_of(noted),
+        groups,
+        externals,
+        moves_start: noted.moves_start,
+        line_end: noted.line_end,
     }
 }
 
 /// The tree of a text's items, or their fault.
-#[tactic(auto, using(crate::proofs::Steps::items_step))]
-fn read_items(alloc: Global, text: &[char], usage: PatternUse) -> Result<Node, PatternError>
+fn read_items(alloc: Global, text: &[char], usage: PatternUse) -> Result<Tree, PatternError>
     requires { length text.now < 2 ^ 61 }
-    ensures { Gives bare result (read.read (items.items_of usage text.now) read.start) }
+    ensures { GivesTree (items_of usage text.now) result (read.read (items_of usage text.now) read.start) }
 {
     let mut context = Context {
         usage,
-        externals: 0,
         level: Level::Usual,
         before: Before::Begin,
         groups: 0,
+        externals: 0,
+        first: true,
     };
     let mut reading = Reading {
         here: new_part(alloc),
         under: Vec::new(alloc),
     };
+    let mut noted = Noted {
+        ignores_case: false,
+        heeds_case: false,
+        moves_start: false,
+        line_end: false,
+    };
     let mut place: usize = 0;
     let mut rest = text;
     while rest.len() > 0 {
-        let s = spelling(context.level, rest);
-        let sign = sign_at(alloc, context, rest, s)?;
-        context = context_next(context, s.raw, &sign);
+        let Placed { sign, len, next } = next_item(alloc, context, rest)?;
+        noted = noted_next(noted, &sign);
         reading = step(alloc, reading, place, sign)?;
-        place += s.len;
-        rest = behind(rest, s.len);
+        context = next;
+        place += len;
+        rest = behind(rest, len);
     }
-    finish(alloc, reading)
+    let node = finish(alloc, reading)?;
+    Ok(tree_of(node, noted, context.groups, context.externals))
 }
 
-/// The one tree of a text, or its fault.
-pub fn read_pattern(alloc: Global, text: &[char], usage: PatternUse) -> Result<Node, PatternError>
-    ensures tree { IfOk result (λ n. IsTreeOf text.now usage (bare n)) }
-    ensures fault { IfErr result (λ e. Refuses text.now usage e) }
+/// The one tree of a text for this use, or its first fault, with the place of the offending
+/// character, in characters from 0 (`pattern.txt`).
+pub fn read_pattern(alloc: Global, text: &[char], usage: PatternUse) -> Result<Tree, PatternError>
+    ensures tree { IfOk result (λ t. IsTreeOf text.now usage t) }
+    ensures fault { IfErr result (λ e. TellsFault text.now usage e) }
+    ensures no_tree { IfErr result (λ e. HasNoTree text.now usage e) }
 {
-    if text.len() > 4000 {
-        return at(4000, Cause::TooLong);
+    if text.len() > MOST_CHARACTERS {
+        return at(MOST_CHARACTERS, PatternCause::TooLong);
     }
     read_items(alloc, text, usage)
 }
-
-/// A text has at most one tree.
-pub fn one_tree()
-    ensures { (text : List ℕ) (usage : PatternUse) (t u : Shape) → IsTreeOf text usage t → IsTreeOf text usage u → t ≡ u }
-{}
-
-/// A text with a tree has no fault.
-pub fn not_both()
-    ensures { (text : List ℕ) (usage : PatternUse) (t : Shape) (f : fault.Fault) → IsTreeOf text usage t → HasFault text usage f → ⊥ }
-{}
-
-/// A text has at most one fault.
-pub fn one_fault()
-    ensures { (text : List ℕ) (usage : PatternUse) (f g : fault.Fault) → HasFault text usage f → HasFault text usage g → f ≡ g }
-{}
-
-/// A text has a tree or a fault.
-pub fn tree_or_fault()
-    ensures { (text : List ℕ) (usage : PatternUse) → ((t : Shape) × IsTreeOf text usage t) ⊎ ((f : fault.Fault) × HasFault text usage f) }
-{}
