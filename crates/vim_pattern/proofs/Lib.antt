@@ -6,3 +6,4 @@ pub mod TextLaws
 pub mod Progress
 pub mod Joined
 pub mod Under
+pub mod Rows

@@ -45,7 +45,7 @@ not_both text usage t f h (inl k) = let a : length text ≤ 4000 = h.short in le
 not_both text usage t f h (inr k) = faults.not_both k.1 t.node h.nodes
 
 -- the tree with these nodes and the items' summary
-abbrev summarized : List Item → Shape → PatternTree
+abbrev pub summarized : List Item → Shape → PatternTree
 summarized is t = record {
   node = t;
   case = case_of is;
