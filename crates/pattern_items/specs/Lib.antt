@@ -1,3 +1,4 @@
+pub mod CauseText
 pub mod Codes
 pub mod Numbers
 pub mod Multis

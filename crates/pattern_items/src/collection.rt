@@ -110,7 +110,6 @@ pub fn collection_len(text: &[char]) -> Option<usize>
 /// The place of the bracket that closes the collection whose bracket stands at `at`, both from 0
 /// (`/[]`). There is none where no bracket stands at `at`.
 pub fn collection_end(text: &[char], at: usize) -> Option<usize>
-    requires { length text.now < 2 ^ 61 }
     ensures { result ≡ spec.collection_end text.now at }
 {
     if at >= text.len() {

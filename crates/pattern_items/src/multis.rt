@@ -3,10 +3,10 @@ ghost use Rattle.std.specs.Prelude.{◌≡◌, ◌^◌, [], ◌∷◌, ◌<◌, 
 ghost use Rattle.pattern_items.specs.Multis as spec;
 ghost use Rattle.pattern_items.specs.Numbers as numbers;
 
+use crate::PatternCause;
 use crate::item::{Behind, Multi, Raw, Spelled, Times};
 use crate::numbers::digits;
 use crate::scan::front;
-use crate::PatternCause;
 
 fn bad_count(len: usize) -> Spelled
     ensures value { result ≡ spec.bad_count len }

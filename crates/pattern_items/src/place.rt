@@ -260,7 +260,12 @@ fn in_place(
         Raw::Dollar => Ok(dollar(context, behind(text, len))),
         Raw::Star => Ok(star(context)),
         Raw::Collection { line_end, before } => {
-            collection_sign(alloc, line_end, before, inner_of(first_of(text, len - 1), before))
+            collection_sign(
+                alloc,
+                line_end,
+                before,
+                inner_of(first_of(text, len - 1), before),
+            )
         }
         Raw::Multi(multi) => Ok(Sign::Multi(multi)),
         Raw::Group => Ok(group(context)),
@@ -278,10 +283,7 @@ fn in_place(
         Raw::Engine => Ok(Sign::Quiet { ignore: None }),
         Raw::Reference(number) => Ok(reference(context, number)),
         Raw::ExternalReference(number) => Ok(external_reference(context, number)),
-        Raw::LeftOut => Ok(wrong(PatternCause::LeftOut(copied(
-            alloc,
-            first_of(text, len),
-        )?))),
+        Raw::LeftOut => Ok(wrong(PatternCause::LeftOut(copied(alloc, first_of(text, len))?))),
         Raw::Wrong(cause) => Ok(wrong(cause)),
     }
 }

@@ -57,11 +57,14 @@ summarized is t = record {
 
 short : (text : List ℕ) (usage : PatternUse) → length text ≤ 4000 → ((t : Shape) × IsTree (items_of usage text) t) ⊎ ((f : Fault) × IsFault (items_of usage text) f) →
     ((t : PatternTree) × IsTreeOf text usage t) ⊎ ((f : Fault) × HasFault text usage f)
-short text usage few (inl h) = inl (summarized (items_of usage text) h.0, record {
-  short = few;
-  nodes = h.1;
-  summary = record { case = refl; groups = refl; externals = refl; moves_start = refl; line_end = refl };
-})
+short text usage few (inl h) = inl (
+  summarized (items_of usage text) h.0,
+  record {
+    short = few;
+    nodes = h.1;
+    summary = record { case = refl; groups = refl; externals = refl; moves_start = refl; line_end = refl };
+  },
+)
 short text usage few (inr h) = inr (h.0, inr (few, h.1))
 
 by_length : (text : List ℕ) (usage : PatternUse) → (4000 < length text) ⊎ (length text ≤ 4000) → ((t : PatternTree) × IsTreeOf text usage t) ⊎ ((f : Fault) × HasFault text usage f)

@@ -26,7 +26,10 @@ pub enum Node {
         lazy: bool,
     },
     /// A look ahead (`/\@=`, `/\@!`).
-    Ahead { part: Box<Node>, not: bool },
+    Ahead {
+        part: Box<Node>,
+        not: bool,
+    },
     /// A look behind (`/\@<=`, `/\@<!`).
     Before {
         part: Box<Node>,

@@ -30,11 +30,11 @@ impl Model for Tree {
     ghost coded = { coded_tree };
 
     ghost view = { λ t. record {
-        node = bare t.node;
-        case = t.case;
-        groups = t.groups;
-        externals = t.externals;
-        moves_start = t.moves_start;
-        line_end = t.line_end;
+      node = bare t.node;
+      case = t.case;
+      groups = t.groups;
+      externals = t.externals;
+      moves_start = t.moves_start;
+      line_end = t.line_end;
     } };
 }
