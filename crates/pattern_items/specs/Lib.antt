@@ -1,5 +1,6 @@
 pub mod CauseText
 pub mod Codes
+pub mod GroupNumbers
 pub mod Numbers
 pub mod Multis
 pub mod Letters

@@ -11,7 +11,6 @@ use Rattle.pattern_items.specs.declared.atom.Atom.{Atom}
 use Rattle.pattern_items.specs.declared.atom.Atom.TheVariants as atom
 use Rattle.pattern_items.specs.declared.item.Kind.{Kind}
 use Rattle.pattern_items.specs.declared.item.Kind.TheVariants as kind
-use Rattle.pattern_items.specs.declared.item.Item.{Item}
 use Rattle.pattern_items.specs.declared.item.Sign.{Sign}
 use Rattle.pattern_items.specs.declared.item.Sign.TheVariants as sign
 use Rattle.pattern_items.specs.declared.item.Raw.{Raw}
@@ -185,6 +184,11 @@ placed x text = record {
   len = (spelling x.first x.level text).len;
   next = context_next x (level_next x.level (spelling x.first x.level text).raw) (sign_at x text);
 }
+
+-- an item, with the place of its first character, from 0
+pub record Item : Type 0 where
+  pub at : ℕ
+  pub sign : Sign
 
 abbrev pub item : ℕ → Sign → Item
 item at s = record { at = at; sign = s }

@@ -119,13 +119,6 @@ pub enum Sign {
     Wrong { before: u8, cause: PatternCause },
 }
 
-/// An item, with the place of its first character, from 0.
-#[derive(Drop)]
-pub struct Item {
-    pub at: usize,
-    pub sign: Sign,
-}
-
 /// What stands before an item, for the items that ask.
 #[derive(Clone, Copy)]
 pub enum Before {

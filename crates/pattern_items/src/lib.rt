@@ -22,9 +22,6 @@ mod spelling;
 pub use atom::{Atom, CharRanges, SetPart};
 pub use cause::PatternCause;
 pub use collection::collection_end;
-pub use item::{
-    Before, Behind, Context, Item, Kind, Level, Multi, PatternUse, Placed, Raw, Sign, Spelled,
-    Times,
-};
+pub use item::{Before, Behind, Context, Kind, Level, Multi, PatternUse, Placed, Sign, Times};
 pub use place::next_item;
 pub use scan::behind;

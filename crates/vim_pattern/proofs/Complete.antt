@@ -5,10 +5,9 @@ use Rattle.pattern_items.specs.declared.atom.Atom.TheVariants.{Char}
 use Rattle.pattern_items.specs.declared.item.Multi.{Multi as AnyMulti}
 use Rattle.pattern_items.specs.declared.item.Kind.{Kind}
 use Rattle.pattern_items.specs.declared.item.Kind.TheVariants.{Counted, Plain, External, Optional}
-use Rattle.pattern_items.specs.declared.item.Item.{Item}
 use Rattle.pattern_items.specs.declared.item.Sign.TheVariants.{Multi, Open, Close, Square, Bar, Also, Quiet}
 use Rattle.vim_pattern.specs.Shape.{Shape, one, group, external, with_multi, seq_of, and_of, or_of, optional_of}
-use Rattle.pattern_items.specs.Place.{item}
+use Rattle.pattern_items.specs.Place.{Item, item}
 use Rattle.vim_pattern.specs.Grammar
 use Rattle.vim_pattern.specs.Grammar.{IsPattern, IsBranch, IsConcat, IsPiece, IsLoose, IsAtom, IsAtoms, IsTree}
 use Rattle.vim_pattern.specs.Read.{fixed, Part, new_part, settled, branch_of, put, ended, with_bar, with_also, Outer, State, start, in_list, after, read, list_step}

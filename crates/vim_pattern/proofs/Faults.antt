@@ -7,11 +7,10 @@ use Rattle.pattern_items.specs.declared.item.Multi.{Multi as AnyMulti}
 use Rattle.pattern_items.specs.declared.item.Kind.{Kind}
 use Rattle.pattern_items.specs.declared.item.Kind.TheVariants.{Counted, Plain, External, Optional}
 use Rattle.pattern_items.specs.declared.cause.PatternCause.TheVariants as cause
-use Rattle.pattern_items.specs.declared.item.Item.{Item}
 use Rattle.pattern_items.specs.declared.item.Sign.{Sign}
 use Rattle.pattern_items.specs.declared.item.Sign.TheVariants.{Atom, Multi, Open, Close, Square, Bar, Also, Quiet, Wrong}
 use Rattle.vim_pattern.specs.Shape.{Shape, one}
-use Rattle.pattern_items.specs.Place.{item}
+use Rattle.pattern_items.specs.Place.{Item, item}
 use Rattle.vim_pattern.specs.Grammar
 use Rattle.vim_pattern.specs.Grammar.{IsPattern, IsAtoms, IsTree, IsStart}
 use Rattle.vim_pattern.specs.Fault.{Fault, fault_at, is_multi, ends_in_multi, Opened, open_with, open_after, outermost_of, innermost, blame, IsFault, at_item, at_end}

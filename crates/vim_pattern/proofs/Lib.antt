@@ -6,4 +6,5 @@ pub mod TextLaws
 pub mod Progress
 pub mod Joined
 pub mod Under
+pub mod NumberLaws
 pub mod Rows

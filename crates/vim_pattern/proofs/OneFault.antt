@@ -2,7 +2,7 @@
 use Rattle.std.proofs.Common.{◌≡◌, ℕ, List, [], ◌∷◌, ◌++◌, Ok, Err, refl, sym, ◌∙◌, ap, subst, append_assoc, ◌⊎◌, inl, inr}
 use Rattle.std.specs.Prelude.{Result}
 use Rattle.pattern_items.specs.declared.cause.PatternCause.TheVariants as cause
-use Rattle.pattern_items.specs.declared.item.Item.{Item}
+use Rattle.pattern_items.specs.Place.{Item}
 use Rattle.vim_pattern.specs.Shape.{Shape}
 use Rattle.vim_pattern.specs.Grammar.{IsTree, IsStart}
 use Rattle.vim_pattern.specs.Fault.{Fault, fault_at, ends_in_multi, Opened, open_after, outermost_of, blame, IsFault, at_item, at_end}

@@ -4,10 +4,9 @@ use Rattle.std.specs.Prelude.{◌||◌, if◌then◌else◌, count_by}
 use Rattle.std.specs.List.{list_any}
 use Rattle.std.proofs.lemmas.List.Sums.{sum_by-cons}
 use Rattle.pattern_items.specs.declared.item.Context.{Context}
-use Rattle.pattern_items.specs.declared.item.Item.{Item}
 use Rattle.pattern_items.specs.declared.item.Placed.{Placed}
 use Rattle.pattern_items.specs.declared.item.PatternUse.{PatternUse}
-use Rattle.pattern_items.specs.Place.{items_from, items_of, item, placed, is_counted, is_external, first_context}
+use Rattle.pattern_items.specs.Place.{Item, items_from, items_of, item, placed, is_counted, is_external, first_context}
 use Rattle.pattern_items.proofs.PlaceLaws.{items_step, placed_counts}
 use Rattle.vim_pattern.specs.declared.read.Noted.{Noted}
 use Rattle.vim_pattern.specs.Shape.{Shape}

@@ -6,12 +6,11 @@ use Rattle.pattern_items.specs.declared.atom.Atom.TheVariants.{Char}
 use Rattle.pattern_items.specs.declared.item.Multi.{Multi as AnyMulti}
 use Rattle.pattern_items.specs.declared.item.Kind.{Kind}
 use Rattle.pattern_items.specs.declared.item.Kind.TheVariants.{Counted, Plain, External, Optional}
-use Rattle.pattern_items.specs.declared.item.Item.{Item}
 use Rattle.pattern_items.specs.declared.item.Sign.{Sign}
 use Rattle.pattern_items.specs.declared.item.Sign.TheVariants.{Atom, Multi, Open, Close, Square, Bar, Also, Quiet, Wrong}
 use Rattle.vim_pattern.specs.Shape.{Shape, one, group, external, with_multi, seq_of, and_of, optional_of}
 use Rattle.vim_pattern.specs.Fault.{Fault, is_optional}
-use Rattle.pattern_items.specs.Place.{item}
+use Rattle.pattern_items.specs.Place.{Item, item}
 use Rattle.vim_pattern.specs.Grammar
 use Rattle.vim_pattern.specs.Grammar.{IsPattern, IsBranch, IsConcat, IsPiece, IsLoose, IsAtom, IsAtoms, IsTree, IsStart}
 use Rattle.vim_pattern.specs.Read.{Last, nothing, loose, fixed, shapes_of, Part, new_part, settled, branch_of, pattern_of, put, ended, with_bar, with_also, Outer, State, Step, in_list, step, close_kind, list_step, square_step, multi_step}

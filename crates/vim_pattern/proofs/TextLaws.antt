@@ -5,8 +5,7 @@ use Rattle.std.specs.List.{list_any}
 use Rattle.std.proofs.lemmas.Bool.{cases_lt}
 use Rattle.pattern_items.specs.declared.cause.PatternCause.TheVariants as cause
 use Rattle.pattern_items.specs.declared.item.PatternUse.{PatternUse}
-use Rattle.pattern_items.specs.declared.item.Item.{Item}
-use Rattle.pattern_items.specs.Place.{items_of, is_counted, is_external}
+use Rattle.pattern_items.specs.Place.{Item, items_of, is_counted, is_external}
 use Rattle.vim_pattern.specs.declared.error.PatternError.{PatternError}
 use Rattle.vim_pattern.specs.declared.error.PatternError.TheVariants.{At, Memory}
 use Rattle.vim_pattern.specs.Shape.{Shape}

@@ -13,7 +13,7 @@ use Rattle.vim_pattern.specs.declared.error.PatternError.TheVariants.{At, Memory
 use Rattle.vim_pattern.specs.Fault.{Fault, fault_at}
 use Rattle.vim_pattern.specs.Pattern.{IsSummaryOf}
 use Rattle.vim_pattern.specs.Tree.{PatternTree}
-use Rattle.pattern_items.specs.declared.item.Item.{Item}
+use Rattle.pattern_items.specs.Place.{Item}
 use Rattle.vim_pattern.specs.Shape.{Shape, bare, seq, and, or, optional_of}
 use Rattle.vim_pattern.specs.Read.{Last, nothing, loose, fixed, Part, Outer, State}
 

@@ -6,9 +6,8 @@ use Rattle.pattern_items.specs.declared.atom.Atom.{Atom as AnyAtom}
 use Rattle.pattern_items.specs.declared.atom.Atom.TheVariants.{Char}
 use Rattle.pattern_items.specs.declared.item.Multi.{Multi as AnyMulti}
 use Rattle.pattern_items.specs.declared.item.Kind.TheVariants.{Counted, Plain, External, Optional}
-use Rattle.pattern_items.specs.declared.item.Item.{Item}
 use Rattle.pattern_items.specs.declared.item.Sign.TheVariants.{Atom, Multi, Open, Close, Square, Bar, Also, Quiet}
-use Rattle.pattern_items.specs.Place.{item}
+use Rattle.pattern_items.specs.Place.{Item, item}
 use Rattle.vim_pattern.specs.Shape.{Shape, one, group, external, with_multi, seq_of, and_of, or_of, optional_of}
 
 mutual

@@ -3,6 +3,7 @@ pub mod Tree
 pub mod ShapeCode
 pub mod Grammar
 pub mod Fault
+pub mod GroupNumbers
 pub mod Pattern
 pub mod Answer
 pub mod Read

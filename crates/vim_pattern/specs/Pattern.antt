@@ -5,10 +5,9 @@ use Rattle.pattern_items.specs.declared.atom.Atom.{Atom as AnyAtom}
 use Rattle.pattern_items.specs.declared.atom.Atom.TheVariants.{MatchStart, LineStop}
 use Rattle.pattern_items.specs.declared.cause.PatternCause.TheVariants as cause
 use Rattle.pattern_items.specs.declared.item.PatternUse.{PatternUse}
-use Rattle.pattern_items.specs.declared.item.Item.{Item}
 use Rattle.pattern_items.specs.declared.item.Sign.{Sign}
 use Rattle.pattern_items.specs.declared.item.Sign.TheVariants.{Atom, Quiet}
-use Rattle.pattern_items.specs.Place.{items_of, is_counted, is_external}
+use Rattle.pattern_items.specs.Place.{Item, items_of, is_counted, is_external}
 use Rattle.vim_pattern.specs.Tree.{PatternTree}
 use Rattle.vim_pattern.specs.Grammar.{IsTree}
 use Rattle.vim_pattern.specs.Fault.{Fault, fault_at, IsFault}

@@ -6,7 +6,7 @@ use Rattle.pattern_items.specs.declared.item.Kind.{Kind}
 use Rattle.pattern_items.specs.declared.item.Kind.TheVariants.{Counted, Plain, External, Optional}
 use Rattle.pattern_items.specs.declared.cause.PatternCause.{PatternCause}
 use Rattle.pattern_items.specs.declared.cause.PatternCause.TheVariants as cause
-use Rattle.pattern_items.specs.declared.item.Item.{Item}
+use Rattle.pattern_items.specs.Place.{Item}
 use Rattle.pattern_items.specs.declared.item.Sign.{Sign}
 use Rattle.pattern_items.specs.declared.item.Sign.TheVariants.{Atom, Multi, Open, Close, Square, Bar, Also, Quiet, Wrong}
 use Rattle.vim_pattern.specs.Fault.{Fault, fault_at, is_optional}

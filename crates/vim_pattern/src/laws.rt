@@ -3,6 +3,7 @@ ghost use Rattle.std.specs.Prelude.{◌≡◌, List, ℕ, ◌⊎◌};
 ghost use Rattle.pattern_items.specs.declared.item.PatternUse.{PatternUse};
 ghost use Rattle.vim_pattern.specs.Tree.{PatternTree};
 ghost use Rattle.vim_pattern.specs.Fault.{Fault};
+ghost use Rattle.vim_pattern.specs.GroupNumbers.{HasNumbers};
 ghost use Rattle.vim_pattern.specs.Pattern.{IsTreeOf, HasFault};
 
 /// A text has at most one tree.
@@ -23,4 +24,9 @@ pub fn tree_and_fault_exclude()
 /// A text has a tree or a fault.
 pub fn tree_or_fault()
     ensures { (text : List ℕ) (usage : PatternUse) → ((t : PatternTree) × IsTreeOf text usage t) ⊎ ((f : Fault) × HasFault text usage f) }
+{}
+
+/// The groups, externals and references of a text's tree have numbers from 1 to 9.
+pub fn numbers_are_small()
+    ensures { (text : List ℕ) (usage : PatternUse) (t : PatternTree) → IsTreeOf text usage t → HasNumbers t.node }
 {}

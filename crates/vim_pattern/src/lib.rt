@@ -15,7 +15,9 @@ mod read;
 mod tree;
 
 pub use error::PatternError;
-pub use laws::{at_most_one_fault, at_most_one_tree, tree_and_fault_exclude, tree_or_fault};
+pub use laws::{
+    at_most_one_fault, at_most_one_tree, numbers_are_small, tree_and_fault_exclude, tree_or_fault,
+};
 pub use node::Node;
 pub use pattern_items::{
     Atom, Behind, CharRanges, PatternCause, PatternUse, SetPart, collection_end,

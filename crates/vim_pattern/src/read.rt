@@ -3,6 +3,7 @@ ghost use Rattle.std.specs.Prelude.{◌≡◌, ◌^◌, [], ◌∷◌, ◌++◌,
 ghost use Rattle.vim_pattern.specs.Shape.{bare};
 ghost use Rattle.vim_pattern.specs.Shape as shape;
 ghost use Rattle.vim_pattern.specs.Pattern.{IsTreeOf};
+ghost use Rattle.vim_pattern.specs.GroupNumbers.{HasNumbers};
 ghost use Rattle.vim_pattern.specs.Answer.{TellsFault, HasNoTree};
 ghost use Rattle.vim_pattern.specs.Built.{GivesTree, part_of, state_of, under_of, Gives};
 ghost use Rattle.vim_pattern.specs.Read as read;
@@ -378,6 +379,7 @@ fn read_items(alloc: Global, text: &[char], usage: PatternUse) -> Result<Tree, P
 /// character, in characters from 0 (`pattern.txt`).
 pub fn read_pattern(alloc: Global, text: &[char], usage: PatternUse) -> Result<Tree, PatternError>
     ensures tree { IfOk result (λ t. IsTreeOf text.now usage t) }
+    ensures numbers { IfOk result (λ t. HasNumbers t.node) }
     ensures fault { IfErr result (λ e. TellsFault text.now usage e) }
     ensures no_tree { IfErr result (λ e. HasNoTree text.now usage e) }
 {
