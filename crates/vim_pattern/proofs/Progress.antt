@@ -8,7 +8,7 @@ use Rattle.pattern_items.specs.declared.item.Placed.{Placed}
 use Rattle.pattern_items.specs.declared.item.PatternUse.{PatternUse}
 use Rattle.pattern_items.specs.Place.{Item, items_from, items_of, item, placed, is_counted, is_external, first_context}
 use Rattle.pattern_items.proofs.PlaceLaws.{items_step, placed_counts}
-use Rattle.vim_pattern.specs.declared.read.Noted.{Noted}
+use Rattle.vim_pattern.specs.declared.notes.Noted.{Noted}
 use Rattle.vim_pattern.specs.Shape.{Shape}
 use Rattle.vim_pattern.specs.Pattern.{IsSummaryOf, asks_case, sets_match_start, holds_line_stop}
 use Rattle.vim_pattern.specs.Summary.{noted_next, case_of, tree_of}

@@ -1,7 +1,7 @@
 -- What is noted of the items, one after the other.
 use Rattle.std.specs.Prelude.{ℕ, ◌||◌, Option, Some, None, true, false, if◌then◌else◌, Bool}
 use Rattle.pattern_items.specs.declared.item.Sign.{Sign}
-use Rattle.vim_pattern.specs.declared.read.Noted.{Noted}
+use Rattle.vim_pattern.specs.declared.notes.Noted.{Noted}
 use Rattle.vim_pattern.specs.Shape.{Shape}
 use Rattle.vim_pattern.specs.Tree.{PatternTree}
 use Rattle.vim_pattern.specs.Pattern.{asks_case, sets_match_start, holds_line_stop}

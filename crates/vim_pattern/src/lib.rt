@@ -11,6 +11,7 @@ mod copy;
 mod error;
 mod laws;
 mod node;
+mod notes;
 mod read;
 mod tree;
 

@@ -1,5 +1,5 @@
 //! The reader: what has been read, what is open, and one item more.
-ghost use Rattle.std.specs.Prelude.{◌≡◌, ◌^◌, [], ◌∷◌, ◌++◌, ◌<◌, ◌≤◌, length, IfOk, List, ℕ, true, MatchOption, IfErr, ◌⊎◌};
+ghost use Rattle.std.specs.Prelude.{◌≡◌, ◌^◌, [], ◌<◌, length, IfOk, true, MatchOption, IfErr};
 ghost use Rattle.vim_pattern.specs.Shape.{bare};
 ghost use Rattle.vim_pattern.specs.Shape as shape;
 ghost use Rattle.vim_pattern.specs.Pattern.{IsTreeOf};
@@ -8,14 +8,13 @@ ghost use Rattle.vim_pattern.specs.Answer.{TellsFault, HasNoTree};
 ghost use Rattle.vim_pattern.specs.Built.{GivesTree, part_of, state_of, under_of, Gives};
 ghost use Rattle.vim_pattern.specs.Read as read;
 ghost use Rattle.vim_pattern.specs.Fault as fault;
-ghost use Rattle.vim_pattern.specs.Pattern as pattern;
-ghost use Rattle.vim_pattern.specs.Summary as summary;
 ghost use Rattle.pattern_items.specs.Place.{items_of};
 
 use crate::build::{
     Built, LastNode, OpenItem, ended, list_of, new_part, pattern_of, put, with_also, with_bar,
     with_multi,
 };
+use crate::notes::{Noted, noted_next, tree_of};
 use crate::{Atom, Node, PatternCause, PatternError, PatternUse, Tree};
 use pattern_items::{Before, Context, Kind, Level, Multi, Placed, Sign, behind, next_item};
 use std::alloc::Global;
@@ -260,81 +259,6 @@ fn finish(alloc: Global, reading: Reading) -> Result<Node, PatternError>
     match first_open(&reading.under) {
         None => Ok(pattern_of(alloc, reading.here)?),
         Some(open) => at(open, PatternCause::Unclosed),
-    }
-}
-
-/// What the items say beside the nodes.
-#[derive(Clone, Copy)]
-pub struct Noted {
-    pub ignores_case: bool,
-    pub heeds_case: bool,
-    pub moves_start: bool,
-    pub line_end: bool,
-}
-
-fn asks_case(ignore: bool, sign: &Sign) -> bool
-    ensures { result ≡ pattern.asks_case ignore sign.now }
-{
-    match sign {
-        Sign::Quiet {
-            ignore: Some(asked),
-        } => *asked == ignore,
-        _ => false,
-    }
-}
-
-fn sets_match_start(sign: &Sign) -> bool
-    ensures { result ≡ pattern.sets_match_start sign.now }
-{
-    match sign {
-        Sign::Atom(Atom::MatchStart) => true,
-        _ => false,
-    }
-}
-
-fn holds_line_stop(sign: &Sign) -> bool
-    ensures { result ≡ pattern.holds_line_stop sign.now }
-{
-    match sign {
-        Sign::Atom(Atom::LineStop) => true,
-        _ => false,
-    }
-}
-
-fn noted_next(noted: Noted, sign: &Sign) -> Noted
-    ensures { result ≡ summary.noted_next noted sign.now }
-{
-    Noted {
-        ignores_case: noted.ignores_case || asks_case(true, sign),
-        heeds_case: noted.heeds_case || asks_case(false, sign),
-        moves_start: noted.moves_start || sets_match_start(sign),
-        line_end: noted.line_end || holds_line_stop(sign),
-    }
-}
-
-fn case_of(noted: Noted) -> Option<bool>
-    ensures { result ≡ summary.case_of noted }
-{
-    if noted.ignores_case {
-        Some(true)
-    } else if noted.heeds_case {
-        Some(false)
-    } else {
-        None
-    }
-}
-
-/// The tree of what has been read.
-fn tree_of(node: Node, noted: Noted, groups: u8, externals: u8) -> Tree
-    ensures { result ≡ summary.tree_of (bare node) noted groups externals }
-{
-    Tree {
-        node,
-        case: case_of(noted),
-        groups,
-        externals,
-        moves_start: noted.moves_start,
-        line_end: noted.line_end,
     }
 }
 
