@@ -1,7 +1,6 @@
 -- One character, one member, one piece.
 use Rattle.std.proofs.Common.{◌≡◌, ℕ, zero, suc, ◌+◌, drop, List, [], ◌∷◌, ◌++◌, Bool, true, false, Some, None, refl, ap, sym, append_assoc, ◌∙◌, arith}
 use Rattle.std.specs.Prelude.{Option, nat_eq, cond}
-use Rattle.pattern_items.specs.declared.atom.SetPart.{SetPart}
 use Rattle.pattern_items.specs.declared.collection.Member.{Member}
 use Rattle.pattern_items.specs.declared.collection.Found.{Found}
 use Rattle.pattern_items.specs.declared.collection.Piece.{Piece}

@@ -1,16 +1,14 @@
 -- A tree has the numbers of its items.
-use Rattle.std.proofs.Common.{◌≡◌, ℕ, suc, List, [], ◌∷◌, ◌++◌, Ok, Err, subst, sym}
+use Rattle.std.proofs.Common.{ℕ, List, [], ◌∷◌, ◌++◌, Ok, Err, subst, sym}
 use Rattle.std.specs.Prelude.{Result, IfOk}
-use Rattle.pattern_items.specs.declared.atom.Atom.TheVariants.{Char}
-use Rattle.pattern_items.specs.declared.item.Kind.TheVariants.{Counted, Plain, External, Optional}
 use Rattle.pattern_items.specs.declared.item.Multi.{Multi as AnyMulti}
 use Rattle.pattern_items.specs.declared.item.Multi.TheVariants.{Count, Ahead, Before, Whole}
 use Rattle.pattern_items.specs.declared.item.PatternUse.{PatternUse}
-use Rattle.pattern_items.specs.declared.item.Sign.TheVariants.{Multi, Open, Close, Square, Bar, Also, Quiet}
+use Rattle.pattern_items.specs.declared.item.Sign.TheVariants.{Multi, Close, Square, Bar, Also, Quiet}
 use Rattle.pattern_items.specs.Place.{Item, item, items_of}
-use Rattle.pattern_items.proofs.NumberLaws.{HasSign, AllHave, text_items_have}
+use Rattle.pattern_items.proofs.NumberLaws.{AllHave, text_items_have}
 use Rattle.vim_pattern.specs.declared.error.PatternError.{PatternError}
-use Rattle.vim_pattern.specs.Shape.{Shape, one, seq, or, and, group, external, with_multi, joined, seq_of, and_of, or_of, at_most_once, optional_of}
+use Rattle.vim_pattern.specs.Shape.{Shape, seq, or, and, with_multi, joined, seq_of, and_of, or_of, optional_of}
 use Rattle.vim_pattern.specs.Tree.{PatternTree}
 use Rattle.vim_pattern.specs.Grammar
 use Rattle.vim_pattern.specs.Grammar.{IsPattern, IsBranch, IsConcat, IsPiece, IsLoose, IsAtom, IsAtoms, IsTree}

@@ -1,10 +1,9 @@
 -- Worked rows: what the definitions say of patterns that were read by hand.
-use Rattle.std.proofs.Common.{◌≡◌, ℕ, List, [], ◌∷◌, Ok, Err, Some, None, true, false, refl, subst, length, ◌≤◌, inr, lit≤}
-use Rattle.std.specs.Prelude.{Result, codes, Option, Bool}
+use Rattle.std.proofs.Common.{◌≡◌, ℕ, zero, suc, List, [], ◌∷◌, ◌++◌, ◌<◌, inl, Ok, Err, Some, None, true, false, refl, subst, length, ◌≤◌, inr, lit≤}
+use Rattle.std.specs.Prelude.{Result, codes, Bool}
 use Rattle.syn_base.specs.declared.class.Class.{Class}
 use Rattle.syn_base.specs.declared.class.Class.TheVariants as class
-use Rattle.pattern_items.specs.declared.atom.Atom.{Atom}
-use Rattle.pattern_items.specs.declared.atom.Atom.TheVariants.{Char, Any, Is, Set, LineEnd, LineStart, LineStop, WordStart, WordStop, FileStart, FileStop, MatchStart, MatchStop, Ref, ExternalRef}
+use Rattle.pattern_items.specs.declared.atom.Atom.TheVariants.{Char, Any, Is, Set, LineEnd, LineStart, LineStop, WordStart, FileStart, MatchStart, Ref, ExternalRef}
 use Rattle.pattern_items.specs.declared.atom.SetPart.{SetPart}
 use Rattle.pattern_items.specs.declared.atom.SetPart.TheVariants as part
 use Rattle.pattern_items.specs.declared.item.Behind.TheVariants as behind
@@ -14,7 +13,6 @@ use Rattle.pattern_items.specs.declared.cause.PatternCause.{PatternCause}
 use Rattle.pattern_items.specs.declared.cause.PatternCause.TheVariants as cause
 use Rattle.pattern_items.specs.Place.{items_of}
 use Rattle.vim_pattern.specs.Shape.{Shape, empty, one, seq, or, and, group, external, repeat, ahead, before, whole, optional_of, seq_of}
-use Rattle.vim_pattern.specs.Tree.{PatternTree}
 use Rattle.vim_pattern.specs.Fault.{Fault, fault_at}
 use Rattle.vim_pattern.specs.Pattern.{IsTreeOf, HasFault}
 use Rattle.vim_pattern.specs.Read.{read, start}
@@ -356,3 +354,18 @@ heeded = is_tree Match (codes "a\\C\\(\\(\\)\\)") _ refl (lit≤ tt)
 
 two_stars_fault : HasFault (codes "a**") Match (fault_at 2 cause.DoubleCount)
 two_stars_fault = is_fault Match (codes "a**") _ refl (lit≤ tt)
+
+-- Limits.
+
+abbrev many : ℕ → List ℕ → List ℕ
+many zero part = []
+many (suc n) part = part ++ many n part
+
+hundred_levels : nodes (many 100 (codes "\\%(")) ≡ faulty 0 cause.Unclosed
+hundred_levels = refl
+
+one_level_more : nodes (many 101 (codes "\\%[")) ≡ faulty 300 cause.TooNested
+one_level_more = refl
+
+too_long : (usage : PatternUse) (text : List ℕ) → 4000 < length text → HasFault text usage (fault_at 4000 cause.TooLong)
+too_long usage text h = inl (h, refl)

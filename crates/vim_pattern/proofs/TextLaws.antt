@@ -1,6 +1,6 @@
 -- What the laws on items say of texts: one tree or one fault, and never both.
 use Rattle.std.proofs.Common.{◌≡◌, ℕ, List, ◌⊎◌, inl, inr, ◌<◌, ◌≤◌, length, refl, sym, ◌∙◌, arith, Ok, Err, subst}
-use Rattle.std.specs.Prelude.{Result, IfOk, IfErr, Option, Bool, count_by}
+use Rattle.std.specs.Prelude.{Result, IfOk, IfErr, count_by}
 use Rattle.std.specs.List.{list_any}
 use Rattle.std.proofs.lemmas.Bool.{cases_lt}
 use Rattle.pattern_items.specs.declared.cause.PatternCause.TheVariants as cause

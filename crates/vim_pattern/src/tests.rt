@@ -1,4 +1,4 @@
-//! What no clause says: that the calls succeed, both sides of the limits, and how a fault is told.
+//! What no clause says: that the calls succeed, and how a fault is told.
 use crate::{PatternError, PatternUse, collection_end, read_pattern};
 use std::alloc::{AllocError, Global};
 
@@ -38,30 +38,6 @@ fn a_fault_is_told_with_its_place(rt: HostRuntime) {
     ] {
         let found = told(rt.alloc(), text, PatternUse::Match).expect(&rt, "memory");
         assert_eq!(rt; found.as_str(), want, "{text}");
-    }
-}
-
-/// A part, so many times.
-fn repeated(alloc: Global, part: &str, times: usize) -> Result<String, AllocError> {
-    let mut all = String::new(alloc);
-    for _ in 0..times {
-        all.push_str(part)?;
-    }
-    Ok(all)
-}
-
-#[test]
-fn the_limits_hold(rt: HostRuntime) {
-    let alloc = rt.alloc();
-    for (part, times, want) in [
-        ("a", 4000, ""),
-        ("a", 4001, "pattern too long at 4001"),
-        ("\\%(", 100, "unclosed at 1"),
-        ("\\%(", 101, "nested too deep at 301"),
-    ] {
-        let text = repeated(alloc, part, times).expect(&rt, "memory");
-        let found = told(alloc, text.as_str(), PatternUse::Names).expect(&rt, "memory");
-        assert_eq!(rt; found.as_str(), want, "{times} times {part}");
     }
 }
 

@@ -1,4 +1,4 @@
-use Rattle.std.proofs.Common.{arith, rules, ◌<◌, length}
+use Rattle.std.proofs.Common.{rules, ◌<◌, length}
 use Rattle.pattern_items.specs.Place.{items_of}
 use Rattle.vim_pattern.specs.Built.{state_of}
 use Rattle.vim_pattern.proofs.Progress.{progress_next}
