@@ -1,5 +1,5 @@
 //! Class names in collections.
-ghost use Rattle.std.specs.Prelude.{◌≡◌, ◌≤◌, ◌<◌, [], ◌∷◌, ◌++◌, length, IsTrue, MatchOption, OnOk, OnErr};
+ghost use Rattle.std.specs.Prelude.{◌≡◌, ◌≤◌, ◌<◌, [], ◌∷◌, ◌++◌, length, IsTrue, OnOk, OnErr, IfSome};
 ghost use Rattle.std.specs.List.{starts_with, find};
 ghost use Rattle.std.specs.Prelude.{nat_eq};
 ghost use Rattle.pattern_items.specs.ClassNames as spec;
@@ -112,7 +112,7 @@ fn begins_with(text: &[char], word: &[u8]) -> bool
 /// The first of these names that is at a text.
 fn first_named(names: &[ClassName], text: &[char]) -> Option<ClassName>
     ensures value { result ≡ find (λ name. starts_with nat_eq text.now (spec.word name)) names.now }
-    ensures within { MatchOption result (Unit {0}) (λ name. length (spec.word name) ≤ length text.now) }
+    ensures within { IfSome result (λ name. length (spec.word name) ≤ length text.now) }
 {
     for name in names {
         if begins_with(text, word(*name).as_bytes()) {
@@ -125,7 +125,7 @@ fn first_named(names: &[ClassName], text: &[char]) -> Option<ClassName>
 /// The name at a text that stands behind a bracket.
 pub fn name_at(text: &[char]) -> Option<ClassName>
     ensures value { result ≡ spec.name_at text.now }
-    ensures within { MatchOption result (Unit {0}) (λ name. length (spec.word name) ≤ length text.now) }
+    ensures within { IfSome result (λ name. length (spec.word name) ≤ length text.now) }
 {
     first_named(&CLASS_NAMES, text)
 }

@@ -1,5 +1,5 @@
 //! Characters by their code.
-ghost use Rattle.std.specs.Prelude.{◌≡◌, [], ◌∷◌, ◌<◌, ◌≤◌, ◌+◌, length, MatchOption};
+ghost use Rattle.std.specs.Prelude.{◌≡◌, [], ◌∷◌, ◌<◌, ◌≤◌, ◌+◌, length, IfSome};
 ghost use Rattle.pattern_items.specs.Codes as spec;
 
 use crate::scan::front;
@@ -75,7 +75,7 @@ fn greatest_of(notation: Notation) -> u64
 fn with_digit(notation: Notation, code: Code, c: char) -> Option<Code>
     requires { code.value ≤ 9999999999 }
     ensures value { result ≡ spec.with_digit notation code c }
-    ensures most { MatchOption result (Unit {0}) (λ k. (k.value ≤ 9999999999) × (k.count ≡ code.count + 1)) }
+    ensures most { IfSome result (λ k. (k.value ≤ 9999999999) × (k.count ≡ code.count + 1)) }
 {
     if code.count >= most_digits(notation) {
         return None;

@@ -1,5 +1,5 @@
 //! Collections.
-ghost use Rattle.std.specs.Prelude.{◌≡◌, ◌^◌, [], ◌∷◌, ◌<◌, ◌≤◌, ◌+◌, length, drop, take, MatchOption, IfOk, Some, None};
+ghost use Rattle.std.specs.Prelude.{◌≡◌, ◌^◌, [], ◌∷◌, ◌<◌, ◌≤◌, ◌+◌, length, drop, take, MatchOption, IfOk, Some, None, IfSome};
 ghost use Rattle.pattern_items.specs.Collection as spec;
 
 use crate::class_names::{ClassName, name_at, name_len, push_name};
@@ -66,7 +66,7 @@ fn closing(before: usize, text: &[char]) -> Option<usize>
     requires few { before < 3 }
     requires short { length text.now < 2 ^ 61 }
     ensures value { result ≡ spec.closing 0 before text.now }
-    ensures within { MatchOption result (Unit {0}) (λ n. (before < n) × (n ≤ before + length text.now)) }
+    ensures within { IfSome result (λ n. (before < n) × (n ≤ before + length text.now)) }
 {
     let mut len = before;
     let mut rest = text;
@@ -85,7 +85,7 @@ fn past_bracket(before: usize, text: &[char]) -> Option<usize>
     requires few { before < 2 }
     requires short { length text.now < 2 ^ 61 }
     ensures value { result ≡ spec.past_bracket before text.now }
-    ensures within { MatchOption result (Unit {0}) (λ n. (before < n) × (n ≤ before + length text.now)) }
+    ensures within { IfSome result (λ n. (before < n) × (n ≤ before + length text.now)) }
 {
     match front(text) {
         None => None,
@@ -98,7 +98,7 @@ fn past_bracket(before: usize, text: &[char]) -> Option<usize>
 pub fn collection_len(text: &[char]) -> Option<usize>
     requires { length text.now < 2 ^ 61 }
     ensures value { result ≡ spec.collection_len text.now }
-    ensures within { MatchOption result (Unit {0}) (λ n. (0 < n) × (n ≤ length text.now)) }
+    ensures within { IfSome result (λ n. (0 < n) × (n ≤ length text.now)) }
 {
     match front(text) {
         None => None,
@@ -190,7 +190,7 @@ fn escaped(text: &[char]) -> Found
 /// The marked character behind a bracket, where nothing follows it.
 fn left_out_at(text: &[char]) -> Option<Member>
     ensures value { result ≡ spec.left_out_at text.now }
-    ensures within { MatchOption result (Unit {0}) (λ _. length text.now ≡ 3) }
+    ensures within { IfSome result (λ _. length text.now ≡ 3) }
 {
     if text.len() != 3 {
         return None;
@@ -283,8 +283,10 @@ fn range(low: Member, high: Member) -> Option<Piece>
 
 /// The range that a member begins, and what follows it.
 fn range_at(member: Member, rest: &[Member]) -> Option<(Piece, &[Member])>
-    ensures value { MatchOption result (spec.range_at member rest.now ≡ None) (λ p. spec.range_at member rest.now ≡ Some (p.0, p.1.now)) }
-    ensures within { MatchOption result (Unit {0}) (λ p. length p.1.now < length rest.now) }
+    ensures value { MatchOption result
+        (spec.range_at member rest.now ≡ None)
+        (λ p. spec.range_at member rest.now ≡ Some (p.0, p.1.now)) }
+    ensures within { IfSome result (λ p. length p.1.now < length rest.now) }
 {
     match front(rest) {
         None => None,

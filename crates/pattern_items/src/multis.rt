@@ -1,5 +1,5 @@
 //! Counts in braces, and looks.
-ghost use Rattle.std.specs.Prelude.{◌≡◌, ◌^◌, [], ◌∷◌, ◌<◌, ◌≤◌, ◌+◌, length, MatchOption};
+ghost use Rattle.std.specs.Prelude.{◌≡◌, ◌^◌, [], ◌∷◌, ◌<◌, ◌≤◌, ◌+◌, length, MatchOption, IfSome};
 ghost use Rattle.pattern_items.specs.Multis as spec;
 ghost use Rattle.pattern_items.specs.Numbers as numbers;
 
@@ -46,7 +46,7 @@ pub fn count(least: u32, most: Option<u32>, lazy: bool) -> Multi
 /// How many characters close the braces here.
 fn brace_end(text: &[char]) -> Option<usize>
     ensures value { result ≡ spec.brace_end text.now }
-    ensures within { MatchOption result (Unit {0}) (λ n. n ≤ length text.now) }
+    ensures within { IfSome result (λ n. n ≤ length text.now) }
 {
     match front(text) {
         Some(('}', _)) => Some(1),
@@ -59,7 +59,7 @@ fn brace_end(text: &[char]) -> Option<usize>
 }
 
 fn closed(len: usize, found: Multi, end: Option<usize>) -> Spelled
-    requires { MatchOption end (Unit {0}) (λ n. len + n < 2 ^ 62) }
+    requires { IfSome end (λ n. len + n < 2 ^ 62) }
     ensures value { result ≡ spec.closed len found end }
     ensures within { MatchOption end (result.len ≡ len) (λ n. result.len ≡ len + n) }
 {

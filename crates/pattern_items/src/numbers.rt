@@ -1,5 +1,5 @@
 //! Numbers in multis and in positions.
-ghost use Rattle.std.specs.Prelude.{◌≡◌, [], ◌∷◌, ◌<◌, ◌≤◌, ◌+◌, length, MatchOption};
+ghost use Rattle.std.specs.Prelude.{◌≡◌, [], ◌∷◌, ◌<◌, ◌≤◌, ◌+◌, length, IfSome};
 ghost use Rattle.pattern_items.specs.Numbers as spec;
 
 use crate::scan::front;
@@ -21,9 +21,9 @@ fn is_digit(c: char) -> bool
 
 fn with_digit(value: Option<u32>, digit: u32) -> Option<u32>
     requires digit { digit < 10 }
-    requires small { MatchOption value (Unit {0}) (λ n. n ≤ 65535) }
+    requires small { IfSome value (λ n. n ≤ 65535) }
     ensures value { result ≡ spec.with_digit value digit }
-    ensures small { MatchOption result (Unit {0}) (λ n. n ≤ 65535) }
+    ensures small { IfSome result (λ n. n ≤ 65535) }
 {
     match value {
         None => None,

@@ -1,5 +1,5 @@
 //! The spelling of an item.
-ghost use Rattle.std.specs.Prelude.{◌≡◌, ◌^◌, [], ◌∷◌, ◌<◌, ◌≤◌, ◌+◌, ◌-◌, length, MatchOption, Some, None, true};
+ghost use Rattle.std.specs.Prelude.{◌≡◌, ◌^◌, [], ◌∷◌, ◌<◌, ◌≤◌, ◌+◌, ◌-◌, length, Some, None, true, IfSome};
 ghost use Rattle.pattern_items.specs.Spelling as spec;
 ghost use Rattle.pattern_items.specs.Letters as letters;
 ghost use Rattle.pattern_items.specs.Numbers as numbers;
@@ -290,7 +290,7 @@ fn letter(c: char, text: &[char]) -> Spelled
 fn operator(len: usize, c: char, text: &[char]) -> Option<Spelled>
     requires { len + length text.now < 2 ^ 62 }
     ensures value { result ≡ spec.operator len c text.now }
-    ensures within { MatchOption result (Unit {0}) (λ s. (len ≤ s.len) × (s.len ≤ len + length text.now)) }
+    ensures within { IfSome result (λ s. (len ≤ s.len) × (s.len ≤ len + length text.now)) }
 {
     match c {
         '*' => Some(spelled(Raw::Star, len)),
@@ -311,7 +311,7 @@ fn plain_atom(first: bool, len: usize, c: char, text: &[char]) -> Option<Spelled
     requires few { (1 ≤ len) × (len ≤ 2) }
     requires room { length text.now < 2 ^ 61 }
     ensures value { result ≡ spec.plain_atom first len c text.now }
-    ensures within { MatchOption result (Unit {0}) (λ s. (len ≤ s.len) × (s.len ≤ len + length text.now)) }
+    ensures within { IfSome result (λ s. (len ≤ s.len) × (s.len ≤ len + length text.now)) }
 {
     match c {
         '.' => Some(atom(Atom::Any { line_end: false }, len)),
@@ -331,7 +331,7 @@ fn magic_item(first: bool, len: usize, c: char, text: &[char]) -> Option<Spelled
     requires few { (1 ≤ len) × (len ≤ 2) }
     requires room { length text.now < 2 ^ 61 }
     ensures value { result ≡ spec.magic_item first len c text.now }
-    ensures within { MatchOption result (Unit {0}) (λ s. (len ≤ s.len) × (s.len ≤ len + length text.now)) }
+    ensures within { IfSome result (λ s. (len ≤ s.len) × (s.len ≤ len + length text.now)) }
 {
     match plain_atom(first, len, c, text) {
         Some(s) => Some(s),

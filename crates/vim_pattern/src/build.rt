@@ -128,7 +128,8 @@ pub fn new_part(alloc: Global) -> Built
 
 /// The pieces, with the last one.
 fn settled(pieces: Vec<Node>, last: LastNode) -> Result<Vec<Node>, AllocError>
-    ensures { IfOk result (λ v. bares v.items ≡ bares pieces.items ++ read.shapes_of (built.last_of last)) }
+    ensures { IfOk result (λ v.
+        bares v.items ≡ bares pieces.items ++ read.shapes_of (built.last_of last)) }
 {
     let mut pieces = pieces;
     match last {
@@ -174,7 +175,8 @@ pub fn with_also(alloc: Global, part: Built) -> Result<Built, AllocError>
 }
 
 fn branch_of(alloc: Global, concats: Vec<Node>, pieces: Vec<Node>) -> Result<Node, AllocError>
-    ensures { IfOk result (λ n. bare n ≡ shape.and_of (bares concats.items ++ (shape.seq_of (bares pieces.items) ∷ []))) }
+    ensures { IfOk result (λ n.
+        bare n ≡ shape.and_of (bares concats.items ++ (shape.seq_of (bares pieces.items) ∷ []))) }
 {
     let mut concats = concats;
     concats.push(joined(alloc, Join::Pieces, pieces)?)?;

@@ -65,7 +65,9 @@ fn multi(
     place: usize,
     found: Multi,
 ) -> Result<Reading, PatternError>
-    ensures { Gives state_of result (read.multi_step place found (read.in_list (under_of reading.under.items)) (state_of reading) (part_of reading.here).last) }
+    ensures { Gives state_of result (read.multi_step place found
+        (read.in_list (under_of reading.under.items)) (state_of reading)
+        (part_of reading.here).last) }
 {
     let (list, _) = top(&reading.under);
     let Reading { here, under } = reading;
@@ -120,7 +122,8 @@ fn open_item(
 }
 
 fn back(part: Built, under: Vec<OpenItem>, node: Node) -> Result<Reading, PatternError>
-    ensures { Gives state_of result (Ok (record { here = read.put (bare node) (part_of part); under = under_of under.items })) }
+    ensures { Gives state_of result
+        (Ok (record { here = read.put (bare node) (part_of part); under = under_of under.items })) }
 {
     Ok(Reading {
         here: put(part, node)?,
@@ -130,7 +133,8 @@ fn back(part: Built, under: Vec<OpenItem>, node: Node) -> Result<Reading, Patter
 
 #[tactic(auto, using(crate::proofs::Under::under_push))]
 fn close(alloc: Global, reading: Reading, place: usize) -> Result<Reading, PatternError>
-    ensures { Gives state_of result (read.close_step place (part_of reading.here) (under_of reading.under.items)) }
+    ensures { Gives state_of result
+        (read.close_step place (part_of reading.here) (under_of reading.under.items)) }
 {
     let Reading { here, mut under } = reading;
     let Some(outer) = under.pop() else {
@@ -159,7 +163,8 @@ fn close(alloc: Global, reading: Reading, place: usize) -> Result<Reading, Patte
 }
 
 fn put_here(reading: Reading, atom: Atom) -> Result<Reading, PatternError>
-    ensures { Gives state_of result (Ok (read.on_part (read.put (shape.one atom)) (state_of reading))) }
+    ensures { Gives state_of result
+        (Ok (read.on_part (read.put (shape.one atom)) (state_of reading))) }
 {
     Ok(Reading {
         here: put(reading.here, Node::One(atom))?,
@@ -170,7 +175,8 @@ fn put_here(reading: Reading, atom: Atom) -> Result<Reading, PatternError>
 #[tactic(auto, using(crate::proofs::Under::under_push))]
 fn end_list(alloc: Global, reading: Reading, place: usize) -> Result<Reading, PatternError>
     requires { read.in_list (under_of reading.under.items) ≡ true }
-    ensures { Gives state_of result (read.square_step place (state_of reading) (under_of reading.under.items)) }
+    ensures { Gives state_of result
+        (read.square_step place (state_of reading) (under_of reading.under.items)) }
 {
     let Reading { here, mut under } = reading;
     let Some(outer) = under.pop() else {
@@ -184,7 +190,8 @@ fn end_list(alloc: Global, reading: Reading, place: usize) -> Result<Reading, Pa
 
 #[tactic(auto, using(crate::proofs::Under::square_char))]
 fn square(alloc: Global, reading: Reading, place: usize) -> Result<Reading, PatternError>
-    ensures { Gives state_of result (read.square_step place (state_of reading) (under_of reading.under.items)) }
+    ensures { Gives state_of result
+        (read.square_step place (state_of reading) (under_of reading.under.items)) }
 {
     let (list, _) = top(&reading.under);
     if list {
@@ -244,7 +251,10 @@ fn step(alloc: Global, reading: Reading, place: usize, sign: Sign) -> Result<Rea
 /// The place of the first item that is still open.
 #[tactic(auto, using(crate::proofs::Under::finish_open))]
 fn first_open(under: &[OpenItem]) -> Option<usize>
-    ensures { MatchOption result (under_of under.now ≡ []) (λ at. (p : read.Part) → read.finish p (under_of under.now) ≡ Err (fault.fault_at at PatternCause.Unclosed)) }
+    ensures { MatchOption result
+        (under_of under.now ≡ [])
+        (λ at. (p : read.Part) →
+        read.finish p (under_of under.now) ≡ Err (fault.fault_at at PatternCause.Unclosed)) }
 {
     match under.split_first() {
         None => None,
@@ -254,7 +264,8 @@ fn first_open(under: &[OpenItem]) -> Option<usize>
 
 /// The tree, where nothing is open.
 fn finish(alloc: Global, reading: Reading) -> Result<Node, PatternError>
-    ensures { Gives bare result (read.finish (part_of reading.here) (under_of reading.under.items)) }
+    ensures { Gives bare result
+        (read.finish (part_of reading.here) (under_of reading.under.items)) }
 {
     match first_open(&reading.under) {
         None => Ok(pattern_of(alloc, reading.here)?),
@@ -265,7 +276,8 @@ fn finish(alloc: Global, reading: Reading) -> Result<Node, PatternError>
 /// The tree of a text's items, or their fault.
 fn read_items(alloc: Global, text: &[char], usage: PatternUse) -> Result<Tree, PatternError>
     requires { length text.now < 2 ^ 61 }
-    ensures { GivesTree (items_of usage text.now) result (read.read (items_of usage text.now) read.start) }
+    ensures { GivesTree (items_of usage text.now) result
+        (read.read (items_of usage text.now) read.start) }
 {
     let mut context = Context {
         usage,
