@@ -5,6 +5,7 @@ pub mod OneFault
 pub mod TextLaws
 pub mod Progress
 pub mod Joined
+pub mod CopyLaws
 pub mod Under
 pub mod NumberLaws
 pub mod Rows

@@ -8,4 +8,5 @@ pub mod Pattern
 pub mod Answer
 pub mod Read
 pub mod Built
+pub mod Copied
 pub mod Summary
