@@ -17,3 +17,9 @@ Rose before now = (before ≤ now) × (one_more before ≤ now)
 abbrev pub Counted : Bool → ℕ → ℕ → Type 0
 Counted true before now = Rose before now
 Counted false before now = now ≡ before
+
+-- the counts of files: reads that failed, names without a file, files longer than was asked for
+pub record FileCounts : Type 0 where
+  pub faults : ℕ
+  pub misses : ℕ
+  pub longs : ℕ

@@ -9,6 +9,7 @@ pub trait Lines {
     /// Its lines, each a list of characters without its line break.
     ghost lines: { Self → List (List ℕ) };
 
+    /// How many lines there are.
     fn len(&self) -> usize
         ensures count { result ≡ length (lines self.now) }
         ensures some { 0 < result }

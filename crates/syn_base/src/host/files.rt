@@ -1,10 +1,11 @@
 //! The machine's files.
-ghost use Rattle.std.specs.Prelude.{◌≤◌, None, IfOk, vec_len};
+ghost use Rattle.std.specs.Prelude.{◌≡◌, ◌≤◌, None, IfOk, vec_len};
 
 use crate::{Fetched, Files, List};
 use std::alloc::Global;
 use std::fs::File;
 use std::io::{ErrorKind, Read};
+use std::marker::Model;
 use std::rt;
 
 /// How many bytes of a file are asked for at a time.
@@ -19,8 +20,19 @@ pub struct HostFiles<R: rt::Files + Drop> {
     longs: u64,
 }
 
+impl<R: rt::Files + Drop> Model for HostFiles<R> {
+    ghost use Rattle.syn_base.specs.Causes.{FileCounts};
+
+    ghost Value = { FileCounts };
+
+    ghost view = { λ h. record { faults = h.faults; misses = h.misses; longs = h.longs } };
+}
+
 impl<R: rt::Files + Drop> HostFiles<R> {
-    pub fn new(rt: R) -> HostFiles<R> {
+    /// The files that the runtime reaches. Paths are as the system reads them.
+    pub fn new(rt: R) -> HostFiles<R>
+        ensures { result ≡ record { faults = 0; misses = 0; longs = 0 } }
+    {
         HostFiles {
             rt,
             faults: 0,

@@ -1,8 +1,9 @@
 //! A reader of std as a source.
-ghost use Rattle.std.specs.Prelude.{None};
+ghost use Rattle.std.specs.Prelude.{◌≡◌, None};
 
 use crate::{Source, Taken};
 use std::io::Read;
+use std::marker::Model;
 
 /// A reader of std. Each read that fails is counted.
 #[derive(Drop)]
@@ -11,8 +12,19 @@ pub struct StdSource<R: Read + Drop> {
     faults: u64,
 }
 
+impl<R: Read + Drop> Model for StdSource<R> {
+    ghost use Rattle.std.specs.Prelude.{ℕ};
+
+    ghost Value = { ℕ };
+
+    ghost view = { λ s. s.faults };
+}
+
 impl<R: Read + Drop> StdSource<R> {
-    pub fn new(reader: R) -> StdSource<R> {
+    /// The reader as a source, of which no call failed yet.
+    pub fn new(reader: R) -> StdSource<R>
+        ensures { result ≡ 0 }
+    {
         StdSource { reader, faults: 0 }
     }
 }
@@ -20,7 +32,7 @@ impl<R: Read + Drop> StdSource<R> {
 impl<R: Read + Drop> Source for StdSource<R> {
     ghost left = { λ _. None };
 
-    ghost faults = { λ s. s.faults };
+    ghost faults = { λ s. s };
 
     fn take(&mut self, buf: &mut [u8]) -> Taken {
         match self.reader.read(buf) {
