@@ -1,0 +1,197 @@
+//! Copies of trees.
+ghost use Rattle.std.specs.Prelude.{◌≡◌, IfOk};
+ghost use Rattle.vim_pattern.specs.Shape.{bare};
+ghost use Rattle.vim_pattern.specs.Copied as spec;
+
+use crate::{Atom, Behind, CharRanges, Node, SetPart, Tree};
+use std::alloc::Global;
+use syn_base::{List, Memory};
+
+fn copied_parts(alloc: Global, parts: &[SetPart]) -> Result<List<SetPart>, Memory>
+    ensures { IfOk result (λ l. l ≡ parts.now) }
+{
+    let mut all = List::new(alloc);
+    for part in parts {
+        all.push(*part)?;
+    }
+    Ok(all)
+}
+
+fn copied_atom(alloc: Global, atom: &Atom) -> Result<Atom, Memory>
+    ensures { IfOk result (λ a. a ≡ atom.now) }
+{
+    match atom {
+        Atom::Char(c) => Ok(Atom::Char(*c)),
+        Atom::Any { line_end } => Ok(Atom::Any {
+            line_end: *line_end,
+        }),
+        Atom::Is {
+            class,
+            not,
+            line_end,
+        } => Ok(Atom::Is {
+            class: *class,
+            not: *not,
+            line_end: *line_end,
+        }),
+        Atom::Set(ranges) => Ok(Atom::Set(CharRanges {
+            not: ranges.not,
+            line_end: ranges.line_end,
+            parts: copied_parts(alloc, ranges.parts.as_slice())?,
+        })),
+        Atom::LineEnd => Ok(Atom::LineEnd),
+        Atom::LineStart => Ok(Atom::LineStart),
+        Atom::LineStop => Ok(Atom::LineStop),
+        Atom::WordStart => Ok(Atom::WordStart),
+        Atom::WordStop => Ok(Atom::WordStop),
+        Atom::FileStart => Ok(Atom::FileStart),
+        Atom::FileStop => Ok(Atom::FileStop),
+        Atom::MatchStart => Ok(Atom::MatchStart),
+        Atom::MatchStop => Ok(Atom::MatchStop),
+        Atom::Ref(number) => Ok(Atom::Ref(*number)),
+        Atom::ExternalRef(number) => Ok(Atom::ExternalRef(*number)),
+    }
+}
+
+/// A node's parts but for its last child.
+#[derive(Drop)]
+pub enum Above {
+    Seq(Node),
+    Or(Node),
+    And(Node),
+    Group(u8),
+    External(u8),
+    Repeat {
+        least: u32,
+        most: Option<u32>,
+        lazy: bool,
+    },
+    Ahead {
+        not: bool,
+    },
+    Before {
+        not: bool,
+        limit: Behind,
+    },
+    Whole,
+}
+
+/// The node of these parts and this last child.
+fn put_over(alloc: Global, above: Above, node: Node) -> Result<Node, Memory>
+    ensures { IfOk result (λ n. bare n ≡ spec.over above (bare node)) }
+{
+    let part = Box::new(alloc, node)?;
+    match above {
+        Above::Seq(first) => Ok(Node::Seq(Box::new(alloc, first)?, part)),
+        Above::Or(first) => Ok(Node::Or(Box::new(alloc, first)?, part)),
+        Above::And(first) => Ok(Node::And(Box::new(alloc, first)?, part)),
+        Above::Group(number) => Ok(Node::Group(part, number)),
+        Above::External(number) => Ok(Node::External(part, number)),
+        Above::Repeat { least, most, lazy } => Ok(Node::Repeat {
+            part,
+            least,
+            most,
+            lazy,
+        }),
+        Above::Ahead { not } => Ok(Node::Ahead { part, not }),
+        Above::Before { not, limit } => Ok(Node::Before { part, not, limit }),
+        Above::Whole => Ok(Node::Whole(part)),
+    }
+}
+
+/// The node of all these, the uppermost first, over this one.
+#[tactic(auto, using(crate::proofs::CopyLaws::over_last))]
+fn put_all_over(alloc: Global, all: Vec<Above>, node: Node) -> Result<Node, Memory>
+    ensures { IfOk result (λ n. bare n ≡ spec.all_over all.items (bare node)) }
+{
+    let mut all = all;
+    let mut node = node;
+    while let Some(above) = all.pop() {
+        node = put_over(alloc, above, node)?;
+    }
+    Ok(node)
+}
+
+/// Copies a node. Only first children are copied by a call of its own, and those nest no deeper
+/// than the levels of a pattern allow.
+#[tactic(auto, using(crate::proofs::CopyLaws::over_last))]
+fn copied(alloc: Global, node: &Node) -> Result<Node, Memory>
+    ensures { IfOk result (λ n. bare n ≡ bare node.now) }
+{
+    let mut all = Vec::new(alloc);
+    let mut rest = node;
+    loop {
+        match rest {
+            Node::Empty => return put_all_over(alloc, all, Node::Empty),
+            Node::One(atom) => {
+                let leaf = Node::One(copied_atom(alloc, atom)?);
+                return put_all_over(alloc, all, leaf);
+            }
+            Node::Seq(a, b) => {
+                all.push(Above::Seq(copied(alloc, a)?))?;
+                rest = b;
+            }
+            Node::Or(a, b) => {
+                all.push(Above::Or(copied(alloc, a)?))?;
+                rest = b;
+            }
+            Node::And(a, b) => {
+                all.push(Above::And(copied(alloc, a)?))?;
+                rest = b;
+            }
+            Node::Group(a, number) => {
+                all.push(Above::Group(*number))?;
+                rest = a;
+            }
+            Node::External(a, number) => {
+                all.push(Above::External(*number))?;
+                rest = a;
+            }
+            Node::Repeat {
+                part,
+                least,
+                most,
+                lazy,
+            } => {
+                all.push(Above::Repeat {
+                    least: *least,
+                    most: *most,
+                    lazy: *lazy,
+                })?;
+                rest = part;
+            }
+            Node::Ahead { part, not } => {
+                all.push(Above::Ahead { not: *not })?;
+                rest = part;
+            }
+            Node::Before { part, not, limit } => {
+                all.push(Above::Before {
+                    not: *not,
+                    limit: *limit,
+                })?;
+                rest = part;
+            }
+            Node::Whole(a) => {
+                all.push(Above::Whole)?;
+                rest = a;
+            }
+        }
+    }
+}
+
+impl Tree {
+    /// An equal tree.
+    pub fn copy(&self, alloc: Global) -> Result<Tree, Memory>
+        ensures { IfOk result (λ t. t ≡ self.now) }
+    {
+        let node = copied(alloc, &self.node)?;
+        Ok(Tree {
+            node,
+            case: self.case,
+            groups: self.groups,
+            externals: self.externals,
+            moves_start: self.moves_start,
+            line_end: self.line_end,
+        })
+    }
+}
