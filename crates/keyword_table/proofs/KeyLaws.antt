@@ -1,7 +1,7 @@
 -- A table's keys by their characters: what one change leaves at any characters.
-use Rattle.std.proofs.Common.{◌≡◌, ℕ, Bool, true, false, cond, List, refl, sym, ◌∙◌, subst}
-use Rattle.std.specs.Prelude.{nat_eq, Option}
-use Rattle.std.specs.HashMap.{HashMap, UpdatesBy}
+use Rattle.std.proofs.Common.{◌≡◌, ℕ, Bool, true, false, cond, List, [], ◌∷◌, length, arith, refl, sym, ◌∙◌, subst}
+use Rattle.std.specs.Prelude.{nat_eq, Option, None}
+use Rattle.std.specs.HashMap.{HashMap, UpdatesBy, hash_map_len}
 use Rattle.std.specs.Map.{lookup, IsKeyTest, AreApart, KeepsOthers}
 use Rattle.std.specs.Cmp.Lexicographic.{pointwise, same_text}
 use Rattle.std.specs.declared.vec.Vec.{Vec}
@@ -27,3 +27,11 @@ last_at-updated key old new place h other =
       | false ↦ λ n. other_entries _ _ _ _ h.3 _ (λ x y. nat_list_eq_equiv.congr other x.items y.items) (λ k. apart key other k.items n)
     ] was in
     at (pointwise nat_eq key other) refl
+
+none_of_no_entries : {K X : Type 0} (test : K → Bool) (entries : List (K × X)) → length entries ≡ 0 → lookup test entries ≡ None
+none_of_no_entries test [] none = refl
+none_of_no_entries test (entry ∷ entries) none = absurd (omega arith)
+
+-- a table with no keys finds nothing
+pub last_at-empty : {A S : Type 0} (table : HashMap (Vec ℕ A) ℕ S) (key : List ℕ) → hash_map_len table ≡ 0 → last_at table key ≡ None
+last_at-empty table key none = none_of_no_entries (λ k. pointwise nat_eq key k.items) table.entries none

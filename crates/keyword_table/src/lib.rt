@@ -10,6 +10,8 @@ mod abbreviation;
 mod errors;
 mod last_table;
 mod table;
+#[cfg(test)]
+mod tests;
 mod words;
 
 pub use abbreviation::expand;

@@ -110,6 +110,9 @@ impl Keywords {
     {
         let mut items = List::new(alloc);
         push_chain(&self.entries, last_at(&self.by_word, word), &mut items)?;
+        if self.by_fold.is_empty() {
+            return Ok(items);
+        }
         let key = fold_word(alloc, word)?;
         push_chain(
             &self.entries,
