@@ -9,7 +9,7 @@ use Rattle.std.proofs.lemmas.List.{take-append-le, take-append-drop, append-nil,
 use Rattle.std.proofs.Math.Seq.{take-append_seam}
 use Rattle.syn_base.specs.declared.places.ItemId.{ItemId}
 use Rattle.keyword_table.specs.Candidates.{candidates, folded, has_fold, has_word, last_first}
-use Rattle.keyword_table.specs.Chains.{definitions, found_like, IsChained, IsTable, items_at, items_from, Knows, last_at, last_where, later}
+use Rattle.keyword_table.specs.Chains.{definitions, found_like, IsChained, IsTable, items_from, Knows, last_at, last_where, later}
 use Rattle.keyword_table.specs.declared.table.Definition.{Definition}
 use Rattle.keyword_table.specs.declared.table.Entry.{Entry}
 

@@ -1,6 +1,6 @@
 -- Words, expansions and candidates that are known, worked out by hand.
-use Rattle.std.proofs.Common.{◌≡◌, ℕ, Bool, true, false, List, [], ◌∷◌, length, refl, map, take, ◌++◌, ◌+◌}
-use Rattle.std.specs.Prelude.{Option, Some, None, codes}
+use Rattle.std.proofs.Common.{◌≡◌, ℕ, Bool, true, false, List, [], ◌∷◌, refl, map}
+use Rattle.std.specs.Prelude.{Some, None, codes}
 use Rattle.ucd_case.proofs.Computing.{ucd_case}
 use Rattle.syn_base.specs.declared.places.ItemId.{ItemId}
 use Rattle.char_class.specs.CharSet.{set_has, is_member}

@@ -1,6 +1,6 @@
 -- A keyword with an optional part, as `ab[breviate]` (Vim's help, :syn-keyword): a stem, and in
 -- brackets at the end what may be left out from the end on.
-use Rattle.std.specs.Prelude.{ℕ, ◌+◌, ◌==◌, Bool, not, ◌&&◌, List, [], ◌∷◌, ◌++◌, length, take, drop, Option, Some, None, if◌then◌else◌}
+use Rattle.std.specs.Prelude.{ℕ, ◌+◌, ◌==◌, not, ◌&&◌, List, [], ◌∷◌, ◌++◌, length, take, drop, Option, Some, None, if◌then◌else◌}
 use Rattle.std.specs.List.{position_from}
 
 -- the word with more and more of the characters behind it

@@ -1,7 +1,7 @@
 -- Which items a word may start (Vim's help, :syn-keyword and :syn-case): those of the definitions that
 -- have the word, then those of the definitions that ignore case and have its fold. The last one
 -- defined comes first.
-use Rattle.std.specs.Prelude.{ℕ, Bool, not, ◌&&◌, List, ◌++◌, map, filter, reverse, nat_eq, if◌then◌else◌}
+use Rattle.std.specs.Prelude.{ℕ, Bool, not, ◌&&◌, List, ◌++◌, map, filter, reverse, nat_eq}
 use Rattle.std.specs.Cmp.Lexicographic.{pointwise}
 use Rattle.unicode.specs.CaseFolding.{simple_fold}
 use Rattle.syn_base.specs.declared.places.ItemId.{ItemId}
