@@ -1,0 +1,4 @@
+pub mod ChainLaws
+pub mod KeyLaws
+mod KnownWords
+pub mod WordLaws

@@ -1,0 +1,5 @@
+pub mod Abbreviation
+pub mod Candidates
+pub mod Words
+-- below here, what the code alone cites
+pub mod Chains

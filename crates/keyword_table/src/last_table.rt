@@ -1,0 +1,40 @@
+//! The keys of a table of keywords, and the last definition that each key finds.
+ghost use Rattle.std.specs.Prelude.{◌≡◌, ℕ, List, nat_eq, Some, OnOk, OnErr, IfOk, if◌then◌else◌};
+ghost use Rattle.std.specs.Cmp.Lexicographic.{pointwise};
+ghost use Rattle.keyword_table.specs.Candidates.{folded};
+ghost use Rattle.keyword_table.specs.Chains.{last_at};
+
+use char_class::fold;
+use std::alloc::{AllocError, AllocFailed, Global};
+use std::collections::HashMap;
+
+/// The place of the last definition that each key finds.
+pub(crate) type LastTable = HashMap<Vec<char>, usize>;
+
+/// The place of the last definition that the key finds.
+pub(crate) fn last_at(table: &LastTable, key: &[char]) -> Option<usize>
+    ensures { result ≡ last_at table.now key.now }
+{
+    table.get(key).copied()
+}
+
+/// Puts a later place at the key, and answers the one that stood there.
+pub(crate) fn put_last(
+    table: &mut LastTable,
+    key: Vec<char>,
+    place: usize,
+) -> Result<Option<usize>, AllocFailed<(Vec<char>, usize)>>
+    ensures earlier { IfOk result (λ earlier. earlier ≡ last_at table.old key.items) }
+    ensures put { OnOk result ((other : List ℕ) → last_at table.new other
+        ≡ (if pointwise nat_eq key.items other then Some place else last_at table.old other)) }
+    ensures err { OnErr result ((other : List ℕ) → last_at table.new other ≡ last_at table.old other) }
+{
+    table.insert(key, place)
+}
+
+/// The word with each character folded.
+pub(crate) fn fold_word(alloc: Global, word: &[char]) -> Result<Vec<char>, AllocError>
+    ensures { IfOk result (λ key. key.items ≡ folded word.now) }
+{
+    word.iter().map(|c| fold(*c)).collect(alloc)
+}
