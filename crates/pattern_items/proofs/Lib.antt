@@ -1,0 +1,3 @@
+pub mod CollectionLaws
+pub mod PlaceLaws
+pub mod NumberLaws

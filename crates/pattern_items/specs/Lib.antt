@@ -1,0 +1,10 @@
+pub mod CauseText
+pub mod Codes
+pub mod GroupNumbers
+pub mod Numbers
+pub mod Multis
+pub mod Letters
+pub mod ClassNames
+pub mod Collection
+pub mod Spelling
+pub mod Place

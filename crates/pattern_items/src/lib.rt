@@ -1,0 +1,27 @@
+//! The items of a pattern: what each run of its characters stands for, in its place.
+//!
+//! An item is first spelled: its characters and the level of magic say what it is. Then it is put
+//! in its place: what stands before it, what follows it and the pattern's use say whether a caret
+//! is the line start, which number a group has, or that the item is a fault. So whoever reads a
+//! pattern goes from item to item and never looks at a character twice, but for collections.
+#![tactic(auto)]
+
+mod atom;
+mod cause;
+mod class_names;
+mod codes;
+mod collection;
+mod item;
+mod letters;
+mod multis;
+mod numbers;
+mod place;
+mod scan;
+mod spelling;
+
+pub use atom::{Atom, CharRanges, SetPart};
+pub use cause::PatternCause;
+pub use collection::collection_end;
+pub use item::{Before, Behind, Context, Kind, Level, Multi, PatternUse, Placed, Sign, Times};
+pub use place::next_item;
+pub use scan::behind;

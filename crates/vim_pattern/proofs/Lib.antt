@@ -1,0 +1,10 @@
+pub mod Complete
+pub mod Sound
+pub mod Faults
+pub mod OneFault
+pub mod TextLaws
+pub mod Progress
+pub mod Joined
+pub mod Under
+pub mod NumberLaws
+pub mod Rows

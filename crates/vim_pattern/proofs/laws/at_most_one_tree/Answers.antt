@@ -1,0 +1,5 @@
+use Rattle.vim_pattern.proofs.TextLaws as texts
+use Rattle.vim_pattern.proofs.laws.at_most_one_tree.Goals as goal
+
+pub returns : goal.returns
+returns c = texts.one_tree

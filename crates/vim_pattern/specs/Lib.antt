@@ -1,0 +1,11 @@
+pub mod Shape
+pub mod Tree
+pub mod ShapeCode
+pub mod Grammar
+pub mod Fault
+pub mod GroupNumbers
+pub mod Pattern
+pub mod Answer
+pub mod Read
+pub mod Built
+pub mod Summary

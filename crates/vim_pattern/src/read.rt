@@ -1,0 +1,326 @@
+//! The reader: what has been read, what is open, and one item more.
+ghost use Rattle.std.specs.Prelude.{◌≡◌, ◌^◌, [], ◌<◌, length, IfOk, true, MatchOption, IfErr};
+ghost use Rattle.vim_pattern.specs.Shape.{bare};
+ghost use Rattle.vim_pattern.specs.Shape as shape;
+ghost use Rattle.vim_pattern.specs.Pattern.{IsTreeOf};
+ghost use Rattle.vim_pattern.specs.GroupNumbers.{HasNumbers};
+ghost use Rattle.vim_pattern.specs.Answer.{TellsFault, HasNoTree};
+ghost use Rattle.vim_pattern.specs.Built.{GivesTree, part_of, state_of, under_of, Gives};
+ghost use Rattle.vim_pattern.specs.Read as read;
+ghost use Rattle.vim_pattern.specs.Fault as fault;
+ghost use Rattle.pattern_items.specs.Place.{items_of};
+
+use crate::build::{
+    Built, LastNode, OpenItem, ended, list_of, new_part, pattern_of, put, with_also, with_bar,
+    with_multi,
+};
+use crate::notes::{Noted, noted_next, tree_of};
+use crate::{Atom, Node, PatternCause, PatternError, PatternUse, Tree};
+use pattern_items::{Before, Context, Kind, Level, Multi, Placed, Sign, behind, next_item};
+use std::alloc::Global;
+
+/// The most characters of a pattern.
+const MOST_CHARACTERS: usize = 4000;
+
+/// The most levels of a pattern: groups of every kind and optional lists that are open at a place.
+const MOST_LEVELS: usize = 100;
+
+/// What has been read, and what is open, the innermost last.
+#[derive(Drop)]
+pub struct Reading {
+    pub here: Built,
+    pub under: Vec<OpenItem>,
+}
+
+fn at<T>(at: usize, cause: PatternCause) -> Result<T, PatternError>
+    ensures { result ≡ Err (PatternError.At at cause) }
+{
+    Err(PatternError::At { at, cause })
+}
+
+fn is_optional(kind: Kind) -> bool
+    ensures { result ≡ fault.is_optional kind }
+{
+    match kind {
+        Kind::Optional => true,
+        _ => false,
+    }
+}
+
+/// Whether the innermost open item is an optional list, and its place.
+#[tactic(auto, using(crate::proofs::Under::under_push))]
+fn top(under: &[OpenItem]) -> (bool, usize)
+    ensures list { result.0 ≡ read.in_list (under_of under.now) }
+    ensures at { result.1 ≡ read.top_at (under_of under.now) }
+{
+    match under.split_last() {
+        None => (false, 0),
+        Some((o, _)) => (is_optional(o.kind), o.at),
+    }
+}
+
+fn multi(
+    alloc: Global,
+    reading: Reading,
+    place: usize,
+    found: Multi,
+) -> Result<Reading, PatternError>
+    ensures { Gives state_of result (read.multi_step place found
+        (read.in_list (under_of reading.under.items)) (state_of reading)
+        (part_of reading.here).last) }
+{
+    let (list, _) = top(&reading.under);
+    let Reading { here, under } = reading;
+    let Built {
+        branches,
+        concats,
+        pieces,
+        last,
+    } = here;
+    match last {
+        LastNode::Nothing => at(place, PatternCause::NothingToRepeat),
+        LastNode::Fixed(_) => at(place, PatternCause::DoubleCount),
+        LastNode::Loose(node) => {
+            if list {
+                return at(place, PatternCause::NothingToRepeat);
+            }
+            let last = LastNode::Fixed(with_multi(alloc, found, node)?);
+            let here = Built {
+                branches,
+                concats,
+                pieces,
+                last,
+            };
+            Ok(Reading { here, under })
+        }
+    }
+}
+
+#[tactic(auto, using(crate::proofs::Under::under_push, crate::proofs::Under::length_under))]
+fn open_item(
+    alloc: Global,
+    reading: Reading,
+    place: usize,
+    kind: Kind,
+) -> Result<Reading, PatternError>
+    ensures { Gives state_of result (read.open_step place kind (state_of reading)) }
+{
+    let Reading { here, mut under } = reading;
+    if under.len() < MOST_LEVELS {
+        under.push(OpenItem {
+            at: place,
+            kind,
+            part: here,
+        })?;
+        Ok(Reading {
+            here: new_part(alloc),
+            under,
+        })
+    } else {
+        at(place, PatternCause::TooNested)
+    }
+}
+
+fn back(part: Built, under: Vec<OpenItem>, node: Node) -> Result<Reading, PatternError>
+    ensures { Gives state_of result
+        (Ok (record { here = read.put (bare node) (part_of part); under = under_of under.items })) }
+{
+    Ok(Reading {
+        here: put(part, node)?,
+        under,
+    })
+}
+
+#[tactic(auto, using(crate::proofs::Under::under_push))]
+fn close(alloc: Global, reading: Reading, place: usize) -> Result<Reading, PatternError>
+    ensures { Gives state_of result
+        (read.close_step place (part_of reading.here) (under_of reading.under.items)) }
+{
+    let Reading { here, mut under } = reading;
+    let Some(outer) = under.pop() else {
+        return at(place, PatternCause::UnopenedClose);
+    };
+    match outer.kind {
+        Kind::Counted(number) => {
+            let node = pattern_of(alloc, here)?;
+            back(
+                outer.part,
+                under,
+                Node::Group(Box::new(alloc, node)?, number),
+            )
+        }
+        Kind::External(number) => {
+            let node = pattern_of(alloc, here)?;
+            back(
+                outer.part,
+                under,
+                Node::External(Box::new(alloc, node)?, number),
+            )
+        }
+        Kind::Plain => back(outer.part, under, pattern_of(alloc, here)?),
+        Kind::Optional => at(place, PatternCause::UnopenedClose),
+    }
+}
+
+fn put_here(reading: Reading, atom: Atom) -> Result<Reading, PatternError>
+    ensures { Gives state_of result
+        (Ok (read.on_part (read.put (shape.one atom)) (state_of reading))) }
+{
+    Ok(Reading {
+        here: put(reading.here, Node::One(atom))?,
+        under: reading.under,
+    })
+}
+
+#[tactic(auto, using(crate::proofs::Under::under_push))]
+fn end_list(alloc: Global, reading: Reading, place: usize) -> Result<Reading, PatternError>
+    requires { read.in_list (under_of reading.under.items) ≡ true }
+    ensures { Gives state_of result
+        (read.square_step place (state_of reading) (under_of reading.under.items)) }
+{
+    let Reading { here, mut under } = reading;
+    let Some(outer) = under.pop() else {
+        return at(place, PatternCause::UnopenedClose);
+    };
+    match list_of(alloc, here)? {
+        None => at(place, PatternCause::EmptyOptional),
+        Some(node) => back(outer.part, under, node),
+    }
+}
+
+#[tactic(auto, using(crate::proofs::Under::square_char))]
+fn square(alloc: Global, reading: Reading, place: usize) -> Result<Reading, PatternError>
+    ensures { Gives state_of result
+        (read.square_step place (state_of reading) (under_of reading.under.items)) }
+{
+    let (list, _) = top(&reading.under);
+    if list {
+        end_list(alloc, reading, place)
+    } else {
+        put_here(reading, Atom::Char(']'))
+    }
+}
+
+fn bar(alloc: Global, reading: Reading) -> Result<Reading, PatternError>
+    ensures { Gives state_of result (read.step (state_of reading) 0 Sign.Bar) }
+{
+    let (list, open) = top(&reading.under);
+    if list {
+        return at(open, PatternCause::Unclosed);
+    }
+    Ok(Reading {
+        here: with_bar(alloc, reading.here)?,
+        under: reading.under,
+    })
+}
+
+fn also(alloc: Global, reading: Reading) -> Result<Reading, PatternError>
+    ensures { Gives state_of result (read.step (state_of reading) 0 Sign.Also) }
+{
+    let (list, open) = top(&reading.under);
+    if list {
+        return at(open, PatternCause::Unclosed);
+    }
+    Ok(Reading {
+        here: with_also(alloc, reading.here)?,
+        under: reading.under,
+    })
+}
+
+/// One item more.
+fn step(alloc: Global, reading: Reading, place: usize, sign: Sign) -> Result<Reading, PatternError>
+    requires { place < 2 ^ 61 }
+    ensures { Gives state_of result (read.step (state_of reading) place sign) }
+{
+    match sign {
+        Sign::Atom(atom) => put_here(reading, atom),
+        Sign::Multi(found) => multi(alloc, reading, place, found),
+        Sign::Open(kind) => open_item(alloc, reading, place, kind),
+        Sign::Close => close(alloc, reading, place),
+        Sign::Square => square(alloc, reading, place),
+        Sign::Bar => bar(alloc, reading),
+        Sign::Also => also(alloc, reading),
+        Sign::Quiet { ignore: _ } => Ok(Reading {
+            here: ended(reading.here)?,
+            under: reading.under,
+        }),
+        Sign::Wrong { before, cause } => at(place + before as usize, cause),
+    }
+}
+
+/// The place of the first item that is still open.
+#[tactic(auto, using(crate::proofs::Under::finish_open))]
+fn first_open(under: &[OpenItem]) -> Option<usize>
+    ensures { MatchOption result
+        (under_of under.now ≡ [])
+        (λ at. (p : read.Part) →
+        read.finish p (under_of under.now) ≡ Err (fault.fault_at at PatternCause.Unclosed)) }
+{
+    match under.split_first() {
+        None => None,
+        Some((open, _)) => Some(open.at),
+    }
+}
+
+/// The tree, where nothing is open.
+fn finish(alloc: Global, reading: Reading) -> Result<Node, PatternError>
+    ensures { Gives bare result
+        (read.finish (part_of reading.here) (under_of reading.under.items)) }
+{
+    match first_open(&reading.under) {
+        None => Ok(pattern_of(alloc, reading.here)?),
+        Some(open) => at(open, PatternCause::Unclosed),
+    }
+}
+
+/// The tree of a text's items, or their fault.
+fn read_items(alloc: Global, text: &[char], usage: PatternUse) -> Result<Tree, PatternError>
+    requires { length text.now < 2 ^ 61 }
+    ensures { GivesTree (items_of usage text.now) result
+        (read.read (items_of usage text.now) read.start) }
+{
+    let mut context = Context {
+        usage,
+        level: Level::Usual,
+        before: Before::Begin,
+        groups: 0,
+        externals: 0,
+        first: true,
+    };
+    let mut reading = Reading {
+        here: new_part(alloc),
+        under: Vec::new(alloc),
+    };
+    let mut noted = Noted {
+        ignores_case: false,
+        heeds_case: false,
+        moves_start: false,
+        line_end: false,
+    };
+    let mut place: usize = 0;
+    let mut rest = text;
+    while rest.len() > 0 {
+        let Placed { sign, len, next } = next_item(alloc, context, rest)?;
+        noted = noted_next(noted, &sign);
+        reading = step(alloc, reading, place, sign)?;
+        context = next;
+        place += len;
+        rest = behind(rest, len);
+    }
+    let node = finish(alloc, reading)?;
+    Ok(tree_of(node, noted, context.groups, context.externals))
+}
+
+/// The one tree of a text for this use, or its first fault, with the place of the offending
+/// character, in characters from 0 (`pattern.txt`).
+pub fn read_pattern(alloc: Global, text: &[char], usage: PatternUse) -> Result<Tree, PatternError>
+    ensures tree { IfOk result (λ t. IsTreeOf text.now usage t) }
+    ensures numbers { IfOk result (λ t. HasNumbers t.node) }
+    ensures fault { IfErr result (λ e. TellsFault text.now usage e) }
+    ensures no_tree { IfErr result (λ e. HasNoTree text.now usage e) }
+{
+    if text.len() > MOST_CHARACTERS {
+        return at(MOST_CHARACTERS, PatternCause::TooLong);
+    }
+    read_items(alloc, text, usage)
+}
