@@ -1,0 +1,15 @@
+use crate::{Groups, SetError};
+use syn_base::GroupId;
+
+#[test]
+fn a_group_is_found_with_case_ignored(rt: HostRuntime) {
+    let mut groups = Groups::new(rt.alloc());
+    assert!(rt; groups.number("Comment") == Ok(GroupId(0)));
+    assert!(rt; groups.number("String") == Ok(GroupId(1)));
+    assert!(rt; groups.number("comMENT") == Ok(GroupId(0)));
+    assert!(rt; groups.find("comment") == Ok(Some(GroupId(0))));
+    assert!(rt; groups.find("other") == Ok(None));
+    assert_eq!(rt; groups.name(GroupId(0)), "Comment");
+    assert_eq!(rt; groups.name(GroupId(7)), "");
+    assert_eq!(rt; groups.len(), 2);
+}
