@@ -1,15 +1,18 @@
 -- Groups are kept by their names in lower case: what is found there is the group of a name.
-use Rattle.std.proofs.Common.{◌≡◌, ℕ, suc, add-zero, ◌+◌, ◌<◌, ◌≤◌, Bool, true, false, cond, not, ltb, eqb, List, [], ◌∷◌, ◌++◌, length, map, Option, Some, None, is_some, String, refl, ap, sym, ◌∙◌, arith, length-append, if◌then◌else◌, position}
+use Rattle.std.proofs.Common.{◌≡◌, ℕ, suc, add-zero, ◌+◌, Bool, true, false, cond, not, ltb, eqb, HashMap, List, [], ◌∷◌, ◌++◌, length, Option, Some, None, is_some, String, refl, ap, subst, sym, ◌∙◌, arith, length-append, if◌then◌else◌, position}
 use Rattle.std.specs.declared.alloc.Global.{Global}
+use Rattle.std.specs.HashMap.{get, get_by}
 use Rattle.std.specs.List.{position_or_len}
 use Rattle.std.specs.Map.{keys_of}
 use Rattle.std.specs.Option.{option_map}
 use Rattle.std.specs.Str.{bytes_eq, str_to_ascii_lowercase}
-use Rattle.std.specs.String.{string_bytes}
+use Rattle.std.specs.String.{string_bytes, string_eq}
 use Rattle.std.proofs.lemmas.Bool.Decides.{nat_tests}
 use Rattle.std.proofs.lemmas.List.Folds.{position_or_len_push}
 use Rattle.std.proofs.lemmas.List.Sums.{prefix_len-le-length}
 use Rattle.std.proofs.lemmas.Slice.Eq.{bytes_eq-Decides}
+use Rattle.indexmap.specs.IndexMap.{insert_entry}
+use Rattle.indexmap.proofs.CallerLemmas.{insert_entry-new}
 use Rattle.syn_base.specs.declared.places.GroupId.{GroupId}
 use Rattle.syntax_set.specs.GroupEntries.{Entry, IsByLowerCase, names_of}
 use Rattle.syntax_set.specs.Groups.{group_numbered, group_of, is_same_name, with_group}
@@ -89,7 +92,35 @@ pub with_group-new : (names : List (List ℕ)) (name : List ℕ) → group_of na
     → with_group names name ≡ names ++ name ∷ []
 with_group-new names name new = λ j. if is_some (new j) then names else names ++ name ∷ []
 
--- no entry has a name that isn't found
-pub absent : (m : HashMap (String Global) (String Global) S) (lower : String Global) (query : List ℕ) → query ≡ string_bytes lower
-    → is_some (None {A = ℕ}) ≡ is_some (get_by (λ key. bytes_eq query (string_bytes key)) m) → get string_eq m lower ≡ None
-absent m lower query same none = ?
+module _ {S : Type 0} (m : HashMap (String Global) (String Global) S) (lower : String Global) where
+  -- a name that isn't found has no entry
+  absent : (query : List ℕ) → query ≡ string_bytes lower
+      → false ≡ is_some (get_by (λ key. bytes_eq query (string_bytes key)) m) → get string_eq m lower ≡ None
+  absent query same none =
+      no_value _ (none ∙ ap (λ q. is_some (get_by (λ key. bytes_eq q (string_bytes key)) m)) same)
+    where
+      no_value : (found : Option (String Global)) → false ≡ is_some found → found ≡ None
+      no_value None h = refl
+      no_value (Some x) h = cc
+
+  -- a new name goes last
+  pub entry_pushed : (n : HashMap (String Global) (String Global) S) (written : String Global) (query : List ℕ) → query ≡ string_bytes lower
+      → false ≡ is_some (get_by (λ key. bytes_eq query (string_bytes key)) m)
+      → n.entries ≡ insert_entry string_eq m.entries lower written → n.entries ≡ m.entries ++ (lower, written) ∷ []
+  entry_pushed n written query same none inserted =
+      inserted ∙ insert_entry-new string_eq m lower written (absent query same none)
+
+-- the names with a further entry
+pub names_further : (before after : List Entry) (lower written : String Global) (names : List (List ℕ)) (name : List ℕ)
+    → after ≡ before ++ (lower, written) ∷ [] → names_of before ≡ names → string_bytes written ≡ name
+    → names_of after ≡ names ++ name ∷ []
+names_further before after lower written names name pushed same is_written =
+    ap names_of pushed ∙ names_of-push before lower written ∙ (λ j. same j ++ is_written j ∷ [])
+
+-- what is kept, with a further entry
+pub still_by_lower_case : (before after : List Entry) (lower written : String Global) (name : List ℕ)
+    → after ≡ before ++ (lower, written) ∷ [] → IsByLowerCase before
+    → string_bytes lower ≡ str_to_ascii_lowercase name → string_bytes written ≡ name → IsByLowerCase after
+still_by_lower_case before after lower written name pushed by_lower_case in_lower_case is_written =
+    subst IsByLowerCase (sym pushed)
+    (by_lower_case-push before lower written by_lower_case (in_lower_case ∙ ap str_to_ascii_lowercase (sym is_written)))

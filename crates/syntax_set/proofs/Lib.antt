@@ -1,5 +1,7 @@
 pub mod GroupLaws
+mod KnownGroups
 pub mod Tests
 pub mod NumberLaws
-pub mod ReachedLaws
 pub mod ListAt
+pub mod ReachedLaws
+pub mod KeptLaws

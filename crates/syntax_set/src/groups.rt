@@ -87,15 +87,17 @@ impl Groups {
         ensures unchanged { OnErr result (self.new ≡ self.old) }
     {
         let lower = name.to_ascii_lowercase(self.alloc)?;
-        if let Some(number) = self.names.get_index_of(lower.as_str()) {
-            return Ok(GroupId(number as u32));
+        match self.names.get_index_of(lower.as_str()) {
+            Some(number) => Ok(GroupId(number as u32)),
+            None => {
+                let number = self.names.len();
+                if number == MOST_GROUPS {
+                    return Err(SetError::TooManyGroups);
+                }
+                let written = String::from_str(self.alloc, name)?;
+                self.names.insert(lower, written)?;
+                Ok(GroupId(number as u32))
+            }
         }
-        let number = self.names.len();
-        if number == MOST_GROUPS {
-            return Err(SetError::TooManyGroups);
-        }
-        let written = String::from_str(self.alloc, name)?;
-        self.names.insert(lower, written)?;
-        Ok(GroupId(number as u32))
     }
 }
