@@ -5,3 +5,4 @@ pub mod NumberLaws
 pub mod ListAt
 pub mod ReachedLaws
 pub mod KeptLaws
+mod KnownLists

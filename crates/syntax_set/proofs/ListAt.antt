@@ -34,8 +34,10 @@ list_at-push lists cluster = by (split cluster (length lists))
     rest : (k : ℕ) → get_or (no_list ∷ []) k no_list ≡ no_list
     rest zero = refl
     rest (suc k) = refl
+
     split : (a b : ℕ) → (a < b) ⊎ (b ≤ a)
     split a b = grind arith
+
     by : (cluster < length lists) ⊎ (length lists ≤ cluster) → list_at (lists ++ no_list ∷ []) cluster ≡ list_at lists cluster
     by (inl within) =
         list_at-get_or (lists ++ no_list ∷ []) cluster

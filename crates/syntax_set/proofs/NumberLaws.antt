@@ -19,6 +19,7 @@ has_number-with_number ns n k = by (has_number ns n) refl
     there known either =
         let P : ℕ → Type 0 = λ j. has_number ns j ≡ true in
         elim (or_cases (has_number ns k) (nat_eq k n) either) [ inl old ↦ old | inr same ↦ subst P (sym (eqb-true k n same)) known ]
+
     by : (b : Bool) → has_number ns n ≡ b → has_number (cond b ns (ns ++ n ∷ [])) k ≡ (has_number ns k || nat_eq k n)
     by true known = same_bool (has_number ns k) (has_number ns k || nat_eq k n) (or_left (has_number ns k) (nat_eq k n)) (there known)
     by false new = list_any-append (nat_eq k) ns (n ∷ []) ∙ ap (λ b. has_number ns k || b) (or_false (nat_eq k n))
@@ -63,13 +64,13 @@ pub with_numbers-extends : (ns more : List ℕ) → Extends ns (with_numbers ns 
 with_numbers-extends ns [] = record { rest = []; whole = sym (append-nil ns) }
 with_numbers-extends ns (n ∷ more) =
     extends_further ns (with_number ns n) (with_numbers (with_number ns n) more)
-        (with_number-extends ns n) (with_numbers-extends (with_number ns n) more)
+    (with_number-extends ns n) (with_numbers-extends (with_number ns n) more)
 
 pub with_all_named-extends : (lists : List ClusterList) (found clusters : List ℕ) → Extends found (with_all_named lists found clusters)
 with_all_named-extends lists found [] = record { rest = []; whole = sym (append-nil found) }
 with_all_named-extends lists found (m ∷ clusters) =
     extends_further found (with_named lists found m) (with_all_named lists (with_named lists found m) clusters)
-        (with_numbers-extends found (list_at lists m).clusters) (with_all_named-extends lists (with_named lists found m) clusters)
+    (with_numbers-extends found (list_at lists m).clusters) (with_all_named-extends lists (with_named lists found m) clusters)
 
 -- numbers that stand once each stay so with one more
 pub each_once-with_number : (ns : List ℕ) (n : ℕ) → with_numbers [] ns ≡ ns → with_numbers [] (with_number ns n) ≡ with_number ns n

@@ -32,25 +32,27 @@ module _ (lists : List ClusterList) where
   unfolding leads_to
   leads_to-more zero target cluster h = absurd (true≢false (sym h))
   leads_to-more (suc levels) target cluster h = elim (or_cases (nat_eq target cluster) (onward levels target cluster) h) [
-      inl here ↦ or_left (nat_eq target cluster) (onward (suc levels) target cluster) here
+    | inl here ↦ or_left (nat_eq target cluster) (onward (suc levels) target cluster) here
     | inr later ↦
         let w = witness (leads_to lists levels target) (next cluster) later in
         or_right (nat_eq target cluster) (onward (suc levels) target cluster)
-            (w.among (leads_to lists (suc levels) target) (leads_to-more levels target w.at w.here)) ]
+        (w.among (leads_to lists (suc levels) target) (leads_to-more levels target w.at w.here))
+  ]
 
   -- what a cluster names that is led to is led to on one level more
   pub leads_to-named : (levels middle target cluster : ℕ) → leads_to lists levels middle cluster ≡ true → names_cluster lists target middle ≡ true → leads_to lists (suc levels) target cluster ≡ true
   unfolding leads_to
   leads_to-named zero middle target cluster h named = absurd (true≢false (sym h))
   leads_to-named (suc levels) middle target cluster h named = elim (or_cases (nat_eq middle cluster) (onward levels middle cluster) h) [
-      inl same ↦
+    | inl same ↦
         let P : ℕ → Type 0 = λ k. names_cluster lists target k ≡ true in
         or_right (nat_eq target cluster) (onward (suc levels) target cluster)
-            (passes_among (leads_to lists (suc levels) target) (next cluster) target (subst P (eqb-true middle cluster same) named) (leads_to-self levels target))
+        (passes_among (leads_to lists (suc levels) target) (next cluster) target (subst P (eqb-true middle cluster same) named) (leads_to-self levels target))
     | inr later ↦
         let w = witness (leads_to lists levels middle) (next cluster) later in
         or_right (nat_eq target cluster) (onward (suc levels) target cluster)
-            (w.among (leads_to lists (suc levels) target) (leads_to-named levels middle target w.at w.here named)) ]
+        (w.among (leads_to lists (suc levels) target) (leads_to-named levels middle target w.at w.here named))
+  ]
 
   -- a cluster that names the target and is led to
   pub record ComesLast (levels target cluster : ℕ) : Type 0 where
@@ -61,28 +63,32 @@ module _ (lists : List ClusterList) where
   only_itself : (target cluster : ℕ) → leads_to lists 1 target cluster ≡ true → nat_eq target cluster ≡ true
   unfolding leads_to
   only_itself target cluster h = elim (or_cases (nat_eq target cluster) (onward 0 target cluster) h) [
-      inl same ↦ same
-    | inr later ↦ absurd (true≢false (sym (witness (leads_to lists 0 target) (next cluster) later).here)) ]
+    | inl same ↦ same
+    | inr later ↦ absurd (true≢false (sym (witness (leads_to lists 0 target) (next cluster) later).here))
+  ]
 
   -- on one level more a cluster leads to what it led to before, and to what that names
   pub leads_to-last : (levels target cluster : ℕ) → leads_to lists (suc (suc levels)) target cluster ≡ true → (leads_to lists (suc levels) target cluster ≡ true) ⊎ ComesLast (suc levels) target cluster
   unfolding leads_to
   leads_to-last zero target cluster h = elim (or_cases (nat_eq target cluster) (onward 1 target cluster) h) [
-      inl same ↦ inl (or_left (nat_eq target cluster) (onward 0 target cluster) same)
+    | inl same ↦ inl (or_left (nat_eq target cluster) (onward 0 target cluster) same)
     | inr later ↦
         let w = witness (leads_to lists 1 target) (next cluster) later in
-        inr (record { middle = cluster; led_to = leads_to-self 0 cluster; named = w.among (nat_eq target) (only_itself target w.at w.here) }) ]
+        inr (record { middle = cluster; led_to = leads_to-self 0 cluster; named = w.among (nat_eq target) (only_itself target w.at w.here) })
+  ]
   leads_to-last (suc levels) target cluster h = elim (or_cases (nat_eq target cluster) (onward (suc (suc levels)) target cluster) h) [
-      inl same ↦ inl (or_left (nat_eq target cluster) (onward (suc levels) target cluster) same)
+    | inl same ↦ inl (or_left (nat_eq target cluster) (onward (suc levels) target cluster) same)
     | inr later ↦
         let w = witness (leads_to lists (suc (suc levels)) target) (next cluster) later in
         elim (leads_to-last levels target w.at w.here) [
-            inl sooner ↦ inl (or_right (nat_eq target cluster) (onward (suc levels) target cluster) (w.among (leads_to lists (suc levels) target) sooner))
+          | inl sooner ↦ inl (or_right (nat_eq target cluster) (onward (suc levels) target cluster) (w.among (leads_to lists (suc levels) target) sooner))
           | inr last ↦ inr (record {
-              middle = last.middle;
-              led_to = or_right (nat_eq last.middle cluster) (onward (suc levels) last.middle cluster) (w.among (leads_to lists (suc levels) last.middle) last.led_to);
-              named = last.named;
-            }) ] ]
+            middle = last.middle;
+            led_to = or_right (nat_eq last.middle cluster) (onward (suc levels) last.middle cluster) (w.among (leads_to lists (suc levels) last.middle) last.led_to);
+            named = last.named;
+          })
+        ]
+  ]
 
   -- what is found on so many levels, of which the first numbers were asked
   pub record Known (levels cluster : ℕ) (found : List ℕ) (asked : ℕ) : Type 0 where
@@ -92,9 +98,11 @@ module _ (lists : List ClusterList) where
   pub known-first : (cluster : ℕ) → Known 1 cluster (cluster ∷ []) 0
   unfolding leads_to
   known-first cluster = record {
-    reached = record { same = λ target. same_bool (nat_eq target cluster || false) (leads_to lists 1 target cluster)
-        (λ h. or_left (nat_eq target cluster) (onward 0 target cluster) (sym (or_false (nat_eq target cluster)) ∙ h))
-        (λ h. or_left (nat_eq target cluster) false (only_itself target cluster h)) };
+    reached = record {
+      same = λ target. same_bool (nat_eq target cluster || false) (leads_to lists 1 target cluster)
+          (λ h. or_left (nat_eq target cluster) (onward 0 target cluster) (sym (or_false (nat_eq target cluster)) ∙ h))
+          (λ h. or_left (nat_eq target cluster) false (only_itself target cluster h));
+    };
     closed = λ middle target h named. absurd (true≢false (sym h));
   }
 
@@ -114,25 +122,28 @@ module _ (lists : List ClusterList) where
 
     comes : (middle target : ℕ) → has_number found middle ≡ true → names_cluster lists target middle ≡ true → has_number wider target ≡ true
     comes middle target h named = elim (or_cases (has_number (take asked found) middle) (has_number (drop asked found) middle) (sym (parts middle) ∙ h)) [
-        inl before ↦ stays target (known.closed middle target before named)
+      | inl before ↦ stays target (known.closed middle target before named)
       | inr new ↦ in_wider target ∙ or_right (has_number found target) (list_any (names_cluster lists target) (drop asked found))
-            (passes_among (names_cluster lists target) (drop asked found) middle new named) ]
+          (passes_among (names_cluster lists target) (drop asked found) middle new named)
+    ]
 
     in_found : (number : ℕ) → has_number (drop asked found) number ≡ true → has_number found number ≡ true
     in_found number h = parts number ∙ or_right (has_number (take asked found) number) (has_number (drop asked found) number) h
 
     led : (target : ℕ) → has_number wider target ≡ true → leads_to lists (suc (suc levels)) target cluster ≡ true
     led target h = elim (or_cases (has_number found target) (list_any (names_cluster lists target) (drop asked found)) (sym (in_wider target) ∙ h)) [
-        inl old ↦ leads_to-more (suc levels) target cluster (sym (known.reached.same target) ∙ old)
+      | inl old ↦ leads_to-more (suc levels) target cluster (sym (known.reached.same target) ∙ old)
       | inr new ↦
           let w = witness (names_cluster lists target) (drop asked found) new in
           let among : has_number found w.at ≡ true = in_found w.at (is_among (names_cluster lists target) (drop asked found) w) in
-          leads_to-named (suc levels) w.at target cluster (sym (known.reached.same w.at) ∙ among) w.here ]
+          leads_to-named (suc levels) w.at target cluster (sym (known.reached.same w.at) ∙ among) w.here
+    ]
 
     found_too : (target : ℕ) → leads_to lists (suc (suc levels)) target cluster ≡ true → has_number wider target ≡ true
     found_too target h = elim (leads_to-last levels target cluster h) [
-        inl sooner ↦ stays target (known.reached.same target ∙ sooner)
-      | inr last ↦ comes last.middle target (known.reached.same last.middle ∙ last.led_to) last.named ]
+      | inl sooner ↦ stays target (known.reached.same target ∙ sooner)
+      | inr last ↦ comes last.middle target (known.reached.same last.middle ∙ last.led_to) last.named
+    ]
 
     first_of_wider : take (length found) wider ≡ found
     first_of_wider =
@@ -160,13 +171,14 @@ module _ (lists : List ClusterList) where
   unfolding leads_to cluster_has
   cluster_has-named zero middle group cluster h named = absurd (true≢false (sym h))
   cluster_has-named (suc levels) middle group cluster h named = elim (or_cases (nat_eq middle cluster) (onward levels middle cluster) h) [
-      inl same ↦
+    | inl same ↦
         let P : ℕ → Type 0 = λ k. names_group lists group k ≡ true in
         or_left (names_group lists group cluster) (list_any (cluster_has lists levels group) (next cluster)) (subst P (eqb-true middle cluster same) named)
     | inr later ↦
         let w = witness (leads_to lists levels middle) (next cluster) later in
         or_right (names_group lists group cluster) (list_any (cluster_has lists levels group) (next cluster))
-            (w.among (cluster_has lists levels group) (cluster_has-named levels middle group w.at w.here named)) ]
+        (w.among (cluster_has lists levels group) (cluster_has-named levels middle group w.at w.here named))
+  ]
 
   -- a cluster that names the group and is led to
   pub record Names (levels group cluster : ℕ) : Type 0 where
@@ -179,7 +191,7 @@ module _ (lists : List ClusterList) where
   unfolding leads_to cluster_has
   named-cluster_has zero group cluster h = absurd (true≢false (sym h))
   named-cluster_has (suc levels) group cluster h = elim (or_cases (names_group lists group cluster) (list_any (cluster_has lists levels group) (next cluster)) h) [
-      inl here ↦ record { middle = cluster; led_to = leads_to-self levels cluster; named = here }
+    | inl here ↦ record { middle = cluster; led_to = leads_to-self levels cluster; named = here }
     | inr later ↦
         let w = witness (cluster_has lists levels group) (next cluster) later in
         let n = named-cluster_has levels group w.at w.here in
@@ -187,14 +199,15 @@ module _ (lists : List ClusterList) where
           middle = n.middle;
           led_to = or_right (nat_eq n.middle cluster) (onward levels n.middle cluster) (w.among (leads_to lists levels n.middle) n.led_to);
           named = n.named;
-        } ]
+        }
+  ]
 
   -- so what is kept tells what a cluster has
   pub any_names-reached : (levels group cluster : ℕ) (numbers : List ℕ) → AreReached lists levels cluster numbers → any_names lists group numbers ≡ cluster_has lists levels group cluster
   any_names-reached levels group cluster numbers are = same_bool (any_names lists group numbers) (cluster_has lists levels group cluster)
       (λ h.
-        let w = witness (names_group lists group) numbers h in
-        cluster_has-named levels w.at group cluster (sym (are.same w.at) ∙ is_among (names_group lists group) numbers w) w.here)
+      let w = witness (names_group lists group) numbers h in
+      cluster_has-named levels w.at group cluster (sym (are.same w.at) ∙ is_among (names_group lists group) numbers w) w.here)
       (λ h.
-        let n = named-cluster_has levels group cluster h in
-        passes_among (names_group lists group) numbers n.middle (are.same n.middle ∙ n.led_to) n.named)
+      let n = named-cluster_has levels group cluster h in
+      passes_among (names_group lists group) numbers n.middle (are.same n.middle ∙ n.led_to) n.named)

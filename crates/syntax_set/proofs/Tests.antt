@@ -40,9 +40,10 @@ pub record PassesAt {X : Type 0} (p : X → Bool) (xs : List X) : Type 0 where
 pub witness : {X : Type 0} (p : X → Bool) (xs : List X) → list_any p xs ≡ true → PassesAt p xs
 witness p [] h = absurd (true≢false (sym h))
 witness p (x ∷ xs) h = elim (or_cases (p x) (list_any p xs) h) [
-    inl here ↦ record { at = x; here = here; among = λ q e. or_left (q x) (list_any q xs) e }
+  | inl here ↦ record { at = x; here = here; among = λ q e. or_left (q x) (list_any q xs) e }
   | inr later ↦ let w = witness p xs later in
-      record { at = w.at; here = w.here; among = λ q e. or_right (q x) (list_any q xs) (w.among q e) } ]
+      record { at = w.at; here = w.here; among = λ q e. or_right (q x) (list_any q xs) (w.among q e) }
+]
 
 pub is_itself : (n : ℕ) → nat_eq n n ≡ true
 is_itself n = eq-eqb n n refl

@@ -16,7 +16,7 @@ abbrev pub is_allowed_in : List ClusterList → AddedItem → AddedItem → Bool
 is_allowed_in lists added container =
     added.live
     && (is_member_of_option lists container.item.contains container.item.include added
-        || is_member_of_option lists added.item.containedin added.item.include container)
+    || is_member_of_option lists added.item.containedin added.item.include container)
 
 -- a test of the item of a number
 abbrev pub passes : (AddedItem → Bool) → Option AddedItem → Bool

@@ -42,7 +42,11 @@ impl AddedItem {
         let within = &container.item;
         self.live
             && (self.is_member_of_option(clusters, &within.contains, within.include)
-                || container.is_member_of_option(clusters, &self.item.containedin, self.item.include))
+                || container.is_member_of_option(
+                    clusters,
+                    &self.item.containedin,
+                    self.item.include,
+                ))
     }
 
     fn is_member_of_option(
@@ -70,20 +74,15 @@ impl AddedItem {
 fn has_item(clusters: &Clusters, list: &GroupList, include: u32, item: &Item) -> bool
     ensures { result ≡ has_by clusters.now.lists list.now.special list.now.entries include item.now }
 {
+    let own = item.include == include;
+    let entries = &list.entries;
+    let group = item.group;
     match list.special {
-        Special::Plain => entries_have(clusters, &list.entries, item.group),
+        Special::Plain => entries_have(clusters, entries, group),
         Special::All => true,
-        Special::AllBut => !entries_have(clusters, &list.entries, item.group),
-        Special::Top => {
-            item.include == include
-                && !item.contained
-                && !entries_have(clusters, &list.entries, item.group)
-        }
-        Special::Contained => {
-            item.include == include
-                && item.contained
-                && !entries_have(clusters, &list.entries, item.group)
-        }
+        Special::AllBut => !entries_have(clusters, entries, group),
+        Special::Top => own && !item.contained && !entries_have(clusters, entries, group),
+        Special::Contained => own && item.contained && !entries_have(clusters, entries, group),
         Special::Nothing => false,
     }
 }
@@ -92,10 +91,6 @@ fn has_item(clusters: &Clusters, list: &GroupList, include: u32, item: &Item) ->
 fn entries_have(clusters: &Clusters, entries: &List<Entry>, group: GroupId) -> bool
     ensures { result ≡ entries_have clusters.now.lists entries.now group }
 {
-    for entry in entries.as_slice() {
-        if clusters.entry_has(*entry, group) {
-            return true;
-        }
-    }
-    false
+    let mut names = entries.as_slice().iter();
+    names.any(|entry| clusters.entry_has(*entry, group))
 }

@@ -158,7 +158,9 @@ impl Clusters {
     fn any_names(&self, clusters: &[u32], group: u32) -> bool
         ensures { result ≡ any_names self.now.lists group clusters.now }
     {
-        clusters.iter().any(|cluster| self.names_group(*cluster, group))
+        clusters
+            .iter()
+            .any(|cluster| self.names_group(*cluster, group))
     }
 
     /// Whether a cluster itself names the group.

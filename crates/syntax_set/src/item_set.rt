@@ -77,7 +77,7 @@ impl ItemSet {
     pub fn len(&self) -> usize
         ensures { result ≡ count_by (λ added. added.live) self.now }
     {
-        self.added.iter().filter(|added| added.live).count()
+        count_live(&self.added)
     }
 
     /// Whether there is no live item.
@@ -98,9 +98,7 @@ impl ItemSet {
     pub fn clear(&mut self, group: Option<GroupId>)
         ensures { self.new ≡ map (cleared group) self.old }
     {
-        for added in self.added.iter_mut() {
-            added.clear(group);
-        }
+        clear_all(&mut self.added, group);
     }
 
     /// Whether an item may start in this container, or on an empty stack (`:syn-contains`,
@@ -131,5 +129,25 @@ impl ItemSet {
         ensures { Some result.now ≡ slice_get self.now id.0 }
     {
         &self.added[id.0 as usize]
+    }
+}
+
+fn count_live(items: &[AddedItem]) -> usize
+    ensures { result ≡ count_by (λ added. added.live) items.now }
+{
+    let mut count = 0;
+    for added in items {
+        if added.live {
+            count += 1;
+        }
+    }
+    count
+}
+
+fn clear_all(items: &mut [AddedItem], group: Option<GroupId>)
+    ensures { items.new ≡ map (cleared group) items.old }
+{
+    for added in items.iter_mut() {
+        added.clear(group);
     }
 }

@@ -13,7 +13,7 @@ returns-in-Some c =
     let within : c.args.cluster < length rows = omega (arith, c.in-Some.ensures.lookup.3.0, ap length c.deref.ensures.value) in
     c.any_names.ensures
     ∙ any_names-kept table.lists rows c.args.group c.args.cluster c.as_slice.result.now all within
-        (c.as_slice.ensures ∙ c.in-Some.ensures.lookup.4 (omega arith) [] ∙ ap (λ l. get_or l c.args.cluster []) c.deref.ensures.value)
+    (c.as_slice.ensures ∙ c.in-Some.ensures.lookup.4 (omega arith) [] ∙ ap (λ l. get_or l c.args.cluster []) c.deref.ensures.value)
 
 pub returns-in-None : goal.returns-in-None
 returns-in-None c =
