@@ -53,7 +53,7 @@ list_of special entries = record { special = special; entries = entries }
 -- each of so many clusters names the next one alone, and the last one names group 7
 abbrev pub chain : ℕ → ℕ → List ClusterList
 chain first zero = record { groups = 7 ∷ []; clusters = [] } ∷ []
-chain first (suc more) = record { groups = []; clusters = first + 1 ∷ [] } ∷ chain (first + 1) more
+chain first (suc more) = record { groups = []; clusters = (first + 1) ∷ [] } ∷ chain (first + 1) more
 
 -- a cluster at depth 30 counts
 thirty_levels : cluster_has (chain 0 29) 30 7 0 ≡ true

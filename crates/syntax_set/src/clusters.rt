@@ -110,9 +110,8 @@ impl Clusters {
     }
 
     /// Carries out one part of a cluster command (`:syn-cluster`). Of the list its entries alone
-    /// count. What the clusters lead to is found anew, in the time of a walk from each cluster to
-    /// all those that it leads to; where neither the old list nor the new one names a cluster, it
-    /// stays as it is.
+    /// count. What the clusters lead to is found anew, in the time of a walk from each cluster over
+    /// all those that it leads to.
     pub fn cluster_change(
         &mut self,
         cluster: u32,
