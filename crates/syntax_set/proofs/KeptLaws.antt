@@ -1,5 +1,5 @@
 -- What is kept of clusters, and what it tells.
-use Rattle.std.proofs.Common.{◌≡◌, ℕ, zero, suc, ◌+◌, ◌<◌, ◌≤◌, Bool, true, false, ◌||◌, List, [], ◌∷◌, ◌++◌, length, get_or, refl, sym, ◌∙◌, ap, subst, inl, inr, ◌⊎◌, arith, length-append, cond, Option, Some, None, position, is_some}
+use Rattle.std.proofs.Common.{◌≡◌, ℕ, zero, suc, ◌+◌, ◌<◌, ◌≤◌, false, ◌||◌, List, [], ◌∷◌, ◌++◌, length, get_or, refl, sym, ◌∙◌, ap, subst, inl, inr, ◌⊎◌, arith, length-append, cond, Option, Some, None, position, is_some}
 use Rattle.std.specs.Option.{option_map}
 use Rattle.syntax_set.specs.Groups.{is_same_name, group_numbered, with_group}
 use Rattle.std.proofs.Math.ListN.{get_or-append}
@@ -12,7 +12,7 @@ use Rattle.syntax_set.specs.ClusterTable.{ClusterList, no_list}
 use Rattle.syntax_set.specs.ClusterLists.{list_at}
 use Rattle.syntax_set.specs.Membership.{cluster_has}
 use Rattle.syntax_set.specs.Reached.{leads_to, AreReached, AreAllReached, HoldsReached, any_names}
-use Rattle.syntax_set.proofs.Tests.{list_any-same}
+use Rattle.syntax_set.proofs.Passing.{list_any-same}
 use Rattle.syntax_set.proofs.ListAt.{list_at-past, list_at-push}
 use Rattle.syntax_set.proofs.ReachedLaws.{any_names-reached}
 

@@ -1,7 +1,6 @@
 -- What lists have, worked by hand.
-use Rattle.std.proofs.Common.{◌≡◌, ℕ, zero, suc, ◌+◌, Bool, true, false, List, [], ◌∷◌, ◌++◌, Some, None, map, refl}
+use Rattle.std.proofs.Common.{◌≡◌, ℕ, zero, suc, ◌+◌, Bool, true, false, List, [], ◌∷◌, Some, None, map, refl}
 use Rattle.std.specs.Prelude.{codes}
-use Rattle.syn_base.specs.declared.places.GroupId.{GroupId}
 use Rattle.syn_base.specs.declared.places.ItemId.{ItemId}
 use Rattle.syntax_set.specs.declared.added_item.AddedItem.{AddedItem}
 use Rattle.syntax_set.specs.declared.clusters.Change.TheVariants.{Set, Add, Remove}
@@ -13,7 +12,7 @@ use Rattle.syntax_set.specs.declared.item.ItemKind.TheVariants.{Keyword}
 use Rattle.syntax_set.specs.declared.item.Special.{Special}
 use Rattle.syntax_set.specs.declared.item.Special.TheVariants.{Plain, All, AllBut, Top, Contained, Nothing}
 use Rattle.syntax_set.specs.ClusterTable.{ClusterList, no_list, no_clusters}
-use Rattle.syntax_set.specs.ClusterLists.{changed, with_change, with_cluster}
+use Rattle.syntax_set.specs.ClusterLists.{changed, with_cluster}
 use Rattle.syntax_set.specs.Membership.{cluster_has, entries_have, is_member}
 use Rattle.syntax_set.specs.Allowed.{is_allowed, is_in_next, cleared}
 

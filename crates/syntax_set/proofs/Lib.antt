@@ -1,6 +1,6 @@
 pub mod GroupLaws
 mod KnownGroups
-pub mod Tests
+pub mod Passing
 pub mod NumberLaws
 pub mod ListAt
 pub mod ReachedLaws

@@ -1,5 +1,5 @@
 -- The list of a cluster, after one list is put in place of another or behind the others.
-use Rattle.std.proofs.Common.{◌≡◌, ◌≢◌, ℕ, zero, suc, ◌+◌, ◌-◌, ◌<◌, ◌≤◌, List, [], ◌∷◌, ◌++◌, length, get_or, set, slice_get, unwrap_or, Option, Some, None, sym, ◌∙◌, ap, arith, get_or-set_same, get_or-set_other, length-append, inl, inr, ◌⊎◌, refl}
+use Rattle.std.proofs.Common.{◌≡◌, ◌≢◌, ℕ, zero, suc, ◌-◌, ◌<◌, ◌≤◌, List, [], ◌∷◌, ◌++◌, length, get_or, set, slice_get, unwrap_or, Some, sym, ◌∙◌, ap, arith, get_or-set_same, get_or-set_other, inl, inr, ◌⊎◌, refl}
 use Rattle.std.proofs.lemmas.Option.{unwrap_or-slice_get, slice_get_past}
 use Rattle.std.proofs.Math.ListN.{get_or-append}
 use Rattle.std.proofs.lemmas.List.{get_or-append_right}

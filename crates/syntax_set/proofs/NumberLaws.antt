@@ -1,5 +1,5 @@
 -- Lemmas on lists of numbers, each once.
-use Rattle.std.proofs.Common.{◌≡◌, ℕ, Bool, true, false, cond, ◌||◌, List, [], ◌∷◌, ◌++◌, append_assoc, length, drop, fold, refl, sym, ◌∙◌, ap, subst, inl, inr}
+use Rattle.std.proofs.Common.{◌≡◌, ℕ, Bool, true, false, cond, ◌||◌, List, [], ◌∷◌, ◌++◌, append_assoc, refl, sym, ◌∙◌, ap, subst, inl, inr}
 use Rattle.std.proofs.lemmas.List.{append-nil}
 use Rattle.std.proofs.lemmas.List.Sums.{fold-append}
 use Rattle.std.proofs.lemmas.Bool.{eqb-true}
@@ -10,7 +10,7 @@ use Rattle.syntax_set.specs.Numbers.{has_number, with_number, with_numbers}
 use Rattle.syntax_set.specs.ClusterTable.{ClusterList}
 use Rattle.syntax_set.specs.ClusterLists.{list_at}
 use Rattle.syntax_set.specs.Reached.{with_named, with_all_named}
-use Rattle.syntax_set.proofs.Tests.{same_bool, or_left, or_right, or_cases, or_assoc, or_false}
+use Rattle.syntax_set.proofs.Passing.{same_bool, or_left, or_cases, or_assoc, or_false}
 
 pub has_number-with_number : (ns : List ℕ) (n k : ℕ) → has_number (with_number ns n) k ≡ (has_number ns k || nat_eq k n)
 has_number-with_number ns n k = by (has_number ns n) refl

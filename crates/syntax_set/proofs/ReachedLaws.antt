@@ -1,18 +1,18 @@
 -- Where the names of clusters lead: what is found level by level is what a cluster leads to, and the
 -- groups that these name are those that it has.
-use Rattle.std.proofs.Common.{◌≡◌, ℕ, zero, suc, ◌+◌, ◌≤◌, arith, Bool, true, false, ◌||◌, List, [], ◌∷◌, ◌++◌, length, take, drop, refl, sym, ◌∙◌, ap, subst, true≢false, inl, inr, ◌⊎◌}
+use Rattle.std.proofs.Common.{◌≡◌, ℕ, zero, suc, ◌+◌, ◌≤◌, arith, Bool, true, false, ◌||◌, List, [], ◌∷◌, length, take, drop, sym, ◌∙◌, ap, subst, true≢false, inl, inr, ◌⊎◌}
 use Rattle.std.proofs.lemmas.Bool.{eqb-true}
 use Rattle.std.proofs.lemmas.List.{take-append-drop}
 use Rattle.std.proofs.lemmas.List.Folds.{list_any-append}
 use Rattle.std.proofs.Math.Seq.{take-append_seam}
 use Rattle.std.specs.Prelude.{nat_eq}
 use Rattle.std.specs.List.{list_any}
-use Rattle.syntax_set.specs.Numbers.{has_number, with_number}
+use Rattle.syntax_set.specs.Numbers.{has_number}
 use Rattle.syntax_set.specs.ClusterTable.{ClusterList}
 use Rattle.syntax_set.specs.ClusterLists.{list_at}
 use Rattle.syntax_set.specs.Membership.{cluster_has}
 use Rattle.syntax_set.specs.Reached.{leads_to, AreReached, with_all_named, names_group, any_names}
-use Rattle.syntax_set.proofs.Tests.{same_bool, or_left, or_right, or_cases, or_false, witness, PassesAt, is_itself, passes_among, is_among}
+use Rattle.syntax_set.proofs.Passing.{same_bool, or_left, or_right, or_cases, or_false, witness, is_itself, passes_among, is_among}
 use Rattle.syntax_set.proofs.NumberLaws.{names_cluster, has_number-with_all_named, with_all_named-extends}
 
 module _ (lists : List ClusterList) where

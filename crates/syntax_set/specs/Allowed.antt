@@ -1,5 +1,5 @@
 -- Which items may start (Vim's help, :syn-contains, :syn-containedin, :syn-contained).
-use Rattle.std.specs.Prelude.{Bool, false, not, ◌&&◌, ◌||◌, List, map, nat_eq, slice_get, Option, Some, None, if◌then◌else◌}
+use Rattle.std.specs.Prelude.{Bool, false, not, ◌&&◌, ◌||◌, List, nat_eq, slice_get, Option, Some, None, if◌then◌else◌}
 use Rattle.syn_base.specs.declared.places.GroupId.{GroupId}
 use Rattle.syn_base.specs.declared.places.ItemId.{ItemId}
 use Rattle.syntax_set.specs.declared.item.GroupList.{GroupList}

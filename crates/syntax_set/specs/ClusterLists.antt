@@ -1,8 +1,7 @@
 -- What a cluster has (Vim's help, :syn-cluster): groups and other clusters, each once, in the order in
 -- which they were first named. `contains` of a cluster command gives it a new list, `add` adds to what it
 -- has, and `remove` takes from it.
-use Rattle.std.specs.Prelude.{◌≡◌, ℕ, ◌≤◌, List, [], ◌∷◌, ◌++◌, length, fold, Option, if◌then◌else◌, position, is_some, slice_get, slice_set, unwrap_or}
-use Rattle.syn_base.specs.declared.places.GroupId.{GroupId}
+use Rattle.std.specs.Prelude.{ℕ, List, [], ◌∷◌, ◌++◌, fold, Option, if◌then◌else◌, position, is_some, slice_get, slice_set, unwrap_or}
 use Rattle.syntax_set.specs.declared.clusters.Change.{Change}
 use Rattle.syntax_set.specs.declared.clusters.Change.TheVariants.{Set, Add, Remove}
 use Rattle.syntax_set.specs.declared.item.Entry.{Entry}

@@ -1,5 +1,5 @@
 -- Which items a list has (Vim's help, :syn-contains, :syn-cluster).
-use Rattle.std.specs.Prelude.{ℕ, zero, suc, Bool, true, false, not, ◌&&◌, ◌||◌, List, [], nat_eq, Option, Some, None}
+use Rattle.std.specs.Prelude.{ℕ, zero, suc, Bool, true, false, not, ◌&&◌, ◌||◌, List, nat_eq, Option, Some, None}
 use Rattle.std.specs.List.{list_any}
 use Rattle.syn_base.specs.declared.places.GroupId.{GroupId}
 use Rattle.syntax_set.specs.declared.item.Entry.{Entry}

@@ -1,4 +1,4 @@
-use Rattle.std.proofs.Common.{◌≡◌, ℕ, ◌<◌, List, [], length, get_or, set}
+use Rattle.std.proofs.Common.{◌≡◌, ℕ, ◌<◌, [], length, get_or, set}
 use Rattle.syntax_set.specs.Reached.{AreReached}
 use Rattle.syntax_set.proofs.cluster_graph.ClusterGraph.all_reached.Given as goal
 

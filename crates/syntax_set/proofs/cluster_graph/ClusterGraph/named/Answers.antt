@@ -1,4 +1,4 @@
-use Rattle.std.proofs.Common.{◌≡◌, ◌∙◌, sym, ap, arith}
+use Rattle.std.proofs.Common.{◌∙◌, sym, ap, arith}
 use Rattle.syntax_set.specs.ClusterTable.{ClusterList, no_list}
 use Rattle.syntax_set.proofs.ListAt.{list_at-get_or, list_at-set_at, list_at-set_other}
 use Rattle.syntax_set.proofs.cluster_graph.ClusterGraph.named.Goals as goal

@@ -1,4 +1,4 @@
-use Rattle.std.proofs.Common.{◌≡◌, ◌≤◌, ℕ, List, [], ◌∷◌, ◌∙◌, set, refl, sym, subst, arith}
+use Rattle.std.proofs.Common.{◌≡◌, ◌≤◌, ℕ, List, set, refl, sym, subst, arith}
 use Rattle.syntax_set.specs.Numbers.{with_number}
 use Rattle.syntax_set.proofs.ReachedLaws.{Known, known-first, known-after}
 use Rattle.syntax_set.proofs.cluster_graph.ClusterGraph.reached.Goals as goal

@@ -1,4 +1,4 @@
-use Rattle.std.proofs.Common.{◌≡◌, set}
+use Rattle.std.proofs.Common.{set}
 use Rattle.syntax_set.proofs.ReachedLaws.{Known}
 use Rattle.syntax_set.proofs.cluster_graph.ClusterGraph.reached.Given as goal
 

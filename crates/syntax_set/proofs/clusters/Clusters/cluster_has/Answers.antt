@@ -1,5 +1,5 @@
-use Rattle.std.proofs.Common.{◌≡◌, ◌∙◌, ◌<◌, ◌≤◌, List, [], length, get_or, sym, ap, subst, arith}
-use Rattle.syntax_set.specs.ClusterTable.{ClusterList, ClusterTable}
+use Rattle.std.proofs.Common.{◌∙◌, ◌<◌, ◌≤◌, [], length, get_or, sym, ap, subst, arith}
+use Rattle.syntax_set.specs.ClusterTable.{ClusterTable}
 use Rattle.syntax_set.specs.Reached.{AreAllReached}
 use Rattle.syntax_set.proofs.KeptLaws.{any_names-kept, cluster_has-past}
 use Rattle.syntax_set.proofs.clusters.Clusters.cluster_has.Goals as goal

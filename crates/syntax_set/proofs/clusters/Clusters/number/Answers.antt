@@ -1,4 +1,4 @@
-use Rattle.std.proofs.Common.{◌≡◌, ℕ, ◌≤◌, List, [], ◌∷◌, ◌++◌, length, ap, sym, ◌∙◌, Some, cond, Result, Ok, is_ok, rules, arith}
+use Rattle.std.proofs.Common.{◌≡◌, ◌≤◌, List, [], ◌∷◌, ◌++◌, length, ap, sym, ◌∙◌, Some, cond, Result, Ok, is_ok, rules, arith}
 use Rattle.syntax_set.specs.Numbers.{with_number}
 use Rattle.syntax_set.specs.declared.groups.TheConstants.{MOST_GROUPS}
 use Rattle.syntax_set.specs.ClusterTable.{ClusterTable, no_list}
