@@ -47,6 +47,7 @@ impl ItemSet {
         ensures added { OnOk result (self.new ≡ self.old ++ record { item = item; live = true } ∷ []) }
         ensures number { IfOk result (λ id. id.0 ≡ length self.old) }
         ensures too_many { IsErrOf result SetError.TooManyItems ↔ (length self.old ≡ MOST_ITEMS) }
+        ensures no_groups { ¬ (IsErrOf result SetError.TooManyGroups) }
         ensures unchanged { OnErr result (self.new ≡ self.old) }
     {
         let number = self.added.len();
