@@ -1,9 +1,8 @@
 -- Following links one by one.
-use Rattle.std.proofs.Common.{◌≡◌, ℕ, zero, suc, ◌+◌, ◌-◌, ◌<◌, List, Option, Some, None, refl, ap, sym, ◌∙◌, arith, add-one}
+use Rattle.std.proofs.Common.{◌≡◌, ℕ, zero, suc, ◌-◌, List, Some, None, refl, ap, ◌∙◌}
 use Rattle.std.specs.Option.{option_map_or}
 use Rattle.syn_base.specs.declared.places.GroupId.{GroupId}
 use Rattle.hi_links.specs.declared.highlight.Highlight.{Highlight}
-use Rattle.hi_links.specs.declared.links.TheConstants.{MOST_LINKS}
 use Rattle.hi_links.specs.Highlights.{highlight_of}
 use Rattle.hi_links.specs.FinalGroup.{final_group, followed}
 

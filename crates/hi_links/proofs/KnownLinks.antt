@@ -1,9 +1,8 @@
 -- What links and styles do, on small cases: groups A, B, C and D have the numbers 0 to 3.
-use Rattle.std.proofs.Common.{◌≡◌, ℕ, List, [], Some, None, true, false, refl}
+use Rattle.std.proofs.Common.{◌≡◌, [], Some, None, true, false, refl}
 use Rattle.std.specs.Prelude.{codes}
 use Rattle.syntax_set.specs.Groups.{group_numbered, group_of}
 use Rattle.syn_base.specs.declared.places.GroupId.{GroupId}
-use Rattle.hi_links.specs.declared.highlight.Highlight.{Highlight}
 use Rattle.hi_links.specs.declared.highlight.Style.{Style}
 use Rattle.hi_links.specs.FinalGroup.{final_group, followed}
 use Rattle.hi_links.specs.Highlights.{highlight_of, linked, plain, styled}

@@ -1,5 +1,5 @@
 -- Making the groups that exist from the start, one by one.
-use Rattle.std.proofs.Common.{◌≡◌, ℕ, ◌+◌, ◌<◌, List, [], ◌∷◌, ◌++◌, ◌⊎◌, inl, inr, length, map, take, fold, get_or, Option, Some, false, true, refl, ap, sym, ◌∙◌, arith}
+use Rattle.std.proofs.Common.{◌≡◌, ℕ, ◌+◌, ◌<◌, List, [], ◌∷◌, ◌++◌, ◌⊎◌, inl, inr, length, take, fold, get_or, Option, Some, false, true, refl, ap, sym, ◌∙◌}
 use Rattle.std.specs.Borrow.{Bor}
 use Rattle.std.specs.Option.{option_map_or}
 use Rattle.std.proofs.lemmas.List.{get_or-map, length-map, take_more}
@@ -11,7 +11,6 @@ use Rattle.syntax_set.specs.Groups.{group_of, IsRefusedGroup, with_group}
 use Rattle.hi_links.specs.declared.highlight.Highlight.{Highlight}
 use Rattle.hi_links.specs.declared.highlight.Style.{Style}
 use Rattle.hi_links.specs.declared.usual.UsualRow.{UsualRow}
-use Rattle.hi_links.specs.declared.usual.UsualHighlight.{UsualHighlight}
 use Rattle.hi_links.specs.declared.usual.UsualHighlight.TheVariants.{LinkedTo, Shown}
 use Rattle.hi_links.specs.Highlights.{linked, styled}
 use Rattle.hi_links.specs.UsualGroups.{groups_and_links, GroupsAndLinks, HasSomeUsual, IsRefusedUsual, usual_links, UsualGroup, with_all_usual, with_usual, with_usual_links}

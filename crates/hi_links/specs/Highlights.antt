@@ -1,6 +1,6 @@
 -- Links and styles (Vim's help, :hi-link and :hi-default). What each group has is a list by the groups'
 -- numbers; a group behind its end has nothing.
-use Rattle.std.specs.Prelude.{ℕ, ◌+◌, ◌-◌, Bool, true, false, not, ◌&&◌, ◌||◌, List, ◌++◌, length, if◌then◌else◌, replicate, slice_get, slice_set, unwrap_or, is_some}
+use Rattle.std.specs.Prelude.{◌+◌, ◌-◌, Bool, false, not, ◌&&◌, ◌||◌, List, ◌++◌, length, if◌then◌else◌, replicate, slice_get, slice_set, unwrap_or, is_some}
 use Rattle.std.specs.declared.option.Option.{Option}
 use Rattle.std.specs.declared.option.Option.TheVariants.{None, Some}
 use Rattle.syn_base.specs.declared.places.GroupId.{GroupId}

@@ -15,11 +15,10 @@ fn groups_exist_from_the_start(rt: HostRuntime) -> Result<(), SetError> {
     let mut groups = Groups::new(rt.alloc());
     let mut links = Links::usual(rt.alloc(), &mut groups)?;
     assert_eq!(rt; groups.len(), 35);
-    assert_eq!(rt;
-        groups.name(links.final_group(groups.number("float")?)),
-        "Constant"
-    );
-    let todo = links.style(groups.number("TODO")?);
+    let float = groups.number("float")?;
+    assert_eq!(rt; groups.name(links.final_group(float)), "Constant");
+    let todo = groups.number("TODO")?;
+    let todo = links.style(todo);
     assert_eq!(rt; todo.front, Some(0x0000ff));
     assert_eq!(rt; todo.back, Some(0xffff00));
     let own = groups.number("my")?;

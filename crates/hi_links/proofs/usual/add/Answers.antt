@@ -1,4 +1,4 @@
-use Rattle.std.proofs.Common.{◌≡◌, ◌∙◌, sym}
+use Rattle.std.proofs.Common.{◌∙◌, sym}
 use Rattle.hi_links.proofs.UsualLaws.{made_minor, made_preferred}
 use Rattle.hi_links.proofs.usual.add.Goals as goal
 

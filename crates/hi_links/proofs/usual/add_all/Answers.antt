@@ -1,4 +1,4 @@
-use Rattle.std.proofs.Common.{◌≡◌, ◌<◌, ◌≤◌, [], length, arith}
+use Rattle.std.proofs.Common.{[], arith}
 use Rattle.std.proofs.lemmas.Result.{err_from_is_err_and}
 use Rattle.hi_links.specs.UsualGroups.{groups_and_links}
 use Rattle.hi_links.proofs.UsualLaws.{none_made, one_more, refused_one, some_made}

@@ -1,4 +1,4 @@
-use Rattle.std.proofs.Common.{◌≡◌, ◌∙◌, ◌+◌, ◌-◌, suc, ap, arith, sym}
+use Rattle.std.proofs.Common.{◌≡◌, ◌∙◌, ◌+◌, ◌-◌, ap, arith, sym}
 use Rattle.hi_links.specs.declared.highlight.Highlight.{Highlight}
 use Rattle.hi_links.specs.FinalGroup.{followed}
 use Rattle.hi_links.proofs.FollowLaws.{all_followed, end_followed, next_followed, none_followed}
