@@ -1,0 +1,3 @@
+pub mod FollowLaws
+mod KnownLinks
+pub mod UsualLaws

@@ -1,0 +1,8 @@
+pub mod GroupLaws
+mod KnownGroups
+pub mod Passing
+pub mod NumberLaws
+pub mod ListAt
+pub mod ReachedLaws
+pub mod KeptLaws
+mod KnownLists

@@ -1,0 +1,175 @@
+//! Clusters by name.
+ghost use Rattle.std.specs.Prelude.{◌≡◌, ◌≤◌, ◌<◌, ◌==◌, [], length, Some, IfOk, IfErr, OnOk, OnErr};
+ghost use Rattle.syntax_set.specs.ClusterLists.{cluster_of, with_change, with_cluster};
+ghost use Rattle.syntax_set.specs.ClusterTable.{no_clusters};
+ghost use Rattle.syntax_set.specs.Groups.{IsRefusedGroup};
+ghost use Rattle.syntax_set.specs.Membership.{cluster_has, entry_has};
+ghost use Rattle.syntax_set.specs.Reached.{any_names, names_group};
+
+use crate::cluster_graph::ClusterGraph;
+use crate::cluster_list::ClusterList;
+use crate::number_set::NumberSet;
+use crate::{Entry, GroupList, Groups, MOST_GROUPS, SetError};
+use std::alloc::Global;
+use std::marker::Model;
+use syn_base::{GroupId, Memory};
+
+/// The parts of a cluster command (`:syn-cluster`).
+#[derive(Clone, Copy, Debug, PartialEq, Eq)]
+pub enum Change {
+    /// `contains`.
+    Set,
+    /// `add`.
+    Add,
+    /// `remove`.
+    Remove,
+}
+
+/// The clusters in order of definition, which contracts see as their names, as first written, and
+/// their lists.
+#[derive(Drop)]
+pub struct Clusters {
+    alloc: Global,
+    // clusters are numbered, limited and named as groups are
+    names: Groups,
+    lists: Vec<ClusterList>,
+    // for each cluster those that it leads to, itself among them
+    reached: Vec<NumberSet>,
+}
+
+impl Model for Clusters {
+    ghost use Rattle.syntax_set.specs.ClusterTable as table;
+
+    ghost Value = { table.ClusterTable };
+
+    ghost use Rattle.syntax_set.specs.Reached.{HoldsReached};
+
+    ghost view = { λ a. record { names = a.names; lists = a.lists.items } };
+
+    ghost invariant = { λ a. HoldsReached a.names a.lists.items a.reached.items };
+}
+
+impl Clusters {
+    /// No clusters. It takes no memory.
+    pub fn new(alloc: Global) -> Clusters
+        ensures { result ≡ no_clusters }
+    {
+        Clusters {
+            alloc,
+            names: Groups::new(alloc),
+            lists: Vec::new(alloc),
+            reached: Vec::new(alloc),
+        }
+    }
+
+    /// How many clusters there are.
+    pub fn len(&self) -> usize
+        ensures lists { result ≡ length self.now.lists }
+        ensures names { result ≡ length self.now.names }
+    {
+        self.lists.len()
+    }
+
+    /// Whether there are none.
+    pub fn is_empty(&self) -> bool
+        ensures { result ≡ (length self.now.lists == 0) }
+    {
+        self.lists.is_empty()
+    }
+
+    /// The cluster of a name. Case is ignored in ASCII letters alone.
+    pub fn find(&self, name: &str) -> Result<Option<u32>, Memory>
+        ensures { IfOk result (λ found. found ≡ cluster_of self.now name.now) }
+    {
+        match self.names.find(name)? {
+            Some(group) => Ok(Some(group.0)),
+            None => Ok(None),
+        }
+    }
+
+    /// The cluster of a name, which is made without entries if it is new (`:syn-cluster`). At most
+    /// as many clusters as groups are made.
+    pub fn number(&mut self, name: &str) -> Result<u32, SetError>
+        ensures number { IfOk result (λ cluster. cluster_of self.new name.now ≡ Some cluster) }
+        ensures table { OnOk result (self.new ≡ with_cluster self.old name.now) }
+        ensures most { OnOk result (length self.new.names ≤ MOST_GROUPS) }
+        ensures refused { IfErr result (IsRefusedGroup self.old.names name.now) }
+        ensures unchanged { OnErr result (self.new ≡ self.old) }
+    {
+        if let Some(cluster) = self.find(name)? {
+            return Ok(cluster);
+        }
+        let cluster = self.lists.len() as u32;
+        let mut reached = NumberSet::new(self.alloc);
+        reached.insert(cluster)?;
+        self.lists.reserve(1)?;
+        self.reached.reserve(1)?;
+        self.names.number(name)?;
+        self.lists.push(ClusterList::new(self.alloc)).unwrap();
+        self.reached.push(reached).unwrap();
+        Ok(cluster)
+    }
+
+    /// Carries out one part of a cluster command (`:syn-cluster`). Of the list its entries alone
+    /// count. What the clusters lead to is found anew, in the time of a walk from each cluster over
+    /// all those that it leads to.
+    pub fn cluster_change(
+        &mut self,
+        cluster: u32,
+        how: Change,
+        list: GroupList,
+    ) -> Result<(), Memory>
+        requires { cluster < length self.old.lists }
+        ensures changed { OnOk result (self.new ≡ with_change self.old cluster how list.entries) }
+        ensures unchanged { OnErr result (self.new ≡ self.old) }
+    {
+        let place = cluster as usize;
+        let changed = self.lists[place].changed(self.alloc, how, &list.entries)?;
+        let graph = ClusterGraph {
+            lists: &self.lists,
+            changed: cluster,
+            list: &changed,
+        };
+        let reached = graph.all_reached(self.alloc)?;
+        self.lists[place] = changed;
+        self.reached = reached;
+        Ok(())
+    }
+
+    /// Whether an entry is the group, or a cluster that has it.
+    pub(crate) fn entry_has(&self, entry: Entry, group: GroupId) -> bool
+        ensures { result ≡ entry_has self.now.lists group entry }
+    {
+        match entry {
+            Entry::Group(named) => group.0 == named.0,
+            Entry::Cluster(cluster) => self.cluster_has(cluster, group.0),
+        }
+    }
+
+    fn cluster_has(&self, cluster: u32, group: u32) -> bool
+        ensures { result ≡ cluster_has self.now.lists 30 group cluster }
+    {
+        match self.reached.get(cluster as usize) {
+            Some(reached) => self.any_names(reached.as_slice(), group),
+            None => false,
+        }
+    }
+
+    fn any_names(&self, clusters: &[u32], group: u32) -> bool
+        ensures { result ≡ any_names self.now.lists group clusters.now }
+    {
+        clusters
+            .iter()
+            .any(|cluster| self.names_group(*cluster, group))
+    }
+
+    /// Whether a cluster itself names the group.
+    fn names_group(&self, cluster: u32, group: u32) -> bool
+        ensures { result ≡ names_group self.now.lists group cluster }
+    {
+        match self.lists.get(cluster as usize) {
+            Some(list) => list.groups().contains(group),
+            None => false,
+        }
+    }
+}
