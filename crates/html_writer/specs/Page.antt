@@ -1,6 +1,6 @@
 -- The page of a painted text, byte by byte (Vim's help, :TOhtml). Each line of the page ends with a line
 -- feed.
-use Rattle.std.specs.Prelude.{ℕ, ◌+◌, ◌-◌, ◌/◌, ◌%◌, ◌==◌, ◌||◌, ◌&&◌, Bool, not, List, [], ◌∷◌, ◌++◌, length, if◌then◌else◌, nat_lt, codes, decimal, encode_utf8, fold, map, replicate, take, drop, slice_range}
+use Rattle.std.specs.Prelude.{ℕ, ◌<◌, ◌≤◌, ◌+◌, ◌-◌, ◌/◌, ◌%◌, ◌==◌, ◌||◌, ◌&&◌, Bool, not, List, [], ◌∷◌, ◌++◌, length, if◌then◌else◌, nat_lt, codes, decimal, encode_utf8, fold, map, replicate, take, drop, slice_range}
 use Rattle.std.specs.declared.option.Option.{Option}
 use Rattle.std.specs.declared.option.Option.TheVariants.{None, Some}
 use Rattle.std.specs.List.{flat_map, list_any}
@@ -80,13 +80,23 @@ first_used groups = fold (λ used g. if list_any (λ (other : GroupId). other.0 
 abbrev pub shown_groups : List Highlight → List (List Span) → List GroupId
 shown_groups links painting = first_used (flat_map (map (λ (span : Span). final_group links span.group)) painting)
 
+-- spans in order, apart from each other, from this column on in a line of this length
+abbrev pub IsFromColumn : ℕ → ℕ → List Span → Type 0
+IsFromColumn column end [] = column ≤ end
+IsFromColumn column end (span ∷ spans) =
+    (column ≤ span.first) × (span.first ≤ span.last) × (span.last < end) × IsFromColumn (span.last + 1) end spans
+
+-- one span of a line, in the class of its final group
+abbrev pub span_text : List (List ℕ) → List Highlight → Bool → List ℕ → Span → List ℕ
+span_text names links pre line span =
+    codes "<span class=\"" ++ name_of names (final_group links span.group) ++ codes "\">"
+    ++ line_text pre (slice_range line span.first (span.last + 1)) ++ codes "</span>"
+
 -- a line from this column on: its spans, and the text between them
 abbrev pub spanned_text : List (List ℕ) → List Highlight → Bool → List ℕ → ℕ → List Span → List ℕ
 spanned_text names links pre line column [] = line_text pre (drop column line)
 spanned_text names links pre line column (span ∷ spans) =
-    line_text pre (slice_range line column span.first)
-    ++ codes "<span class=\"" ++ name_of names (final_group links span.group) ++ codes "\">"
-    ++ line_text pre (slice_range line span.first (span.last + 1)) ++ codes "</span>"
+    line_text pre (slice_range line column span.first) ++ span_text names links pre line span
     ++ spanned_text names links pre line (span.last + 1) spans
 
 -- a line's number, right in the width of the greatest one, and a space

@@ -2,10 +2,11 @@
 //!
 //! The page shows each span in the class of its final group, and has one style line for each final
 //! group that it shows and that has a style. `specs/Page.antt` says it byte by byte. What stands here
-//! so far are its pieces: titles, characters of lines, and styles.
+//! so far are its pieces: titles, lines with their spans, and styles.
 #![tactic(auto)]
 
 mod characters;
+mod lines;
 mod styles;
 
 /// What a page is asked to be.
