@@ -1,6 +1,6 @@
 -- The page of a painted text, byte by byte (Vim's help, :TOhtml). Each line of the page ends with a line
 -- feed.
-use Rattle.std.specs.Prelude.{ℕ, ◌<◌, ◌≤◌, ◌+◌, ◌-◌, ◌/◌, ◌%◌, ◌==◌, ◌||◌, ◌&&◌, Bool, not, List, [], ◌∷◌, ◌++◌, length, if◌then◌else◌, nat_lt, codes, decimal, encode_utf8, fold, map, replicate, take, drop, slice_range}
+use Rattle.std.specs.Prelude.{ℕ, ◌≡◌, ◌<◌, ◌≤◌, ◌+◌, ◌-◌, ◌/◌, ◌%◌, ◌==◌, ◌||◌, ◌&&◌, Bool, not, List, [], ◌∷◌, ◌++◌, length, if◌then◌else◌, nat_lt, codes, decimal, encode_utf8, fold, map, replicate, take, drop, slice_get, slice_range}
 use Rattle.std.specs.declared.option.Option.{Option}
 use Rattle.std.specs.declared.option.Option.TheVariants.{None, Some}
 use Rattle.std.specs.List.{flat_map, list_any}
@@ -63,8 +63,11 @@ style_text style =
     ++ part_if style.underline (codes "text-decoration: underline; ")
 
 -- a class name in a style line has a backslash before each dot
+abbrev pub selector_byte : ℕ → List ℕ
+selector_byte byte = if byte == 46 then 92 ∷ 46 ∷ [] else byte ∷ []
+
 abbrev pub selector_text : List ℕ → List ℕ
-selector_text name = flat_map (λ c. if c == 46 then 92 ∷ 46 ∷ [] else c ∷ []) name
+selector_text name = flat_map selector_byte name
 
 -- the style line of a final group, if it has a style
 abbrev pub style_line : List (List ℕ) → List Highlight → GroupId → List ℕ
@@ -72,19 +75,29 @@ style_line names links g =
     part_if (has_style (highlight_of links g).style)
     (codes "." ++ selector_text (name_of names g) ++ codes " { " ++ style_text (highlight_of links g).style ++ codes "}\n")
 
--- groups in order of first use, each once
-abbrev pub first_used : List GroupId → List GroupId
-first_used groups = fold (λ used g. if list_any (λ (other : GroupId). other.0 == g.0) used then used else used ++ g ∷ []) [] groups
+-- groups that were used, and one more
+abbrev pub with_used : List GroupId → GroupId → List GroupId
+with_used used g = if list_any (λ (other : GroupId). g.0 == other.0) used then used else used ++ g ∷ []
 
--- the final groups that spans of lines show
+-- the final groups of spans
+abbrev pub final_groups : List Highlight → List Span → List GroupId
+final_groups links spans = map (λ (span : Span). final_group links span.group) spans
+
+-- the final groups that spans of lines show, in order of first use, each once
 abbrev pub shown_groups : List Highlight → List (List Span) → List GroupId
-shown_groups links painting = first_used (flat_map (map (λ (span : Span). final_group links span.group)) painting)
+shown_groups links painting = fold with_used [] (flat_map (final_groups links) painting)
 
 -- spans in order, apart from each other, from this column on in a line of this length
 abbrev pub IsFromColumn : ℕ → ℕ → List Span → Type 0
 IsFromColumn column end [] = column ≤ end
 IsFromColumn column end (span ∷ spans) =
     (column ≤ span.first) × (span.first ≤ span.last) × (span.last < end) × IsFromColumn (span.last + 1) end spans
+
+-- each line's spans fit it
+abbrev pub FitLines : List (List ℕ) → List (List Span) → Type 0
+FitLines lines painting =
+    (i : ℕ) (line : List ℕ) (spans : List Span) → Some line ≡ slice_get lines i → Some spans ≡ slice_get painting i
+    → IsFromColumn 0 (length line) spans
 
 -- one span of a line, in the class of its final group
 abbrev pub span_text : List (List ℕ) → List Highlight → Bool → List ℕ → Span → List ℕ
@@ -99,30 +112,59 @@ spanned_text names links pre line column (span ∷ spans) =
     line_text pre (slice_range line column span.first) ++ span_text names links pre line span
     ++ spanned_text names links pre line (span.last + 1) spans
 
--- a line's number, right in the width of the greatest one, and a space
+-- a line's number, right in this width, and a space
 abbrev pub number_text : Bool → ℕ → ℕ → List ℕ
-number_text pre count number =
+number_text pre width number =
     codes "<span class=\"LineNr\">"
-    ++ line_text pre (replicate (length (decimal count) - length (decimal number)) 32 ++ decimal number ++ codes " ")
+    ++ line_text pre (replicate (width - length (decimal number)) 32 ++ decimal number ++ codes " ")
     ++ codes "</span>"
 
--- the lines of a text of this many lines, the first of which has this number, from 1
-abbrev pub lines_text : List (List ℕ) → List Highlight → PageOptions → ℕ → ℕ → List (List ℕ) → List (List Span) → List ℕ
-lines_text names links options count number [] painting = []
-lines_text names links options count number (line ∷ lines) [] = []
-lines_text names links options count number (line ∷ lines) (spans ∷ painting) =
-    part_if options.number (number_text options.pre count number)
+-- how a line ends
+abbrev pub line_end : Bool → List ℕ
+line_end pre = part_if (not pre) (codes "<br>") ++ codes "\n"
+
+-- a line of this number with its spans
+abbrev pub numbered_text : List (List ℕ) → List Highlight → PageOptions → ℕ → ℕ → List ℕ → List Span → List ℕ
+numbered_text names links options width number line spans =
+    part_if options.number (number_text options.pre width number)
     ++ spanned_text names links options.pre line 0 spans
-    ++ part_if (not options.pre) (codes "<br>") ++ codes "\n"
-    ++ lines_text names links options count (number + 1) lines painting
+    ++ line_end options.pre
+
+-- the lines of a text, the first of which has this number, from 1; numbers have the width of the greatest one
+abbrev pub lines_text : List (List ℕ) → List Highlight → PageOptions → ℕ → ℕ → List (List ℕ) → List (List Span) → List ℕ
+lines_text names links options width number [] painting = []
+lines_text names links options width number (line ∷ lines) [] = []
+lines_text names links options width number (line ∷ lines) (spans ∷ painting) =
+    numbered_text names links options width number line spans
+    ++ lines_text names links options width (number + 1) lines painting
+
+-- the page up to the style line of its body
+abbrev pub start_text : List ℕ → List ℕ
+start_text title =
+    codes "<!DOCTYPE html>\n<html>\n<head>\n<meta charset=\"UTF-8\">\n<title>" ++ title_text title
+    ++ codes "</title>\n<style>\nbody { color: #000000; background-color: #ffffff; }\n"
+
+-- the page up to the style lines of groups
+abbrev pub head_text : List ℕ → Bool → List ℕ
+head_text title number = start_text title ++ part_if number (codes ".LineNr { color: #a52a2a; }\n")
+
+-- the element in which the lines of the text stand
+abbrev pub element : Bool → List ℕ
+element pre = if pre then codes "pre" else codes "div"
+
+-- what stands between the style lines and the lines of the text
+abbrev pub body_start : Bool → List ℕ
+body_start pre = codes "</style>\n</head>\n<body>\n<" ++ element pre ++ codes ">\n"
+
+-- what stands behind the lines of the text
+abbrev pub body_end : Bool → List ℕ
+body_end pre = codes "</" ++ element pre ++ codes ">\n</body>\n</html>\n"
 
 -- the page
 abbrev pub page_text : List ℕ → List (List ℕ) → List (List Span) → List (List ℕ) → List Highlight → PageOptions → List ℕ
 page_text title lines painting names links options =
-    codes "<!DOCTYPE html>\n<html>\n<head>\n<meta charset=\"UTF-8\">\n<title>" ++ title_text title
-    ++ codes "</title>\n<style>\nbody { color: #000000; background-color: #ffffff; }\n"
-    ++ part_if options.number (codes ".LineNr { color: #a52a2a; }\n")
+    head_text title options.number
     ++ flat_map (style_line names links) (shown_groups links painting)
-    ++ codes "</style>\n</head>\n<body>\n" ++ (if options.pre then codes "<pre>\n" else codes "<div>\n")
-    ++ lines_text names links options (length lines) 1 lines painting
-    ++ (if options.pre then codes "</pre>\n" else codes "</div>\n") ++ codes "</body>\n</html>\n"
+    ++ body_start options.pre
+    ++ lines_text names links options (length (decimal (length lines))) 1 lines painting
+    ++ body_end options.pre

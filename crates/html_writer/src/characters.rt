@@ -1,5 +1,5 @@
 //! Characters that mean something in a page.
-ghost use Rattle.std.specs.Prelude.{◌≡◌, ◌++◌, OnOk};
+ghost use Rattle.std.specs.Prelude.{◌≡◌, ◌++◌, OnOk, replicate};
 ghost use Rattle.std.specs.List.{flat_map};
 ghost use Rattle.html_writer.specs.Page.{character_text, entity_of_byte, line_text, title_text};
 
@@ -34,6 +34,26 @@ pub(crate) fn push_line(page: &mut Vec<u8>, pre: bool, line: &[char]) -> Result<
 {
     for c in line {
         push_character(page, pre, *c)?;
+    }
+    Ok(())
+}
+
+/// Appends the characters of these numbers.
+pub(crate) fn push_bytes(page: &mut Vec<u8>, pre: bool, bytes: &[u8]) -> Result<(), AllocError>
+    ensures { OnOk result (page.new.items ≡ page.old.items ++ line_text pre bytes.now) }
+{
+    for byte in bytes {
+        push_character(page, pre, char::from(*byte))?;
+    }
+    Ok(())
+}
+
+/// Appends so many spaces.
+pub(crate) fn push_spaces(page: &mut Vec<u8>, pre: bool, count: usize) -> Result<(), AllocError>
+    ensures { OnOk result (page.new.items ≡ page.old.items ++ line_text pre (replicate count 32)) }
+{
+    for _space in 0..count {
+        push_character(page, pre, ' ')?;
     }
     Ok(())
 }

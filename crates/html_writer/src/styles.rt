@@ -1,12 +1,71 @@
 //! Styles as the page's style lines have them.
 ghost use Rattle.std.specs.Prelude.{◌≡◌, ◌++◌, ◌<◌, OnOk};
-ghost use Rattle.html_writer.specs.Page.{colour_text, hex_digit, part_if, colour_part, style_text};
+ghost use Rattle.std.specs.List.{flat_map};
+ghost use Rattle.html_writer.specs.Page.{colour_part, colour_text, hex_digit, part_if, selector_byte, selector_text, style_line, style_text};
 
-use hi_links::Style;
+use hi_links::{Links, Style};
 use std::alloc::AllocError;
+use syn_base::GroupId;
+use syntax_set::Groups;
+
+/// Appends the style lines of these groups.
+pub(crate) fn push_style_lines(
+    page: &mut Vec<u8>,
+    groups: &Groups,
+    links: &Links,
+    shown: &[GroupId],
+) -> Result<(), AllocError>
+    ensures { OnOk result (page.new.items ≡ page.old.items ++ flat_map (style_line groups.now links.now) shown.now) }
+{
+    for g in shown {
+        push_style_line(page, groups, links, *g)?;
+    }
+    Ok(())
+}
+
+/// Appends the style line of a group, if it has a style.
+fn push_style_line(
+    page: &mut Vec<u8>,
+    groups: &Groups,
+    links: &Links,
+    g: GroupId,
+) -> Result<(), AllocError>
+    ensures { OnOk result (page.new.items ≡ page.old.items ++ style_line groups.now links.now g) }
+{
+    let style = links.style(g);
+    if !style.is_styled() {
+        return Ok(());
+    }
+    page.extend_from_slice(b".")?;
+    push_selector(page, groups.name(g))?;
+    page.extend_from_slice(b" { ")?;
+    push_style(page, style)?;
+    page.extend_from_slice(b"}\n")
+}
+
+/// Appends a class name as a style line has it.
+fn push_selector(page: &mut Vec<u8>, name: &str) -> Result<(), AllocError>
+    ensures { OnOk result (page.new.items ≡ page.old.items ++ selector_text name.now) }
+{
+    for byte in name.as_bytes() {
+        push_selector_byte(page, *byte)?;
+    }
+    Ok(())
+}
+
+/// Appends a byte of a class name.
+fn push_selector_byte(page: &mut Vec<u8>, byte: u8) -> Result<(), AllocError>
+    ensures { OnOk result (page.new.items ≡ page.old.items ++ selector_byte byte) }
+{
+    if byte == b'.' {
+        page.extend_from_slice(b"\\.")
+    } else {
+        page.extend_from_slice(&[byte])
+    }
+}
 
 /// Appends the parts of a style.
-pub(crate) fn push_style(page: &mut Vec<u8>, style: Style) -> Result<(), AllocError>
+fn push_style(page: &mut Vec<u8>, style: Style) -> Result<(), AllocError>
     ensures { OnOk result (page.new.items ≡ page.old.items ++ style_text style) }
 {
     push_colour(page, b"color: ", style.front)?;
@@ -17,8 +76,8 @@ pub(crate) fn push_style(page: &mut Vec<u8>, style: Style) -> Result<(), AllocEr
     Ok(())
 }
 
-/// Appends a part of a style that applies or not.
-fn push_if(page: &mut Vec<u8>, applies: bool, part: &[u8]) -> Result<(), AllocError>
+/// Appends a part that applies or not.
+pub(crate) fn push_if(page: &mut Vec<u8>, applies: bool, part: &[u8]) -> Result<(), AllocError>
     ensures { OnOk result (page.new.items ≡ page.old.items ++ part_if applies part.now) }
 {
     if applies {
