@@ -1,4 +1,3 @@
-use Rattle.std.proofs.Common.{◌∙◌}
 use Rattle.html_writer.proofs.Appending.{behind}
 use Rattle.html_writer.proofs.Further.{written_further}
 use Rattle.html_writer.proofs.lines.push_lines.Goals as goal
