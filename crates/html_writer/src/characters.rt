@@ -1,0 +1,75 @@
+//! Characters that mean something in a page.
+ghost use Rattle.std.specs.Prelude.{◌≡◌, ◌++◌, OnOk, replicate};
+ghost use Rattle.std.specs.List.{flat_map};
+ghost use Rattle.html_writer.specs.Page.{character_text, entity_of_byte, line_text, title_text};
+
+use std::alloc::AllocError;
+
+/// Appends the text of a title.
+pub(crate) fn push_title(page: &mut Vec<u8>, title: &str) -> Result<(), AllocError>
+    ensures { OnOk result (page.new.items ≡ page.old.items ++ title_text title.now) }
+{
+    for byte in title.as_bytes() {
+        push_byte(page, *byte)?;
+    }
+    Ok(())
+}
+
+/// Appends a byte of a text.
+fn push_byte(page: &mut Vec<u8>, byte: u8) -> Result<(), AllocError>
+    ensures { OnOk result (page.new.items ≡ page.old.items ++ entity_of_byte byte) }
+{
+    match byte {
+        b'&' => page.extend_from_slice(b"&amp;"),
+        b'<' => page.extend_from_slice(b"&lt;"),
+        b'>' => page.extend_from_slice(b"&gt;"),
+        b'"' => page.extend_from_slice(b"&quot;"),
+        _ => page.extend_from_slice(&[byte]),
+    }
+}
+
+/// Appends characters of a line.
+pub(crate) fn push_line(page: &mut Vec<u8>, pre: bool, line: &[char]) -> Result<(), AllocError>
+    ensures { OnOk result (page.new.items ≡ page.old.items ++ line_text pre line.now) }
+{
+    for c in line {
+        push_character(page, pre, *c)?;
+    }
+    Ok(())
+}
+
+/// Appends the characters of these numbers.
+pub(crate) fn push_bytes(page: &mut Vec<u8>, pre: bool, bytes: &[u8]) -> Result<(), AllocError>
+    ensures { OnOk result (page.new.items ≡ page.old.items ++ line_text pre bytes.now) }
+{
+    for byte in bytes {
+        push_character(page, pre, char::from(*byte))?;
+    }
+    Ok(())
+}
+
+/// Appends so many spaces.
+pub(crate) fn push_spaces(page: &mut Vec<u8>, pre: bool, count: usize) -> Result<(), AllocError>
+    ensures { OnOk result (page.new.items ≡ page.old.items ++ line_text pre (replicate count 32)) }
+{
+    for _space in 0..count {
+        push_character(page, pre, ' ')?;
+    }
+    Ok(())
+}
+
+/// Appends a character of a line.
+fn push_character(page: &mut Vec<u8>, pre: bool, c: char) -> Result<(), AllocError>
+    ensures { OnOk result (page.new.items ≡ page.old.items ++ character_text pre c) }
+{
+    if !pre && (c == ' ' || c == '\t') {
+        return page.extend_from_slice(b"&nbsp;");
+    }
+    match c {
+        '&' => page.extend_from_slice(b"&amp;"),
+        '<' => page.extend_from_slice(b"&lt;"),
+        '>' => page.extend_from_slice(b"&gt;"),
+        '"' => page.extend_from_slice(b"&quot;"),
+        _ => page.extend_from_slice(c.encode_utf8(&mut [0; 4]).as_bytes()),
+    }
+}
