@@ -1,1 +1,2 @@
 pub mod OutsideLaws
+pub mod ListLaws

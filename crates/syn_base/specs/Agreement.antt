@@ -1,0 +1,29 @@
+-- Two texts that agree on some lines, where one of them may stand some lines further on in the other.
+--
+-- A line's number may be -1 and the number of lines too: there, before the first line and behind the
+-- last one, a text has no line, and no two texts differ.
+use Rattle.std.specs.Prelude.{◌≡◌, ℕ, ℤ, pos, negsuc, ◌+ℤ◌, ◌≤ℤ◌, List, Option, Some, None, slice_get}
+use Rattle.syn_base.specs.declared.looked.Looked.{Looked}
+
+-- what stands at a number
+pub data Seen : Type 0 where
+  before_first : Seen
+  present : (chars : List ℕ) → Seen
+  behind_last : Seen
+
+abbrev pub or_behind : Option (List ℕ) → Seen
+or_behind (Some chars) = present chars
+or_behind None = behind_last
+
+abbrev pub seen_at : List (List ℕ) → ℤ → Seen
+seen_at text (pos l) = or_behind (slice_get text l)
+seen_at text (negsuc n) = before_first
+
+-- line l of the one text is line l + shift of the other
+abbrev pub AgreeAt : List (List ℕ) → List (List ℕ) → ℤ → ℤ → Type 0
+AgreeAt text other shift l = seen_at other (l +ℤ shift) ≡ seen_at text l
+
+-- so are all the lines of a range
+abbrev pub Agree : List (List ℕ) → List (List ℕ) → ℤ → Looked → Type 0
+Agree text other shift looked =
+    (l : ℤ) → looked.low ≤ℤ l → l ≤ℤ looked.high → AgreeAt text other shift l
