@@ -36,3 +36,34 @@ fn a_style_takes_a_link_away(rt: HostRuntime) -> Result<(), Memory> {
     assert!(rt; links.style(GroupId(3)) == BOLD);
     Ok(())
 }
+
+#[test]
+fn a_ring_of_two_links_ends_where_it_began(rt: HostRuntime) -> Result<(), SetError> {
+    let mut groups = Groups::new(rt.alloc());
+    let mut links = Links::usual(rt.alloc(), &mut groups)?;
+    let a = groups.number("A")?;
+    let b = groups.number("B")?;
+    links.link(a, Some(b), false, false)?;
+    links.link(b, Some(a), false, false)?;
+    assert_eq!(rt; groups.name(links.final_group(a)), "A");
+    assert_eq!(rt; groups.name(links.final_group(b)), "B");
+    Ok(())
+}
+
+#[test]
+fn a_default_link_gives_way_to_a_link(rt: HostRuntime) -> Result<(), SetError> {
+    let mut groups = Groups::new(rt.alloc());
+    let mut links = Links::usual(rt.alloc(), &mut groups)?;
+    let string = groups.number("String")?;
+    let a = groups.number("A")?;
+    let b = groups.number("B")?;
+    let c = groups.number("C")?;
+    let d = groups.number("D")?;
+    links.link(a, Some(b), true, false)?;
+    links.link(a, Some(c), true, false)?;
+    assert_eq!(rt; groups.name(links.final_group(a)), "B");
+    links.link(a, Some(d), false, false)?;
+    assert_eq!(rt; groups.name(links.final_group(a)), "D");
+    assert_eq!(rt; groups.name(links.final_group(string)), "Constant");
+    Ok(())
+}

@@ -11,6 +11,8 @@ mod lines;
 mod numbers;
 mod shown;
 mod styles;
+#[cfg(test)]
+mod tests;
 
 pub use document::page;
 
