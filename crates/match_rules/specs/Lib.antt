@@ -1,0 +1,10 @@
+pub mod Ways
+pub mod Collections
+pub mod Atoms
+pub mod Marks
+pub mod Counts
+pub mod Looks
+pub mod Visits
+pub mod Attempt
+pub mod CountLaw
+pub mod Locality
