@@ -1,21 +1,25 @@
-//! One case: a pattern and its use.
+//! One case: a pattern and its use, and what an attempt is made with, if one is asked for.
 
+use crate::attempt::write_attempt;
+use crate::trial::Trial;
 use std::alloc::{AllocError, Global};
 use std::io;
 use std::io::Write;
+use syn_base::Memory;
 use vim_pattern::{PatternError, PatternUse, Tree, read_pattern};
 
-/// A pattern and its use.
+/// A pattern, its use, and the fields behind them.
 #[derive(Drop)]
 struct Case<'a> {
     usage: PatternUse,
     pattern: &'a str,
+    trial: Option<&'a str>,
 }
 
 impl<'a> Case<'a> {
-    /// The case of a line of two fields with a tab between them.
+    /// The case of a line, with a tab between any two fields.
     fn read(line: &'a str) -> Option<Case<'a>> {
-        let (usage, pattern) = line.split_once('\t')?;
+        let (usage, fields) = line.split_once('\t')?;
         let usage = match usage {
             "match" => PatternUse::Match,
             "start" => PatternUse::Start,
@@ -23,27 +27,44 @@ impl<'a> Case<'a> {
             "names" => PatternUse::Names,
             _ => return None,
         };
-        if pattern.contains('\t') {
-            return None;
-        }
-        Some(Case { usage, pattern })
+        let (pattern, trial) = match fields.split_once('\t') {
+            Some((pattern, trial)) => (pattern, Some(trial)),
+            None => (fields, None),
+        };
+        Some(Case {
+            usage,
+            pattern,
+            trial,
+        })
     }
 }
 
-/// Writes a line that tells how the pattern of a case is read.
+/// Writes a line that tells how the pattern of a case is read, or what an attempt answers.
 pub(crate) fn write_case<W: Write>(alloc: Global, out: &mut W, line: &str) -> io::Result<()> {
     let Some(case) = Case::read(line) else {
         return writeln!(out, "bad case");
     };
     let characters = characters(alloc, case.pattern)?;
     match read_pattern(alloc, characters.as_slice(), case.usage) {
-        Ok(tree) => write_tree(out, &tree),
+        Ok(tree) => match case.trial {
+            None => write_tree(out, &tree),
+            Some(fields) => match Trial::read(alloc, fields) {
+                Ok(Some(trial)) => write_attempt(alloc, out, &tree, &trial),
+                Ok(None) => writeln!(out, "bad case"),
+                Err(Memory) => Err(out_of_memory()),
+            },
+        },
         Err(PatternError::At { at, cause }) => {
             let place = at.saturating_add(1);
             writeln!(out, "fault {cause} at {place}")
         }
-        Err(PatternError::Memory) => Err(io::Error::from(io::ErrorKind::OutOfMemory)),
+        Err(PatternError::Memory) => Err(out_of_memory()),
     }
+}
+
+/// Want of memory, as a fault of a program.
+pub(crate) fn out_of_memory() -> io::Error {
+    io::Error::from(io::ErrorKind::OutOfMemory)
 }
 
 fn characters(alloc: Global, text: &str) -> Result<Vec<char>, AllocError> {

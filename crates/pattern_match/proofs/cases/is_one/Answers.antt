@@ -1,0 +1,7 @@
+use Rattle.std.proofs.Common.{rules}
+use Rattle.char_class.specs.Folds.{is_same}
+use Rattle.pattern_match.proofs.cases.is_one.Goals as goal
+
+pub returns-then-is_ascii-2 : goal.returns-then-is_ascii-2
+unfolding is_same
+returns-then-is_ascii-2 c = search rules

@@ -1,0 +1,17 @@
+use Rattle.std.proofs.Common.{◌≡◌, length, rules, arith}
+use Rattle.pattern_match.proofs.ThreadLaws.{one_more_note}
+use Rattle.pattern_match.proofs.threads.Threads.note.Goals as goal
+
+pub invariant_of-self-2 : goal.invariant_of-self-2
+invariant_of-self-2 g c =
+    let old = c.self.inside in
+    let number : c.len-self-inside.result ≡ length c.push.new.self.items = first_of (search rules, omega arith) in
+    (one_more_note old.later.items old.notes.items c.push.new.self.items old.pending.items old.here c.args.self.now c.args.note c.len-self-inside.result
+    c.self.invariant c.self.view_is c.requires c.in_ok-push.ensures.items number).0
+
+pub returns : goal.returns
+returns g c =
+    let old = c.self.inside in
+    let number : c.len-self-inside.result ≡ length c.push.new.self.items = first_of (search rules, omega arith) in
+    (one_more_note old.later.items old.notes.items c.push.new.self.items old.pending.items old.here c.args.self.now c.args.note c.len-self-inside.result
+    c.self.invariant c.self.view_is c.requires c.in_ok-push.ensures.items number).1

@@ -1,0 +1,15 @@
+pub mod Contexts
+pub mod Steps
+pub mod Entries
+pub mod Threads
+pub mod Machine
+pub mod Spending
+pub mod Heights
+pub mod Search
+pub mod Starts
+pub mod Standing
+pub mod Walks
+pub mod Tried
+pub mod FirstAtom
+pub mod Answers
+pub mod ReadyParts

@@ -1,0 +1,32 @@
+//! The matcher: the first way of a pattern at a place, by the rules of `match_rules`.
+//!
+//! A pattern is made ready once: its nodes are copied, and each collection gets a table of its
+//! characters below 256. An attempt then walks over the nodes with two lists: what is still to be done
+//! on the present way, and the ways that are still to be followed. The ticks and ways that these stand
+//! for, joined, are always the rest of what the rules list.
+#![tactic(auto)]
+
+mod answer;
+mod atoms;
+mod behind;
+mod cases;
+mod codes;
+mod collection;
+mod context;
+mod item;
+mod programs;
+mod ready;
+mod search;
+mod spent;
+mod standing;
+mod step;
+mod tables;
+mod threads;
+mod tick;
+mod turns;
+mod walks;
+mod words;
+
+pub use answer::{Attempt, Caps, Match};
+pub use context::Context;
+pub use programs::Programs;

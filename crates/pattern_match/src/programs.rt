@@ -1,0 +1,248 @@
+//! Patterns that are ready, by number.
+ghost use Rattle.std.specs.Prelude.{◌≡◌, ◌<◌, ◌≤◌, ◌^◌, ◌-◌, [], ◌∷◌, ◌++◌, length, map, IfOk, OnOk, OnErr, IfSome};
+ghost use Rattle.vim_pattern.specs.GroupNumbers.{HasNumbers};
+ghost use Rattle.match_rules.specs.Ways.{IsPlaceOf, way_from};
+ghost use Rattle.match_rules.specs.Marks.{Tick};
+ghost use Rattle.match_rules.specs.Visits.{visits};
+ghost use Rattle.match_rules.specs.Attempt.{answer_of, not_before, external_of};
+ghost use Rattle.pattern_match.specs.Contexts.{context_in};
+ghost use Rattle.pattern_match.specs.Steps.{shape_of};
+ghost use Rattle.pattern_match.specs.Threads.{found_way};
+ghost use Rattle.pattern_match.specs.Answers.{answered, lines_or_start, match_of, IsAttempt};
+
+use crate::answer::{Attempt, Caps, GROUPS, Match};
+use crate::atoms::try_atom;
+use crate::context::Context;
+use crate::item::Item;
+use crate::ready::ready;
+use crate::search::{Sought, search};
+use crate::spent::Spent;
+use crate::step::{Step, first_test};
+use crate::threads::{FoundWay, Threads};
+use crate::walks::part_of_line;
+use std::alloc::Global;
+use std::marker::Model;
+use syn_base::{Externals, Lines, List, Looked, Memory, PatternId, Place};
+use vim_pattern::Tree;
+
+/// A pattern that is ready.
+#[derive(Drop)]
+struct Program {
+    step: Step,
+    case: Option<bool>,
+    groups: u8,
+    externals: u8,
+    moves_start: bool,
+    line_end: bool,
+}
+
+/// Patterns that are ready, by number. Contracts see their trees.
+#[derive(Drop)]
+pub struct Programs {
+    programs: Vec<Program>,
+}
+
+impl Model for Programs {
+    ghost use Rattle.std.specs.Prelude.{List, map};
+    ghost use Rattle.std.specs.List.{All};
+    ghost use Rattle.vim_pattern.specs.Tree.{PatternTree};
+    ghost use Rattle.vim_pattern.specs.GroupNumbers.{HasNumbers};
+    ghost use Rattle.pattern_match.specs.Answers.{tree_of};
+    ghost use Rattle.vim_pattern.specs.ShapeCode.{coded_tree};
+    ghost use Rattle.std.specs.Coded.{coded_list};
+
+    ghost Value = { List PatternTree };
+
+    ghost coded = { coded_list coded_tree };
+
+    ghost view = { λ p. map tree_of p.programs.items };
+
+    ghost invariant = { λ p. All (λ program. HasNumbers (tree_of program).node) p.programs.items };
+}
+
+impl Programs {
+    /// No patterns. It takes no memory.
+    pub fn new(alloc: Global) -> Programs
+        ensures { result ≡ [] }
+    {
+        Programs {
+            programs: Vec::new(alloc),
+        }
+    }
+
+    /// Makes a pattern ready. Its number is how many were added before.
+    pub fn add(&mut self, tree: &Tree) -> Result<PatternId, Memory>
+        requires count { length self.now < 2 ^ 32 - 1 }
+        requires numbers { HasNumbers tree.now.node }
+        ensures number { IfOk result (λ id. id.0 ≡ length self.old) }
+        ensures added { OnOk result (self.new ≡ self.old ++ tree.now ∷ []) }
+        ensures unchanged { OnErr result (self.new ≡ self.old) }
+    {
+        let alloc = *self.programs.allocator();
+        let number = self.programs.len() as u32;
+        let step = ready(alloc, &tree.node)?;
+        self.programs.push(Program {
+            step,
+            case: tree.case,
+            groups: tree.groups,
+            externals: tree.externals,
+            moves_start: tree.moves_start,
+            line_end: tree.line_end,
+        })?;
+        Ok(PatternId(number))
+    }
+
+    /// Tries a pattern at a place. Its cost is the number of ticks before the first way, or of all ticks
+    /// where there is none; a tick is one atom tried at one place (this profile).
+    pub fn attempt<T: Lines>(
+        &self,
+        alloc: Global,
+        id: PatternId,
+        lines: &T,
+        context: &Context,
+        start: Place,
+        budget: u64,
+    ) -> Result<Attempt, Memory>
+        requires added { id.0 < length self.now }
+        requires present { start.line < length (T.lines lines.now) }
+        requires place { IsPlaceOf (T.lines lines.now) start }
+        requires budget { 1 ≤ budget }
+        ensures { IfOk result (IsAttempt budget self.now id.0 (context_in (T.lines lines.now) context.now) start) }
+    {
+        let program = &self.programs[id.0 as usize];
+        let context = Context {
+            ignore: program.case.unwrap_or(context.ignore),
+            sets: context.sets,
+            externals: context.externals,
+        };
+        attempt_of(alloc, &program.step, lines, &context, start, budget)
+    }
+}
+
+/// Tries a node at a place.
+fn attempt_of<T: Lines>(
+    alloc: Global,
+    step: &Step,
+    lines: &T,
+    context: &Context,
+    start: Place,
+    budget: u64,
+) -> Result<Attempt, Memory>
+    requires place { IsPlaceOf (T.lines lines.now) start }
+    requires numbers { HasNumbers (shape_of step.now) }
+    requires budget { 1 ≤ budget }
+    ensures { let x = context_in (T.lines lines.now) context.now in
+        IfOk result (λ told. told ≡ answered budget (T.lines lines.now) start (answer_of (visits x (shape_of step.now) (way_from start)))) }
+{
+    let mut ways: Threads<Item> = Threads::new(alloc, start);
+    if let Some(looked) = fails_at_once(lines, context, &ways, step) {
+        return Ok(Attempt::Absent(looked));
+    }
+    let mut spent = Spent::nothing(budget);
+    let sought = search(lines, context, &mut ways, step, None, &mut spent)?;
+    let looked = looked_or_start(lines, spent.looked, start);
+    Ok(match sought {
+        Sought::Found => {
+            let found = found_match(alloc, lines, start, &ways.way())?;
+            Attempt::Found(found, looked)
+        }
+        Sought::Absent => Attempt::Absent(looked),
+        Sought::TooCostly => Attempt::TooCostly,
+    })
+}
+
+/// The lines looked at, or that of the start where there was no tick.
+fn looked_or_start<T: Lines>(lines: &T, looked: Option<Looked>, start: Place) -> Looked
+    requires { IsPlaceOf (T.lines lines.now) start }
+    ensures { result ≡ lines_or_start start looked }
+{
+    let _count = lines.len();
+    looked.unwrap_or(Looked::one(start.line as i64))
+}
+
+/// The lines looked at where the first atom that every way tries doesn't fit: that is the one tick then.
+fn fails_at_once<T: Lines>(
+    lines: &T,
+    context: &Context,
+    ways: &Threads<Item>,
+    step: &Step,
+) -> Option<Looked>
+    requires place { IsPlaceOf (T.lines lines.now) ways.now.here.way.at }
+    requires numbers { HasNumbers (shape_of step.now) }
+    ensures { let x = context_in (T.lines lines.now) context.now in
+        IfSome result (λ looked. visits x (shape_of step.now) ways.now.here.way ≡ Tick looked ∷ []) }
+{
+    let test = first_test(step)?;
+    let tried = try_atom(lines, context, ways, test);
+    match tried.place {
+        None => Some(tried.looked),
+        Some(_) => None,
+    }
+}
+
+/// The match of a way that was found from a start.
+fn found_match<T: Lines>(
+    alloc: Global,
+    lines: &T,
+    start: Place,
+    way: &FoundWay,
+) -> Result<Match, Memory>
+    ensures { IfOk result (λ found. found ≡ match_of (T.lines lines.now) start (found_way way.now)) }
+{
+    let from = way.start.unwrap_or(start);
+    let to = not_before(from, way.stop.unwrap_or(way.at));
+    Ok(Match {
+        from,
+        to,
+        caps: Caps::new(way.captures),
+        externals: externals_of(alloc, lines, &way.externals)?,
+    })
+}
+
+/// The end of a match, or its beginning where that comes later.
+fn not_before(from: Place, to: Place) -> Place
+    ensures { result ≡ not_before from to }
+{
+    if to < from { from } else { to }
+}
+
+/// The texts of external groups.
+fn externals_of<T: Lines>(
+    alloc: Global,
+    lines: &T,
+    groups: &[Option<(Place, Place)>; GROUPS],
+) -> Result<Externals, Memory>
+    ensures { IfOk result (λ texts. texts ≡ map (external_of (T.lines lines.now)) groups.now) }
+{
+    let mut texts = List::new(alloc);
+    for group in groups {
+        texts.push(external_of(alloc, lines, *group)?)?;
+    }
+    Ok(Externals::from_parts(texts))
+}
+
+/// The text of an external group: empty where it goes over a line end, or didn't match.
+fn external_of<T: Lines>(
+    alloc: Global,
+    lines: &T,
+    group: Option<(Place, Place)>,
+) -> Result<List<char>, Memory>
+    ensures { IfOk result (λ text. text ≡ external_of (T.lines lines.now) group) }
+{
+    match group {
+        Some((from, to)) if from.line == to.line => {
+            copied(alloc, part_of_line(lines, from, to.col))
+        }
+        _ => Ok(List::new(alloc)),
+    }
+}
+
+fn copied(alloc: Global, line: &[char]) -> Result<List<char>, Memory>
+    ensures { IfOk result (λ text. text ≡ line.now) }
+{
+    let mut text = List::new(alloc);
+    for c in line {
+        text.push(*c)?;
+    }
+    Ok(text)
+}

@@ -1,0 +1,345 @@
+//! The search for the first way of a part of a pattern.
+ghost use Rattle.std.specs.Prelude.{◌≡◌, ◌≤◌, ◌<◌, ◌^◌, ◌+◌, IfOk, OnOk, List, ◌∷◌, [], pos, ◌-ℤ◌};
+ghost use Rattle.syn_base.specs.Looked.{one_line};
+ghost use Rattle.vim_pattern.specs.GroupNumbers.{HasNumbers};
+ghost use Rattle.match_rules.specs.Ways.{IsPlaceOf};
+ghost use Rattle.match_rules.specs.Visits.{visits};
+ghost use Rattle.match_rules.specs.Looks.{tried_behind};
+ghost use Rattle.pattern_match.specs.Contexts.{context_in};
+ghost use Rattle.pattern_match.specs.Steps.{shape_of};
+ghost use Rattle.pattern_match.specs.Threads.{Thread};
+ghost use Rattle.pattern_match.specs.declared.item.Item.{Item as AnyItem};
+ghost use Rattle.pattern_match.specs.Heights.{height, height_of, IsNumbered};
+ghost use Rattle.pattern_match.specs.Search.{IsStep, marks_first, IsSearch, wanted_marks, is_wanted, look_marks, going, behind_look, IsLed};
+
+use crate::behind::Starts;
+use crate::context::Context;
+use crate::item::{Item, Turns, Went};
+use crate::spent::Spent;
+use crate::step::Step;
+use crate::threads::Threads;
+use crate::tick::tick;
+use crate::turns::{after_turn, count, put_aside_with, turn};
+use pattern_items::Behind;
+use syn_base::{Lines, Looked, Memory, Place};
+
+/// How a search ended.
+#[derive(Clone, Copy)]
+pub(crate) enum Sought {
+    /// With a way, which is the present one.
+    Found,
+    /// With none.
+    Absent,
+    /// Before its end: the budget is spent.
+    TooCostly,
+}
+
+/// How a way goes on behind a part that was searched for its first way.
+#[derive(Clone, Copy)]
+enum Ending {
+    /// As behind a look: where it stood (`/\@=`, `/\@!`).
+    Look { not: bool },
+    /// As behind a part that isn't entered again: where that way leads (`/\@>`).
+    Whole,
+}
+
+/// A part that is searched for its first way, from the place of the present way or behind it.
+#[derive(Clone, Copy)]
+struct Look<'p> {
+    part: &'p Step,
+    behind: Option<Behind>,
+    ending: Ending,
+}
+
+/// Whether a way that stands at a place is wanted: at that one, or at any.
+fn is_wanted(wanted: Option<Place>, at: Place) -> bool
+    ensures { result ≡ is_wanted wanted at }
+{
+    match wanted {
+        None => true,
+        Some(place) => at == place,
+    }
+}
+
+/// Searches for the first way of a part, from the present way on, at a place or at any. Nothing else
+/// is done on the present way. The pending ways stay as they are.
+#[cycle(search)]
+pub(crate) fn search<'p, T: Lines>(
+    lines: &T,
+    context: &Context<'_>,
+    ways: &mut Threads<Item<'p>>,
+    part: &'p Step,
+    wanted: Option<Place>,
+    spent: &mut Spent,
+) -> Result<Sought, Memory>
+    requires on_text { IsPlaceOf (T.lines lines.now) ways.old.here.way.at }
+    requires numbers { HasNumbers (shape_of part.now) }
+    requires within { spent.old.cost ≤ spent.old.budget }
+    ensures { let x = context_in (T.lines lines.now) context.now in
+        IfOk result (IsSearch (wanted_marks wanted (visits x (shape_of part.now) ways.old.here.way)) ways.old ways.new spent.old spent.new) }
+{
+    let floor = ways.pending();
+    ways.drop_all();
+    let mut went = Went::Does(Item::Visit(part));
+    for _ in 0..u64::MAX {
+        went = match went {
+            Went::Does(item) => step(lines, context, ways, item, spent)?,
+            Went::GoesOn => match ways.take_first() {
+                Some(item) => Went::Does(item),
+                None if is_wanted(wanted, ways.place()) => {
+                    ways.forget_to(floor);
+                    return Ok(Sought::Found);
+                }
+                None => Went::Ends,
+            },
+            Went::Ends => {
+                if ways.pending() == floor {
+                    return Ok(Sought::Absent);
+                }
+                ways.take_up();
+                Went::GoesOn
+            }
+            Went::TooCostly => return Ok(Sought::TooCostly),
+        };
+    }
+    Err(Memory)
+}
+
+/// Does one thing on the present way.
+#[cycle(search)]
+fn step<'p, T: Lines>(
+    lines: &T,
+    context: &Context<'_>,
+    ways: &mut Threads<Item<'p>>,
+    item: Item<'p>,
+    spent: &mut Spent,
+) -> Result<Went<'p>, Memory>
+    requires on_text { IsPlaceOf (T.lines lines.now) ways.old.here.way.at }
+    requires numbers { IsNumbered item }
+    requires within { spent.old.cost ≤ spent.old.budget }
+    ensures { let x = context_in (T.lines lines.now) context.now in
+        IfOk result (IsStep x (height_of item.entry) (marks_first x item.entry ways.old) ways.old ways.new spent.old spent.new) }
+{
+    match item {
+        Item::Visit(node) => visit(lines, context, ways, node, spent),
+        Item::Count(turns) => count(lines, context, ways, turns, spent),
+        Item::Turn(turns) => turn(lines, context, ways, turns, spent),
+        Item::AfterTurn { turns, from } => Ok(after_turn(ways, turns, from)),
+        Item::Close { number, from } => {
+            ways.note_capture(number, from)?;
+            Ok(Went::GoesOn)
+        }
+        Item::CloseExternal { number, from } => {
+            ways.note_external(number, from)?;
+            Ok(Went::GoesOn)
+        }
+    }
+}
+
+/// Follows a node from the present way.
+#[cycle(search)]
+fn visit<'p, T: Lines>(
+    lines: &T,
+    context: &Context<'_>,
+    ways: &mut Threads<Item<'p>>,
+    node: &'p Step,
+    spent: &mut Spent,
+) -> Result<Went<'p>, Memory>
+    requires on_text { IsPlaceOf (T.lines lines.now) ways.old.here.way.at }
+    requires numbers { HasNumbers (shape_of node.now) }
+    requires within { spent.old.cost ≤ spent.old.budget }
+    ensures { let x = context_in (T.lines lines.now) context.now in
+        IfOk result (IsStep x (height (shape_of node.now)) (marks_first x (Item.Visit node.entry) ways.old) ways.old ways.new spent.old spent.new) }
+{
+    match node {
+        Step::Empty => Ok(Went::GoesOn),
+        Step::One(test) => tick(lines, context, ways, test, spent),
+        Step::Seq(a, b) => {
+            ways.put_first(Item::Visit(b))?;
+            Ok(Went::Does(Item::Visit(a)))
+        }
+        Step::Or(a, b) => {
+            put_aside_with(ways, Item::Visit(b))?;
+            Ok(Went::Does(Item::Visit(a)))
+        }
+        Step::And(a, b) => {
+            ways.put_first(Item::Visit(b))?;
+            follow_look(
+                lines,
+                context,
+                ways,
+                Look {
+                    part: a,
+                    behind: None,
+                    ending: Ending::Look { not: false },
+                },
+                spent,
+            )
+        }
+        Step::Group(part, number) => {
+            let from = ways.place();
+            ways.put_first(Item::Close {
+                number: *number,
+                from,
+            })?;
+            Ok(Went::Does(Item::Visit(part)))
+        }
+        Step::External(part, number) => {
+            let from = ways.place();
+            ways.put_first(Item::CloseExternal {
+                number: *number,
+                from,
+            })?;
+            Ok(Went::Does(Item::Visit(part)))
+        }
+        Step::Repeat {
+            part,
+            least,
+            most,
+            lazy,
+        } => Ok(Went::Does(Item::Count(Turns {
+            part,
+            least: *least,
+            most: *most,
+            lazy: *lazy,
+        }))),
+        Step::Ahead { part, not } => follow_look(
+            lines,
+            context,
+            ways,
+            Look {
+                part,
+                behind: None,
+                ending: Ending::Look { not: *not },
+            },
+            spent,
+        ),
+        Step::Before { part, not, limit } => follow_look(
+            lines,
+            context,
+            ways,
+            Look {
+                part,
+                behind: Some(*limit),
+                ending: Ending::Look { not: *not },
+            },
+            spent,
+        ),
+        Step::Whole(part) => follow_look(
+            lines,
+            context,
+            ways,
+            Look {
+                part,
+                behind: None,
+                ending: Ending::Whole,
+            },
+            spent,
+        ),
+    }
+}
+
+/// Searches for the first way of a part, and goes on behind it.
+#[cycle(search)]
+fn follow_look<'p, T: Lines>(
+    lines: &T,
+    context: &Context<'_>,
+    ways: &mut Threads<Item<'p>>,
+    look: Look<'p>,
+    spent: &mut Spent,
+) -> Result<Went<'p>, Memory>
+    requires on_text { IsPlaceOf (T.lines lines.now) ways.old.here.way.at }
+    requires numbers { HasNumbers (shape_of look.part.now) }
+    requires within { spent.old.cost ≤ spent.old.budget }
+    ensures { let x = context_in (T.lines lines.now) context.now in
+        IfOk result (IsStep x 0 (look_marks x look.entry ways.old) ways.old ways.new spent.old spent.new) }
+{
+    ways.put_aside()?;
+    let sought = match look.behind {
+        None => search(lines, context, ways, look.part, None, spent)?,
+        Some(limit) => search_behind(lines, context, ways, look.part, limit, spent)?,
+    };
+    Ok(match sought {
+        Sought::Found => behind_look(ways, look.ending, true),
+        Sought::Absent => behind_look(ways, look.ending, false),
+        Sought::TooCostly => Went::TooCostly,
+    })
+}
+
+/// Searches for the first way of a part that ends at the place of the present way and starts there
+/// or before it.
+#[cycle(search)]
+fn search_behind<'p, T: Lines>(
+    lines: &T,
+    context: &Context<'_>,
+    ways: &mut Threads<Item<'p>>,
+    part: &'p Step,
+    limit: Behind,
+    spent: &mut Spent,
+) -> Result<Sought, Memory>
+    requires on_text { IsPlaceOf (T.lines lines.now) ways.old.here.way.at }
+    requires numbers { HasNumbers (shape_of part.now) }
+    requires within { spent.old.cost ≤ spent.old.budget }
+    ensures { let x = context_in (T.lines lines.now) context.now in
+        IfOk result (IsSearch (tried_behind x.text (visits x (shape_of part.now)) limit ways.old.here.way) ways.old ways.new spent.old spent.new) }
+{
+    let at = ways.place();
+    let line_before = line_before(lines, at);
+    let cost = spent.cost;
+    let floor = ways.pending();
+    ways.put_aside()?;
+    let mut starts = Starts::new(at, limit);
+    while let Some(start) = starts.next(lines) {
+        ways.move_to(start);
+        match search(lines, context, ways, part, Some(at), spent)? {
+            Sought::Absent => take_up_copy(ways)?,
+            Sought::Found => {
+                ways.forget_to(floor);
+                spent.look_too(cost, line_before);
+                return Ok(Sought::Found);
+            }
+            Sought::TooCostly => return Ok(Sought::TooCostly),
+        }
+    }
+    ways.forget_to(floor);
+    spent.look_too(cost, line_before);
+    Ok(Sought::Absent)
+}
+
+/// The line before a place.
+fn line_before<T: Lines>(lines: &T, at: Place) -> Looked
+    requires { IsPlaceOf (T.lines lines.now) at }
+    ensures { result ≡ one_line (pos at.line -ℤ pos 1) }
+{
+    let _count = lines.len();
+    Looked::one(at.line as i64 - 1)
+}
+
+/// Takes up a copy of the next pending way.
+fn take_up_copy<'p>(ways: &mut Threads<Item<'p>>) -> Result<(), Memory>
+    ensures { (t : Thread AnyItem) (others : List (Thread AnyItem)) → ways.old.pending ≡ t ∷ others → OnOk result (ways.new ≡ record { here = t; pending = ways.old.pending }) }
+{
+    if ways.take_up() {
+        ways.put_aside()?;
+    }
+    Ok(())
+}
+
+/// Goes on behind a look that has found a way, which is the present one, or none. The way that it
+/// began with is the next pending one.
+fn behind_look<'p>(ways: &mut Threads<Item<'p>>, ending: Ending, found: bool) -> Went<'p>
+    ensures led { IsLed result }
+    ensures leads { (t : Thread AnyItem) (others : List (Thread AnyItem)) → ways.old.pending ≡ t ∷ others →
+        (ways.new.pending ≡ others) × (going result ways.new.here [] ≡ behind_look ending found t ways.old.here.way) }
+{
+    let goes_on = match (ending, found) {
+        (Ending::Look { not: false }, true) => ways.go_on_with_pending(false),
+        (Ending::Whole, true) => ways.go_on_with_pending(true),
+        (Ending::Look { not: true }, false) => ways.take_up(),
+        _ => {
+            ways.take_up();
+            false
+        }
+    };
+    if goes_on { Went::GoesOn } else { Went::Ends }
+}

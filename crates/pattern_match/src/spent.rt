@@ -1,0 +1,54 @@
+//! What an attempt has cost so far, and the lines that it looked at.
+ghost use Rattle.std.specs.Prelude.{◌≡◌, ◌<◌, ◌≤◌, [], ◌∷◌, None, IsTrue, ◌↔◌};
+ghost use Rattle.match_rules.specs.Marks.{Tick};
+ghost use Rattle.pattern_match.specs.Spending.{spent_on, looking_at_too, looking_too};
+
+use syn_base::Looked;
+
+/// The ticks so far, how many are allowed, and the lines that they looked at.
+#[derive(Clone, Copy)]
+pub(crate) struct Spent {
+    pub cost: u64,
+    pub budget: u64,
+    pub looked: Option<Looked>,
+}
+
+impl Spent {
+    /// No tick yet.
+    pub(crate) fn nothing(budget: u64) -> Spent
+        ensures { result ≡ record { cost = 0; budget = budget; looked = None } }
+    {
+        Spent {
+            cost: 0,
+            budget,
+            looked: None,
+        }
+    }
+
+    /// Counts a tick that looked at these lines.
+    pub(crate) fn tick(&mut self, looked: Looked)
+        requires { self.old.cost < self.old.budget }
+        ensures { self.new ≡ spent_on self.old (Tick looked ∷ []) }
+    {
+        self.cost += 1;
+        self.look(looked);
+    }
+
+    /// Says that the ticks since the cost was `before`, if there were any, looked at these lines too.
+    pub(crate) fn look_too(&mut self, before: u64, looked: Looked)
+        ensures { self.new ≡ looking_too before looked self.old }
+    {
+        if before < self.cost {
+            self.look(looked);
+        }
+    }
+
+    fn look(&mut self, looked: Looked)
+        ensures { self.new ≡ looking_at_too looked self.old }
+    {
+        self.looked = Some(match self.looked {
+            None => looked,
+            Some(others) => others.join(looked),
+        });
+    }
+}

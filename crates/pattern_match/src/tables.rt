@@ -1,0 +1,141 @@
+//! The tables of a collection: which characters below 256 its parts hold.
+ghost use Rattle.std.specs.Prelude.{◌≡◌, ◌&&◌, ℕ, ◌<◌, not, IsOk, codes, Ok};
+ghost use Rattle.std.specs.List.{list_any};
+ghost use Rattle.std.specs.Str.{chars};
+ghost use Rattle.char_class.specs.OptionValue.{set_of};
+ghost use Rattle.match_rules.specs.Collections.{class_in_set, part_holds};
+ghost use Rattle.pattern_match.specs.ReadyParts.{IsTableOf, has_code, is_optional, is_optional_class, some_fixed_holds, some_optional_holds, some_part_holds};
+
+use crate::codes::Codes;
+use char_class::{CharSet, Sets, class_has, range_has};
+use pattern_items::SetPart;
+use syn_base::Class;
+
+/// The table of the parts on which no option's set decides.
+pub(crate) fn table_of(parts: &[SetPart], ignore: bool) -> Codes
+    ensures { IsTableOf parts.now ignore result }
+{
+    let sets = some_sets();
+    codes_of(parts, &sets, ignore)
+}
+
+/// Sets that the parts of a table don't go by.
+fn some_sets() -> Sets {
+    Sets {
+        ident: some_set(),
+        keyword: some_set(),
+        file: some_set(),
+    }
+}
+
+fn some_set() -> CharSet {
+    match CharSet::from_option("_") {
+        Ok(set) => set,
+        Err(_) => unreachable!(),
+    }
+}
+
+fn codes_of(parts: &[SetPart], sets: &Sets, ignore: bool) -> Codes
+    ensures { (c : ℕ) → c < 256 → has_code result c ≡ some_fixed_holds parts.now c sets.now ignore }
+{
+    let mut codes = Codes::none();
+    for code in 0..=u8::MAX {
+        codes.set(code, some_fixed_has(parts, char::from(code), sets, ignore));
+    }
+    codes
+}
+
+/// Whether one of the parts holds a character.
+pub(crate) fn some_part_has(parts: &[SetPart], c: char, sets: &Sets, ignore: bool) -> bool
+    ensures { result ≡ some_part_holds parts.now c sets.now ignore }
+{
+    for part in parts {
+        if part_has(*part, c, sets, ignore) {
+            return true;
+        }
+    }
+    false
+}
+
+/// Whether one of the parts on which an option's set decides holds a character.
+pub(crate) fn some_optional_has(parts: &[SetPart], c: char, sets: &Sets, ignore: bool) -> bool
+    ensures { result ≡ some_optional_holds parts.now c sets.now ignore }
+{
+    for part in parts {
+        if is_optional(*part) && part_has(*part, c, sets, ignore) {
+            return true;
+        }
+    }
+    false
+}
+
+/// Whether one of the others holds it.
+fn some_fixed_has(parts: &[SetPart], c: char, sets: &Sets, ignore: bool) -> bool
+    ensures { result ≡ some_fixed_holds parts.now c sets.now ignore }
+{
+    for part in parts {
+        if !is_optional(*part) && part_has(*part, c, sets, ignore) {
+            return true;
+        }
+    }
+    false
+}
+
+/// Whether an option's set decides on one of the parts.
+pub(crate) fn some_is_optional(parts: &[SetPart]) -> bool
+    ensures { result ≡ list_any is_optional parts.now }
+{
+    for part in parts {
+        if is_optional(*part) {
+            return true;
+        }
+    }
+    false
+}
+
+fn is_optional(part: SetPart) -> bool
+    ensures { result ≡ is_optional part }
+{
+    match part {
+        SetPart::Of(class) => is_optional_class(class),
+        _ => false,
+    }
+}
+
+fn is_optional_class(class: Class) -> bool
+    ensures { result ≡ is_optional_class class }
+{
+    matches!(
+        class,
+        Class::Ident
+            | Class::Keyword
+            | Class::File
+            | Class::IdentNoDigit
+            | Class::KeywordNoDigit
+            | Class::FileNoDigit
+    )
+}
+
+fn part_has(part: SetPart, c: char, sets: &Sets, ignore: bool) -> bool
+    ensures { result ≡ part_holds part c sets.now ignore }
+{
+    match part {
+        SetPart::Range(low, high) => range_has(low, high, c, ignore),
+        SetPart::Of(class) => class_in_set(class, c, sets, ignore),
+        SetPart::Punct => c.is_ascii_punctuation(),
+        SetPart::Cntrl => c.is_ascii_control(),
+        SetPart::Graph => ('!'..='~').contains(&c),
+        SetPart::Space => ('\t'..='\r').contains(&c) || c == ' ',
+    }
+}
+
+/// Whether a class of a collection holds a character: where case is ignored, small letters and
+/// capitals are each all letters.
+fn class_in_set(class: Class, c: char, sets: &Sets, ignore: bool) -> bool
+    ensures { result ≡ class_in_set class c sets.now ignore }
+{
+    match class {
+        Class::Lower | Class::Upper if ignore => c.is_ascii_alphabetic(),
+        _ => class_has(class, c, sets),
+    }
+}

@@ -1,0 +1,143 @@
+//! The turns of a count (`/multi`).
+ghost use Rattle.std.specs.Prelude.{◌≡◌, ◌≤◌, ◌+◌, IfOk, OnOk, ◌∷◌};
+ghost use Rattle.vim_pattern.specs.GroupNumbers.{HasNumbers};
+ghost use Rattle.match_rules.specs.Ways.{Context as AnyContext, IsPlaceOf, is_after};
+ghost use Rattle.match_rules.specs.Counts.{one_less, less_by, is_spent};
+ghost use Rattle.pattern_match.specs.Contexts.{context_in};
+ghost use Rattle.pattern_match.specs.Steps.{shape_of};
+ghost use Rattle.pattern_match.specs.Heights.{height};
+ghost use Rattle.pattern_match.specs.Search.{Leads, IsLed, IsStep, marks_first};
+
+use crate::context::Context;
+use crate::item::{Item, Turns, Went};
+use crate::spent::Spent;
+use crate::step::Step;
+use crate::threads::Threads;
+use crate::tick::tick;
+use syn_base::{Lines, Memory, Place};
+
+/// Whether a place stands behind another.
+fn is_after(p: Place, q: Place) -> bool
+    ensures { result ≡ is_after p q }
+{
+    q.line < p.line || (q.line == p.line && q.col < p.col)
+}
+
+/// How many turns are allowed, after one of them.
+fn one_less(most: Option<u32>) -> Option<u32>
+    ensures { result ≡ one_less most }
+{
+    match most {
+        None => None,
+        Some(most) => Some(most.saturating_sub(1)),
+    }
+}
+
+/// How many turns are allowed, after some of them.
+fn less_by(most: Option<u32>, turns: u32) -> Option<u32>
+    ensures { result ≡ less_by most turns }
+{
+    match most {
+        None => None,
+        Some(most) => Some(most.saturating_sub(turns)),
+    }
+}
+
+/// Whether no turn is allowed any more.
+fn is_spent(most: Option<u32>) -> bool
+    ensures { result ≡ is_spent most }
+{
+    match most {
+        None => false,
+        Some(most) => most == 0,
+    }
+}
+
+/// Puts a copy of the present way aside, on which one more thing is to be done first.
+pub(crate) fn put_aside_with<'p>(ways: &mut Threads<Item<'p>>, item: Item<'p>) -> Result<(), Memory>
+    ensures { OnOk result (ways.new ≡ record ways.old { pending = record ways.old.here { todo = item.entry ∷ ways.old.here.todo } ∷ ways.old.pending }) }
+{
+    ways.put_first(item)?;
+    ways.put_aside()?;
+    ways.take_first();
+    Ok(())
+}
+
+/// Goes on with a count, behind a turn that began at `from`.
+pub(crate) fn after_turn<'p>(ways: &Threads<Item<'p>>, turns: Turns<'p>, from: Place) -> Went<'p>
+    requires { HasNumbers (shape_of turns.part.now) }
+    ensures led { IsLed result }
+    ensures leads { (x : AnyContext) → Leads x (height (shape_of turns.entry.part.now) + 1) (marks_first x (Item.AfterTurn turns.entry from) ways.now) ways.now ways.now result }
+{
+    if is_after(ways.place(), from) {
+        Went::Does(Item::Count(Turns {
+            least: turns.least.saturating_sub(1),
+            most: one_less(turns.most),
+            ..turns
+        }))
+    } else if turns.least == 0 {
+        Went::Ends
+    } else {
+        Went::Does(Item::Count(Turns {
+            least: 0,
+            most: less_by(turns.most, turns.least),
+            ..turns
+        }))
+    }
+}
+
+/// Makes the next turn of a count. An atom is tried at once, so that a count of one atom leaves
+/// nothing to be done on the ways that stop.
+pub(crate) fn turn<'p, T: Lines>(
+    lines: &T,
+    context: &Context<'_>,
+    ways: &mut Threads<Item<'p>>,
+    turns: Turns<'p>,
+    spent: &mut Spent,
+) -> Result<Went<'p>, Memory>
+    requires on_text { IsPlaceOf (T.lines lines.now) ways.old.here.way.at }
+    requires numbers { HasNumbers (shape_of turns.part.now) }
+    requires within { spent.old.cost ≤ spent.old.budget }
+    ensures { let x = context_in (T.lines lines.now) context.now in
+        IfOk result (IsStep x (height (shape_of turns.entry.part.now) + 1) (marks_first x (Item.Turn turns.entry) ways.old) ways.old ways.new spent.old spent.new) }
+{
+    let from = ways.place();
+    match turns.part {
+        Step::One(test) => match tick(lines, context, ways, test, spent)? {
+            Went::GoesOn => Ok(after_turn(ways, turns, from)),
+            went => Ok(went),
+        },
+        part => {
+            ways.put_first(Item::AfterTurn { turns, from })?;
+            Ok(Went::Does(Item::Visit(part)))
+        }
+    }
+}
+
+/// Makes the turns of a count that are left: the next one, with the stop behind it where the count
+/// may stop; a lazy count stops first.
+pub(crate) fn count<'p, T: Lines>(
+    lines: &T,
+    context: &Context<'_>,
+    ways: &mut Threads<Item<'p>>,
+    turns: Turns<'p>,
+    spent: &mut Spent,
+) -> Result<Went<'p>, Memory>
+    requires on_text { IsPlaceOf (T.lines lines.now) ways.old.here.way.at }
+    requires numbers { HasNumbers (shape_of turns.part.now) }
+    requires within { spent.old.cost ≤ spent.old.budget }
+    ensures { let x = context_in (T.lines lines.now) context.now in
+        IfOk result (IsStep x (height (shape_of turns.entry.part.now) + 1) (marks_first x (Item.Count turns.entry) ways.old) ways.old ways.new spent.old spent.new) }
+{
+    if is_spent(turns.most) {
+        Ok(Went::GoesOn)
+    } else if turns.least > 0 {
+        turn(lines, context, ways, turns, spent)
+    } else if turns.lazy {
+        put_aside_with(ways, Item::Turn(turns))?;
+        Ok(Went::GoesOn)
+    } else {
+        ways.put_aside()?;
+        turn(lines, context, ways, turns, spent)
+    }
+}
