@@ -1,0 +1,18 @@
+//! What the program prints of faults: the causes for which a syntax file is refused, files that can't be
+//! had, and beside them the counts that `check` prints.
+//!
+//! Lines of syntax files are counted from 1 in the program too, so they are printed as they are. Names
+//! are characters and are printed as UTF-8. Each text is appended to one buffer, so it costs what it
+//! writes.
+#![tactic(auto)]
+
+mod bytes;
+mod cause;
+mod counts;
+mod lines;
+#[cfg(test)]
+mod tests;
+
+pub use cause::cause_text;
+pub use counts::counts_text;
+pub use lines::{FileFault, file_fault_text, refused_text};

@@ -1,0 +1,3 @@
+pub mod Continuation
+pub mod LogicalLines
+pub mod Joining

@@ -1,0 +1,17 @@
+pub mod Answers
+pub mod Words
+pub mod Names
+pub mod Lists
+pub mod Vain
+pub mod Delimited
+pub mod Offsets
+pub mod Quoted
+pub mod Options
+pub mod Pieces
+pub mod Styles
+pub mod FileNames
+pub mod Clusters
+pub mod Alone
+pub mod Highlight
+pub mod Commands
+pub mod FileCommands

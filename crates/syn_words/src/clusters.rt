@@ -1,0 +1,74 @@
+//! The parts of a cluster command.
+ghost use Rattle.std.specs.Prelude.{◌≡◌, ◌∷◌, ◌++◌, []};
+ghost use Rattle.syn_words.specs.Answers.{Gives, Reads};
+ghost use Rattle.syn_words.specs.Clusters as spec;
+
+use crate::lists::list_value;
+use crate::reader::Reader;
+use crate::refusal::Refusal;
+use crate::words::{Until, front, is_word_in_any_case};
+use crate::{Cause, NamedList};
+use std::alloc::Global;
+use syn_base::List;
+use syntax_set::Change;
+
+fn change_of(key: &[char]) -> Option<Change>
+    ensures { result ≡ spec.change_of key.now }
+{
+    if is_word_in_any_case(key, "contains") {
+        Some(Change::Set)
+    } else if is_word_in_any_case(key, "add") {
+        Some(Change::Add)
+    } else if is_word_in_any_case(key, "remove") {
+        Some(Change::Remove)
+    } else {
+        None
+    }
+}
+
+/// Takes one key with its list.
+fn change_piece(alloc: Global, reader: &mut Reader<'_>) -> Result<(Change, NamedList), Refusal>
+    ensures { Reads result reader.new (spec.change_piece reader.old) }
+{
+    let word = reader.run(alloc, Until::Key)?;
+    let Some(how) = change_of(word.as_slice()) else {
+        return Err(Refusal::Fault(Cause::UnknownOption));
+    };
+    if !reader.has_equals() {
+        return Err(Refusal::Fault(Cause::UnknownOption));
+    }
+    reader.skip_equals();
+    let list = list_value(alloc, false, reader)?;
+    Ok((how, list))
+}
+
+/// All changes, where there is one.
+fn changes_whole(changes: List<(Change, NamedList)>) -> Result<List<(Change, NamedList)>, Refusal>
+    ensures { Gives result (spec.changes_whole changes) }
+{
+    if changes.is_empty() {
+        return Err(Refusal::Fault(Cause::MissingArgument));
+    }
+    Ok(changes)
+}
+
+/// Takes the changes of a cluster.
+pub(crate) fn changes(
+    alloc: Global,
+    reader: &mut Reader<'_>,
+) -> Result<List<(Change, NamedList)>, Refusal>
+    ensures { Reads result reader.new (spec.changes reader.old) }
+{
+    let mut so_far = List::new(alloc);
+    let mut turns = reader.rest();
+    while let Some((_, fewer)) = front(turns) {
+        reader.skip_blanks();
+        if reader.is_over() {
+            break;
+        }
+        let change = change_piece(alloc, reader)?;
+        so_far.push(change)?;
+        turns = fewer;
+    }
+    changes_whole(so_far)
+}

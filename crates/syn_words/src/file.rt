@@ -1,0 +1,265 @@
+//! The commands of a whole file.
+ghost use Rattle.std.specs.Prelude.{◌≡◌, ◌∷◌, ◌++◌, [], IfOk, None, Some};
+ghost use Rattle.syn_words.specs.FileCommands as spec;
+ghost use Rattle.syn_words.specs.Words as words;
+
+use crate::first_words::{Said, awaited, command};
+use crate::reader::Reader;
+use crate::refusal::Refusal;
+use crate::words::{begins, behind_first, front, past_blanks};
+use crate::{Cause, Command, Commands, What, WordFault};
+use std::alloc::Global;
+use syn_base::{List, Memory};
+use syn_lines::{LogicalLine, LogicalLines, logical_lines};
+
+/// Which command of the guard comes next, with the line of its `if`.
+#[derive(Clone, Copy)]
+pub(crate) enum Guard {
+    Outside,
+    AwaitsFinish(usize),
+    AwaitsEndif(usize),
+}
+
+/// What has been read of a file.
+#[derive(Drop)]
+pub(crate) struct Progress {
+    pub list: List<Command>,
+    pub guard: Guard,
+    pub fault: Option<WordFault>,
+}
+
+fn with_command(progress: Progress, number: usize, what: What) -> Result<Progress, Memory>
+    ensures { IfOk result (λ p. p ≡ spec.with_command progress number what) }
+{
+    let Progress {
+        mut list,
+        guard: _,
+        fault,
+    } = progress;
+    list.push(Command { line: number, what })?;
+    Ok(Progress {
+        list,
+        guard: Guard::Outside,
+        fault,
+    })
+}
+
+fn with_guard(progress: Progress, guard: Guard) -> Progress
+    ensures { result ≡ spec.with_guard progress guard }
+{
+    Progress {
+        list: progress.list,
+        guard,
+        fault: progress.fault,
+    }
+}
+
+fn with_fault(progress: Progress, number: usize, cause: Cause) -> Progress
+    ensures { result ≡ spec.with_fault progress number cause }
+{
+    Progress {
+        list: progress.list,
+        guard: progress.guard,
+        fault: Some(WordFault {
+            line: number,
+            cause,
+        }),
+    }
+}
+
+/// A fault of the guard whose `if` stands in the line `opened`.
+fn guard_fault(progress: Progress, opened: usize, number: usize, cause: Cause) -> Progress
+    ensures { result ≡ spec.guard_fault progress opened number cause }
+{
+    match cause {
+        Cause::GuardUnfinished => with_fault(progress, opened, Cause::GuardUnfinished),
+        cause => with_fault(progress, number, cause),
+    }
+}
+
+/// A command outside the guard, or the guard's `if`.
+fn read_outside(
+    alloc: Global,
+    progress: Progress,
+    number: usize,
+    reader: &mut Reader<'_>,
+) -> Result<Progress, Memory>
+    ensures { IfOk result (λ p. spec.outside progress number reader.old ≡ (p, reader.new)) }
+{
+    match command(alloc, reader) {
+        Ok(Said::Does(what)) => Ok(with_command(progress, number, what)?),
+        Ok(Said::OpensGuard) => Ok(with_guard(progress, Guard::AwaitsFinish(number))),
+        Err(Refusal::Fault(cause)) => {
+            reader.leave();
+            Ok(with_fault(progress, number, cause))
+        }
+        Err(Refusal::Memory) => Err(Memory),
+    }
+}
+
+/// Behind the guard's `if`.
+fn read_finish(
+    alloc: Global,
+    progress: Progress,
+    opened: usize,
+    number: usize,
+    reader: &mut Reader<'_>,
+) -> Result<Progress, Memory>
+    ensures { IfOk result (λ p. spec.finish progress opened number reader.old ≡ (p, reader.new)) }
+{
+    match awaited(alloc, "finish", reader) {
+        Ok(()) => Ok(with_guard(progress, Guard::AwaitsEndif(opened))),
+        Err(Refusal::Fault(cause)) => {
+            reader.leave();
+            Ok(guard_fault(progress, opened, number, cause))
+        }
+        Err(Refusal::Memory) => Err(Memory),
+    }
+}
+
+/// Behind the guard's `finish`.
+fn read_endif(
+    alloc: Global,
+    progress: Progress,
+    opened: usize,
+    number: usize,
+    reader: &mut Reader<'_>,
+) -> Result<Progress, Memory>
+    ensures { IfOk result (λ p. spec.endif progress opened number reader.old ≡ (p, reader.new)) }
+{
+    match awaited(alloc, "endif", reader) {
+        Ok(()) => Ok(with_command(progress, opened, What::Nothing)?),
+        Err(Refusal::Fault(cause)) => {
+            reader.leave();
+            Ok(guard_fault(progress, opened, number, cause))
+        }
+        Err(Refusal::Memory) => Err(Memory),
+    }
+}
+
+/// A bar, or the command that begins here.
+fn read_one(
+    alloc: Global,
+    progress: Progress,
+    number: usize,
+    reader: &mut Reader<'_>,
+) -> Result<Progress, Memory>
+    ensures { IfOk result (λ p. spec.read_one progress number reader.old ≡ (p, reader.new)) }
+{
+    if reader.begins('|') {
+        reader.skip_one();
+        return Ok(progress);
+    }
+    match progress.guard {
+        Guard::Outside => read_outside(alloc, progress, number, reader),
+        Guard::AwaitsFinish(opened) => read_finish(alloc, progress, opened, number, reader),
+        Guard::AwaitsEndif(opened) => read_endif(alloc, progress, opened, number, reader),
+    }
+}
+
+/// Whether nothing begins here up to the end of the line.
+fn line_is_over(text: &[char]) -> bool
+    ensures { result ≡ spec.line_is_over text.now }
+{
+    match front(text) {
+        None => true,
+        Some((c, _)) => c == '"',
+    }
+}
+
+/// The commands of one line more.
+fn with_line(
+    alloc: Global,
+    progress: Progress,
+    number: usize,
+    text: &[char],
+) -> Result<Progress, Memory>
+    ensures { IfOk result (λ p. p ≡ spec.line_after progress number text.now text.now) }
+{
+    let mut progress = progress;
+    let mut reader = Reader::new(text);
+    let mut turns = text;
+    while let Some((_, fewer)) = front(turns) {
+        reader.skip_blanks();
+        if line_is_over(reader.rest()) {
+            break;
+        }
+        progress = read_one(alloc, progress, number, &mut reader)?;
+        turns = fewer;
+    }
+    Ok(progress)
+}
+
+fn no_progress(alloc: Global) -> Progress
+    ensures { result ≡ spec.no_progress }
+{
+    Progress {
+        list: List::new(alloc),
+        guard: Guard::Outside,
+        fault: None,
+    }
+}
+
+/// The commands of the lines, up to a fault.
+fn with_lines(alloc: Global, lines: &[LogicalLine]) -> Result<Progress, Memory>
+    ensures { IfOk result (λ p. p ≡ spec.lines_after spec.no_progress lines.now) }
+{
+    let mut progress = no_progress(alloc);
+    for line in lines {
+        if progress.fault.is_some() {
+            break;
+        }
+        progress = with_line(alloc, progress, line.number, line.text.as_slice())?;
+    }
+    Ok(progress)
+}
+
+fn unfinished(opened: usize) -> Option<WordFault>
+    ensures { result ≡ Some (spec.fault_at opened Cause.GuardUnfinished) }
+{
+    Some(WordFault {
+        line: opened,
+        cause: Cause::GuardUnfinished,
+    })
+}
+
+/// The commands, where no line follows.
+fn whole(progress: Progress) -> Commands
+    ensures { result ≡ spec.whole progress }
+{
+    let Progress { list, guard, fault } = progress;
+    match fault {
+        Some(fault) => Commands {
+            list,
+            fault: Some(fault),
+        },
+        None => match guard {
+            Guard::Outside => Commands { list, fault: None },
+            Guard::AwaitsFinish(opened) => Commands {
+                list,
+                fault: unfinished(opened),
+            },
+            Guard::AwaitsEndif(opened) => Commands {
+                list,
+                fault: unfinished(opened),
+            },
+        },
+    }
+}
+
+/// The commands of a syntax file up to the first that is refused as words, with that one's line and
+/// cause. Lines are counted from 1. Of bytes that aren't UTF-8 there is no command.
+pub fn commands(alloc: Global, bytes: &[u8]) -> Result<Commands, Memory>
+    ensures { IfOk result (λ commands. commands ≡ spec.commands_of bytes.now) }
+{
+    match logical_lines(alloc, bytes)? {
+        LogicalLines::BadUtf8 { line } => Ok(Commands {
+            list: List::new(alloc),
+            fault: Some(WordFault {
+                line,
+                cause: Cause::BadUtf8,
+            }),
+        }),
+        LogicalLines::Lines(lines) => Ok(whole(with_lines(alloc, lines.as_slice())?)),
+    }
+}
