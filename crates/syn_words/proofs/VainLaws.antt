@@ -1,6 +1,6 @@
 -- A search in vain tells how later searches end.
 use Rattle.std.proofs.Common.{◌≡◌, ℕ, zero, suc, ◌+◌, ◌-◌, ◌<◌, List, [], ◌∷◌, ◌++◌, take, drop, length, refl, ap, sym, ◌∙◌, arith, Bool, true, false, cond, subst, zero-add}
-use Rattle.std.specs.Prelude.{Option, Some, None, nat_eq, find, not, ◌||◌, if◌then◌else◌}
+use Rattle.std.specs.Prelude.{Option, Some, None, nat_eq, find, ◌&&◌, ◌||◌, if◌then◌else◌}
 use Rattle.std.specs.List.{starts_with}
 use Rattle.std.proofs.lemmas.List.{take-append-drop}
 use Rattle.std.proofs.lemmas.Bool.{eqb-true}
@@ -9,8 +9,9 @@ use Rattle.pattern_items.specs.Collection.{closing, past_bracket, collection_len
 use Rattle.pattern_items.specs.ClassNames.{name_at, word, class_names}
 use Rattle.pattern_items.specs.declared.class_names.ClassName.{ClassName}
 use Rattle.pattern_items.specs.declared.class_names.ClassName.TheVariants.{Alnum, Alpha, Blank, Cntrl, Digit, Graph, Lower, Print, Punct, Space, Upper, Xdigit, Return, Tab, Escape, Backspace, Ident, Keyword, Fname}
-use Rattle.syn_words.specs.Words.{behind_first, begins}
-use Rattle.syn_words.specs.Vain.{plain_after, plain_close, plain_len, starts_plainly}
+use Rattle.syn_words.specs.declared.words.Until.{Until}
+use Rattle.syn_words.specs.Words.{behind_first, past_blanks, past, past_command, is_blank, stops}
+use Rattle.syn_words.specs.Vain.{plain_after, plain_close, PlainlyIf, ClosesPlainly, IsVain, Known, Keeps}
 
 -- what is in vain is so wherever the count begins
 closing_shift : (k n m : ℕ) (cs : List ℕ) → closing k n cs ≡ None → closing k m cs ≡ None
@@ -23,16 +24,12 @@ closing_shift zero n m (c ∷ cs) h = by_test (nat_eq c 93) (closing_shift (take
     by_test true rest e = cc
     by_test false rest e = rest e
 
-pub vain_pass : (k c : ℕ) (cs : List ℕ) → 0 < k → closing k 0 (c ∷ cs) ≡ None → closing (k - 1) 0 cs ≡ None
-vain_pass zero c cs some h = absurd (omega arith)
-vain_pass (suc k) c cs some h = let e : suc k - 1 ≡ k = omega arith in rw e (closing_shift k 1 0 cs h)
-
 -- behind a character that closes nothing
 open_step : (c : ℕ) (cs : List ℕ) (b : Bool) → ◌≡◌ {A = Option ℕ} (elim b [ true ↦ Some 1 | false ↦ closing (taken_along c cs) 1 cs ]) None → closing (taken_along c cs) 0 cs ≡ None
 open_step c cs true e = cc
 open_step c cs false e = closing_shift (taken_along c cs) 1 0 cs e
 
-pub vain_step : (c : ℕ) (cs : List ℕ) → closing 0 0 (c ∷ cs) ≡ None → closing (taken_along c cs) 0 cs ≡ None
+vain_step : (c : ℕ) (cs : List ℕ) → closing 0 0 (c ∷ cs) ≡ None → closing (taken_along c cs) 0 cs ≡ None
 vain_step c cs h = open_step c cs (nat_eq c 93) h
 
 -- Plain characters up to a `]`.
@@ -110,14 +107,6 @@ no_plain cs (Some k) e h =
     let still_open : closing 0 0 cs ≡ None = closing_shift 0 1 0 cs h in
     cc
 
-passed_by : (cs : List ℕ) (o : Option ClassName) → name_at cs ≡ o → closing (name_len o) 1 cs ≡ None → plain_len (plain_close cs) ≡ name_len o
-passed_by cs None e h = ap plain_len (no_plain cs (plain_after 0 cs) refl h)
-passed_by cs (Some name) e h = ap plain_len (name_closes cs name e)
-
--- what a search passes over behind a bracket
-pub name_passed : (cs : List ℕ) → closing 0 0 (91 ∷ cs) ≡ None → plain_len (plain_close cs) ≡ taken_along 91 cs
-name_passed cs h = passed_by cs (name_at cs) refl h
-
 -- Where a collection closes.
 
 past_by : (n d : ℕ) (ds : List ℕ) (b : Bool) → ◌≡◌ {A = Option ℕ} (elim b [ true ↦ Some (n + 1) | false ↦ closing (taken_along d ds) (n + 1) ds ]) None →
@@ -178,14 +167,14 @@ close_by cs (Some name) e h =
     name_closes cs name e ∙ ap (λ n. Some n) (sym (zero-add (length (word name)))) ∙ sym (ap (end_from 0) (named_len cs name e))
 
 -- in vain, a bracket closes only what begins a class name
-pub close_in_vain : (text cs : List ℕ) (c : ℕ) → text ≡ c ∷ cs → c ≡ 91 → closing 0 0 text ≡ None → plain_close cs ≡ collection_end text 0
+close_in_vain : (text cs : List ℕ) (c : ℕ) → text ≡ c ∷ cs → c ≡ 91 → closing 0 0 text ≡ None → plain_close cs ≡ collection_end text 0
 close_in_vain text cs c front bracket h =
     let e : text ≡ 91 ∷ cs = front ∙ ap (λ d. d ∷ cs) bracket in
     let h' : closing 0 0 (91 ∷ cs) ≡ None = subst (λ t. closing 0 0 t ≡ None) e h in
     close_by cs (name_at cs) refl h' ∙ sym (ap (λ t. collection_end t 0) e)
 
--- nor what opens at a character that is passed over
-pub close_passed : (text cs : List ℕ) (c : ℕ) → text ≡ c ∷ cs → c ≡ 91 → closing 1 0 text ≡ None → None ≡ collection_end text 0
+-- nor does one that is passed over
+close_passed : (text cs : List ℕ) (c : ℕ) → text ≡ c ∷ cs → c ≡ 91 → closing 1 0 text ≡ None → None ≡ collection_end text 0
 close_passed text cs c front bracket h =
     let e : text ≡ 91 ∷ cs = front ∙ ap (λ d. d ∷ cs) bracket in
     let h' : closing 0 1 cs ≡ None = subst (λ t. closing 1 0 t ≡ None) e h in
@@ -195,29 +184,169 @@ no_len : (o : Option ℕ) → end_from 0 o ≡ None → o ≡ None
 no_len None e = refl
 no_len (Some n) e = cc
 
-found_caret : (cs : List ℕ) → past_bracket 1 cs ≡ None → not (begins 93 cs) ≡ true → closing 0 0 (94 ∷ cs) ≡ None
-found_caret [] e plain = refl
-found_caret (d ∷ ds) e plain = by_end (nat_eq d 93) e plain
+-- Behind a search in vain.
+
+-- so is a bracket that is no member
+closes_open : (c : ℕ) (cs : List ℕ) (b : Bool) → nat_eq c 91 ≡ b → closing 0 0 (c ∷ cs) ≡ None → PlainlyIf b c cs
+closes_open c cs true e h = sym (close_in_vain (c ∷ cs) cs c refl (eqb-true c 91 e) h)
+closes_open c cs false e h = tt
+
+-- or one that is passed over
+closes_taken : (c : ℕ) (cs : List ℕ) (b : Bool) → nat_eq c 91 ≡ b → closing 1 0 (c ∷ cs) ≡ None → PlainlyIf b c cs
+closes_taken c cs true e h = sym (close_passed (c ∷ cs) cs c refl (eqb-true c 91 e) h) ∙ sym (no_plain cs (plain_after 0 cs) refl h)
+closes_taken c cs false e h = tt
+
+-- the first characters close plainly
+abbrev Passed : ℕ → List ℕ → Type 0
+Passed zero cs = Unit {0}
+Passed (suc k) [] = Unit {0}
+Passed (suc k) (c ∷ cs) = ClosesPlainly c cs × Passed k cs
+
+abbrev has_bracket : List ℕ → Bool
+has_bracket [] = false
+has_bracket (c ∷ cs) = if nat_eq c 91 then true else has_bracket cs
+
+passed_without : (w r : List ℕ) → has_bracket w ≡ false → Passed (length w) (w ++ r)
+passed_without [] r e = tt
+passed_without (c ∷ cs) r e = by_test (nat_eq c 91) e (passed_without cs r)
   where
-    by_end : (b : Bool) → (if b then closing 0 2 ds else closing 0 1 (d ∷ ds)) ≡ None → not b ≡ true → closing 0 1 (d ∷ ds) ≡ None
-    by_end true f p = cc
-    by_end false f p = f
+    by_test : (b : Bool) → (if b then true else has_bracket cs) ≡ false → (has_bracket cs ≡ false → Passed (length cs) (cs ++ r)) →
+        PlainlyIf b c (cs ++ r) × Passed (length cs) (cs ++ r)
+    by_test true f rest = cc
+    by_test false f rest = (tt, rest f)
 
-found_plain : (c : ℕ) (cs : List ℕ) (b : Bool) → (if b then closing 0 1 cs else closing 0 0 (c ∷ cs)) ≡ None → not b ≡ true → closing 0 0 (c ∷ cs) ≡ None
-found_plain c cs true f p = cc
-found_plain c cs false f p = f
+word_without : (name : ClassName) → has_bracket (word name) ≡ false
+word_without Alnum = refl
+word_without Alpha = refl
+word_without Blank = refl
+word_without Cntrl = refl
+word_without Digit = refl
+word_without Graph = refl
+word_without Lower = refl
+word_without Print = refl
+word_without Punct = refl
+word_without Space = refl
+word_without Upper = refl
+word_without Xdigit = refl
+word_without Return = refl
+word_without Tab = refl
+word_without Escape = refl
+word_without Backspace = refl
+word_without Ident = refl
+word_without Keyword = refl
+word_without Fname = refl
 
-found_by : (c : ℕ) (cs : List ℕ) (b : Bool) → nat_eq c 94 ≡ b → (if b then past_bracket 1 cs else past_bracket 0 (c ∷ cs)) ≡ None →
-    (if b then not (begins 93 cs) else not (nat_eq c 93)) ≡ true → closing 0 0 (c ∷ cs) ≡ None
-found_by c cs true e f p = subst (λ d. closing 0 0 (d ∷ cs) ≡ None) (sym (eqb-true c 94 e)) (found_caret cs f p)
-found_by c cs false e f p = found_plain c cs (nat_eq c 93) f p
+passed_name : (cs : List ℕ) (o : Option ClassName) → name_at cs ≡ o → Passed (name_len o) cs
+passed_name cs None e = tt
+passed_name cs (Some name) e =
+    let rest = drop (length (word name)) cs in
+    subst (λ t. Passed (length (word name)) t) (sym (named_text cs name e)) (passed_without (word name) rest (word_without name))
 
-found_open : (cs : List ℕ) → collection_len cs ≡ None → starts_plainly cs ≡ true → closing 0 0 cs ≡ None
-found_open [] e p = refl
-found_open (c ∷ cs) e p = found_by c cs (nat_eq c 94) refl e p
+passed_one : (cs : List ℕ) → closing (one_if_any cs) 0 cs ≡ None → Passed (one_if_any cs) cs
+passed_one [] h = tt
+passed_one (d ∷ ds) h = (closes_taken d ds (nat_eq d 91) refl h, tt)
 
--- what a search in vain tells
-pub vain_found : (cs : List ℕ) (c : ℕ) → c ≡ 91 → collection_end (c ∷ cs) 0 ≡ None → starts_plainly cs ≡ true → closing 0 0 cs ≡ None
-vain_found cs c bracket e p =
+passed_by : (cs : List ℕ) (p q : Bool) → closing (if p then one_if_any cs else if q then name_len (name_at cs) else 0) 0 cs ≡ None →
+    Passed (if p then one_if_any cs else if q then name_len (name_at cs) else 0) cs
+passed_by cs true q h = passed_one cs h
+passed_by cs false true h = passed_name cs (name_at cs) refl
+passed_by cs false false h = tt
+
+-- behind a search that was in vain
+in_vain : (k : ℕ) (cs : List ℕ) → closing k 0 cs ≡ None → Passed k cs → IsVain cs
+in_vain k [] h p = tt
+in_vain (suc k) (c ∷ cs) h p = (p.0, in_vain k cs (closing_shift k 1 0 cs h) p.1)
+in_vain zero (c ∷ cs) h p =
+    let more : closing (taken_along c cs) 0 cs ≡ None = vain_step c cs h in
+    (closes_open c cs (nat_eq c 91) refl h, in_vain (taken_along c cs) cs more (passed_by cs (nat_eq c 92) (nat_eq c 91) more))
+
+-- another character than a bracket closes nothing
+vain_behind : (c d : ℕ) (cs : List ℕ) → nat_eq c d ≡ true → nat_eq d 91 ≡ false → IsVain cs → IsVain (c ∷ cs)
+vain_behind c d cs e f v = subst (λ x. IsVain (x ∷ cs)) (sym (eqb-true c d e)) (by_test (nat_eq d 91) f)
+  where
+    by_test : (b : Bool) → b ≡ false → PlainlyIf b d cs × IsVain cs
+    by_test true g = cc
+    by_test false g = (tt, v)
+
+vain_bracket : (n c : ℕ) (cs : List ℕ) (b : Bool) → nat_eq c 93 ≡ b → (if b then closing 0 (n + 1) cs else closing 0 n (c ∷ cs)) ≡ None → IsVain (c ∷ cs)
+vain_bracket n c cs true e h = vain_behind c 93 cs e refl (in_vain 0 cs (closing_shift 0 (n + 1) 0 cs h) tt)
+vain_bracket n c cs false e h = in_vain 0 (c ∷ cs) (closing_shift 0 n 0 (c ∷ cs) h) tt
+
+vain_past : (n : ℕ) (cs : List ℕ) → past_bracket n cs ≡ None → IsVain cs
+vain_past n [] h = tt
+vain_past n (c ∷ cs) h = vain_bracket n c cs (nat_eq c 93) refl h
+
+vain_caret : (c : ℕ) (cs : List ℕ) (b : Bool) → nat_eq c 94 ≡ b → (if b then past_bracket 1 cs else past_bracket 0 (c ∷ cs)) ≡ None → IsVain (c ∷ cs)
+vain_caret c cs true e h = vain_behind c 94 cs e refl (vain_past 1 cs h)
+vain_caret c cs false e h = vain_past 0 (c ∷ cs) h
+
+vain_len : (cs : List ℕ) → collection_len cs ≡ None → IsVain cs
+vain_len [] h = tt
+vain_len (c ∷ cs) h = vain_caret c cs (nat_eq c 94) refl h
+
+-- What is known.
+
+-- of a bracket
+pub close_known : (text cs : List ℕ) (c : ℕ) → text ≡ c ∷ cs → c ≡ 91 → IsVain text → plain_close cs ≡ collection_end text 0
+close_known text cs c front bracket v =
+    let e : text ≡ 91 ∷ cs = front ∙ ap (λ d. d ∷ cs) bracket in
+    let v' : IsVain (91 ∷ cs) = subst IsVain e v in
+    sym (ap (λ t. collection_end t 0) e ∙ v'.0)
+
+pub known_behind : (v : Bool) (c : ℕ) (cs : List ℕ) → Known v (c ∷ cs) → Known v cs
+known_behind true c cs k = k.1
+known_behind false c cs k = tt
+
+-- behind a search
+pub known_found : (cs : List ℕ) (c : ℕ) → c ≡ 91 → collection_end (c ∷ cs) 0 ≡ None → IsVain cs
+known_found cs c bracket e =
     let e' : end_from 0 (collection_len cs) ≡ None = subst (λ d. collection_end (d ∷ cs) 0 ≡ None) bracket e in
-    found_open cs (no_len (collection_len cs) e') p
+    vain_len cs (no_len (collection_len cs) e')
+
+pub known_on : (v : Bool) (text rest : List ℕ) → Keeps text rest → Known v text → Known v rest
+known_on true text rest keeps k = keeps k
+known_on false text rest keeps k = tt
+
+pub known_end : (v : Bool) → Known v []
+known_end true = tt
+known_end false = tt
+
+keeps_first : (text : List ℕ) → Keeps text (behind_first text)
+keeps_first [] v = v
+keeps_first (c ∷ cs) v = v.1
+
+pub known_first : (v : Bool) (text : List ℕ) → Known v text → Known v (behind_first text)
+known_first v text k = known_on v text (behind_first text) (keeps_first text) k
+
+keeps_blanks : (text : List ℕ) → Keeps text (past_blanks text)
+keeps_blanks [] v = v
+keeps_blanks (c ∷ cs) v = by_test (is_blank c) (keeps_blanks cs v.1)
+  where
+    by_test : (b : Bool) → IsVain (past_blanks cs) → IsVain (if b then past_blanks cs else c ∷ cs)
+    by_test true rest = rest
+    by_test false rest = v
+
+pub known_blanks : (v : Bool) (text : List ℕ) → Known v text → Known v (past_blanks text)
+known_blanks v text k = known_on v text (past_blanks text) (keeps_blanks text) k
+
+keeps_past : (until : Until) (text : List ℕ) → Keeps text (past until text)
+keeps_past until [] v = v
+keeps_past until (c ∷ cs) v = by_test (stops until c) (keeps_past until cs v.1)
+  where
+    by_test : (b : Bool) → IsVain (past until cs) → IsVain (if b then c ∷ cs else past until cs)
+    by_test true rest = v
+    by_test false rest = rest
+
+pub known_past : (v : Bool) (until : Until) (text : List ℕ) → Known v text → Known v (past until text)
+known_past v until text k = known_on v text (past until text) (keeps_past until text) k
+
+keeps_command : (may_begin : Bool) (text : List ℕ) → Keeps text (past_command may_begin text)
+keeps_command may_begin [] v = v
+keeps_command may_begin (c ∷ cs) v = by_test (nat_eq c 124 || (may_begin && nat_eq c 34)) (keeps_command (is_blank c) cs v.1)
+  where
+    by_test : (b : Bool) → IsVain (past_command (is_blank c) cs) → IsVain (if b then c ∷ cs else past_command (is_blank c) cs)
+    by_test true rest = v
+    by_test false rest = rest
+
+pub known_command : (v may_begin : Bool) (text : List ℕ) → Known v text → Known v (past_command may_begin text)
+known_command v may_begin text k = known_on v text (past_command may_begin text) (keeps_command may_begin text) k

@@ -1,9 +1,9 @@
 //! Where a pattern ends.
-ghost use Rattle.std.specs.Prelude.{◌≡◌, ◌∷◌, [], ◌++◌, Some, None, IfOk, MatchOption};
+ghost use Rattle.std.specs.Prelude.{◌≡◌, ◌∷◌, [], ◌++◌, Some, None, IfOk, IfSome, MatchOption};
 ghost use Rattle.syn_words.specs.Delimited as spec;
-ghost use Rattle.syn_words.specs.Vain.{IsVain};
+ghost use Rattle.syn_words.specs.Vain.{Known};
 
-use crate::vain::{Vain, collection_close, vain_behind, vain_next};
+use crate::vain::{collection_close, vain_behind};
 use crate::words::{front, is_blank, is_digit, is_letter};
 use pattern_items::Level;
 use std::alloc::Global;
@@ -30,11 +30,11 @@ pub(crate) struct Scan {
     pub next: Next,
 }
 
-/// The scan, and what is known of brackets ahead.
+/// The scan, and whether a search for a closing bracket was in vain.
 #[derive(Clone, Copy)]
 struct Search {
     scan: Scan,
-    vain: Vain,
+    in_vain: bool,
 }
 
 /// Whether a pattern may stand between two of this character.
@@ -158,25 +158,26 @@ fn plain_next(scan: Scan, c: char) -> Scan
 }
 
 /// What one character more leaves; the text begins with it, and `more` follows it.
+#[tactic(auto, using(crate::proofs::VainLaws::known_behind))]
 fn searched_next(search: Search, c: char, text: &[char], more: &[char]) -> Search
     requires front { text.now ≡ c ∷ more.now }
-    requires vain { IsVain search.vain text.now }
+    requires known { Known search.in_vain text.now }
     ensures scan { result.scan ≡ spec.scan_next search.scan c text.now }
-    ensures vain { IsVain result.vain more.now }
+    ensures known { Known result.in_vain more.now }
 {
     if opens(search.scan, c) {
-        let end = collection_close(search.vain, c, text, more);
+        let end = collection_close(search.in_vain, c, text, more);
         return Search {
             scan: Scan {
                 level: search.scan.level,
                 next: inside(end),
             },
-            vain: vain_behind(search.vain, c, end, more),
+            in_vain: vain_behind(search.in_vain, c, end, more),
         };
     }
     Search {
         scan: plain_next(search.scan, c),
-        vain: vain_next(search.vain, c, more),
+        in_vain: search.in_vain,
     }
 }
 
@@ -190,15 +191,30 @@ fn may_close(next: Next) -> bool
     }
 }
 
-/// The characters up to the delimiter, and what is left behind it.
+/// A pattern's characters, and what is left behind its delimiter.
+#[derive(Drop)]
+pub(crate) struct Enclosed<'a> {
+    pub pattern: List<char>,
+    /// None where no delimiter ends the pattern.
+    pub rest: Option<&'a [char]>,
+    /// Whether a search for a closing bracket was in vain.
+    pub in_vain: bool,
+}
+
+/// The characters up to the delimiter, and what is left behind it; `in_vain` says whether a search
+/// for a closing bracket was in vain before.
+#[tactic(auto, using(crate::proofs::VainLaws::known_behind))]
 pub(crate) fn delimited(
     alloc: Global,
     delimiter: char,
+    in_vain: bool,
     text: &[char],
-) -> Result<(List<char>, Option<&[char]>), Memory>
-    ensures { IfOk result (λ p. MatchOption p.1
+) -> Result<Enclosed<'_>, Memory>
+    requires known { Known in_vain text.now }
+    ensures found { IfOk result (λ found. MatchOption found.rest
         (spec.delimited delimiter text.now ≡ None)
-        (λ rest. spec.delimited delimiter text.now ≡ Some (p.0, rest.now))) }
+        (λ rest. spec.delimited delimiter text.now ≡ Some (found.pattern, rest.now))) }
+    ensures known { IfOk result (λ found. IfSome found.rest (λ rest. Known found.in_vain rest.now)) }
 {
     let mut pattern = List::new(alloc);
     let mut search = Search {
@@ -206,16 +222,24 @@ pub(crate) fn delimited(
             level: Level::Usual,
             next: Next::Free,
         },
-        vain: Vain::Unknown,
+        in_vain,
     };
     let mut rest = text;
     while let Some((c, more)) = front(rest) {
         if may_close(search.scan.next) && c == delimiter {
-            return Ok((pattern, Some(more)));
+            return Ok(Enclosed {
+                pattern,
+                rest: Some(more),
+                in_vain: search.in_vain,
+            });
         }
         search = searched_next(search, c, rest, more);
         pattern.push(c)?;
         rest = more;
     }
-    Ok((pattern, None))
+    Ok(Enclosed {
+        pattern,
+        rest: None,
+        in_vain: search.in_vain,
+    })
 }

@@ -2,6 +2,7 @@
 ghost use Rattle.std.specs.Prelude.{◌≡◌, ◌≤◌, ◌<◌, ◌+◌, Some, None, IfSome, MatchOption, length, pos, neg_ℤ};
 ghost use Rattle.pattern_items.specs.Numbers as numbers;
 ghost use Rattle.syn_words.specs.Offsets as spec;
+ghost use Rattle.syn_words.specs.Vain.{Keeps};
 
 use crate::words::{begins, behind_first, ends_word, front, is_digit, strip};
 use syntax_set::Offset;
@@ -62,6 +63,7 @@ fn digits(text: &[char]) -> (Option<u32>, usize, &[char])
     ensures small { IfSome result.0 (λ n. n ≤ 65535) }
     ensures count { result.1 ≡ (numbers.digits text.now).count }
     ensures rest { result.2.now ≡ (numbers.digits text.now).rest }
+    ensures keeps { Keeps text.now result.2.now }
 {
     let mut value = Some(0);
     let mut count: usize = 0;
@@ -83,6 +85,7 @@ fn number(text: &[char]) -> Option<(u32, &[char])>
         (spec.number text.now ≡ None)
         (λ p. spec.number text.now ≡ Some (p.0, p.1.now)) }
     ensures small { IfSome result (λ p. p.0 ≤ 65535) }
+    ensures keeps { IfSome result (λ p. Keeps text.now p.1.now) }
 {
     let (value, count, rest) = digits(text);
     if count == 0 {
@@ -116,9 +119,10 @@ fn backwards(n: u32) -> i32
 
 /// An offset behind its `s` or `e`.
 fn signed(from_end: bool, text: &[char]) -> Option<(Offset, &[char])>
-    ensures { MatchOption result
+    ensures value { MatchOption result
         (spec.signed from_end text.now ≡ None)
         (λ p. spec.signed from_end text.now ≡ Some (p.0, p.1.now)) }
+    ensures keeps { IfSome result (λ p. Keeps text.now p.1.now) }
 {
     match front(text) {
         Some(('+', more)) => match number(more) {
@@ -134,9 +138,10 @@ fn signed(from_end: bool, text: &[char]) -> Option<(Offset, &[char])>
 }
 
 fn place(text: &[char]) -> Option<(Offset, &[char])>
-    ensures { MatchOption result
+    ensures value { MatchOption result
         (spec.place text.now ≡ None)
         (λ p. spec.place text.now ≡ Some (p.0, p.1.now)) }
+    ensures keeps { IfSome result (λ p. Keeps text.now p.1.now) }
 {
     match front(text) {
         Some(('s', more)) => signed(false, more),
@@ -147,9 +152,10 @@ fn place(text: &[char]) -> Option<(Offset, &[char])>
 
 /// The edge that is moved, and what follows its equals sign.
 fn edge_at(text: &[char]) -> Option<(Edge, &[char])>
-    ensures { MatchOption result
+    ensures value { MatchOption result
         (spec.edge_at text.now ≡ None)
         (λ p. spec.edge_at text.now ≡ Some (p.0, p.1.now)) }
+    ensures keeps { IfSome result (λ p. Keeps text.now p.1.now) }
 {
     if let Some(rest) = strip("ms=", text) {
         return Some((Edge::MatchStart, rest));
@@ -174,9 +180,10 @@ fn edge_at(text: &[char]) -> Option<(Edge, &[char])>
 
 /// An edge with its place.
 fn moved(text: &[char]) -> Option<(Adjust, &[char])>
-    ensures { MatchOption result
+    ensures value { MatchOption result
         (spec.moved (spec.edge_at text.now) ≡ None)
         (λ p. spec.moved (spec.edge_at text.now) ≡ Some (p.0, p.1.now)) }
+    ensures keeps { IfSome result (λ p. Keeps text.now p.1.now) }
 {
     match edge_at(text) {
         None => None,
@@ -189,9 +196,10 @@ fn moved(text: &[char]) -> Option<(Adjust, &[char])>
 
 /// The offset at the front, and what follows.
 fn adjust_at(text: &[char]) -> Option<(Adjust, &[char])>
-    ensures { MatchOption result
+    ensures value { MatchOption result
         (spec.adjust_at text.now ≡ None)
         (λ p. spec.adjust_at text.now ≡ Some (p.0, p.1.now)) }
+    ensures keeps { IfSome result (λ p. Keeps text.now p.1.now) }
 {
     match strip("lc=", text) {
         None => moved(text),
@@ -255,9 +263,10 @@ fn with_adjust(adjusts: Adjusts, adjust: Adjust) -> Adjusts
 
 /// The offsets behind a delimiter, and what follows.
 pub(crate) fn offsets(text: &[char]) -> Option<(Adjusts, &[char])>
-    ensures { MatchOption result
+    ensures value { MatchOption result
         (spec.offsets text.now ≡ None)
         (λ p. spec.offsets text.now ≡ Some (p.0, p.1.now)) }
+    ensures keeps { IfSome result (λ p. Keeps text.now p.1.now) }
 {
     let mut adjusts = NO_ADJUSTS;
     if ends_word(text) {

@@ -214,11 +214,10 @@ fn flag_piece(
 ) -> Result<Piece, Refusal>
     ensures { Reads result reader.new (spec.flag_piece kind seen flag reader.old) }
 {
-    let rest = past(Until::Key, reader.rest());
-    if begins('=', rest) {
+    if begins('=', past(Until::Key, reader.rest())) {
         return plain_piece(alloc, kind, seen, reader);
     }
-    reader.go_on(rest);
+    reader.skip_run(Until::Key);
     Ok(Piece::Has(flag))
 }
 
@@ -262,8 +261,7 @@ fn is_match(kind: ItemCommand) -> bool
 fn skip_key(reader: &mut Reader<'_>) -> Result<(), Refusal>
     ensures { Leaves result reader.new (spec.behind_key reader.old) }
 {
-    let rest = past(Until::Key, reader.rest());
-    reader.go_on(rest);
+    reader.skip_run(Until::Key);
     if !reader.has_equals() {
         return Err(Refusal::Fault(Cause::UnknownOption));
     }

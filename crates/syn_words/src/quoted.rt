@@ -3,7 +3,7 @@ ghost use Rattle.std.specs.Prelude.{◌≡◌};
 ghost use Rattle.syn_words.specs.Answers.{Reads};
 ghost use Rattle.syn_words.specs.Quoted as spec;
 
-use crate::delimited::{can_delimit, delimited};
+use crate::delimited::{Enclosed, can_delimit, delimited};
 use crate::offsets::{Adjusts, offsets};
 use crate::reader::Reader;
 use crate::refusal::Refusal;
@@ -28,6 +28,7 @@ fn quoted_of(text: List<char>, adjusts: Adjusts) -> Quoted
 }
 
 /// Takes the pattern that begins here.
+#[tactic(auto, using(crate::proofs::VainLaws::known_behind, crate::proofs::VainLaws::known_on))]
 pub(crate) fn quote(alloc: Global, reader: &mut Reader<'_>) -> Result<Quoted, Refusal>
     ensures { Reads result reader.new (spec.quoted reader.old) }
 {
@@ -37,7 +38,12 @@ pub(crate) fn quote(alloc: Global, reader: &mut Reader<'_>) -> Result<Quoted, Re
     if !can_delimit(delimiter) {
         return Err(Refusal::Fault(Cause::NoPattern));
     }
-    let (pattern, behind) = match delimited(alloc, delimiter, text) {
+    let found = delimited(alloc, delimiter, reader.in_vain(), text);
+    let Enclosed {
+        pattern,
+        rest: behind,
+        in_vain,
+    } = match found {
         Ok(found) => found,
         Err(_) => return Err(Refusal::Memory),
     };
@@ -47,6 +53,6 @@ pub(crate) fn quote(alloc: Global, reader: &mut Reader<'_>) -> Result<Quoted, Re
     let Some((adjusts, left)) = offsets(rest) else {
         return Err(Refusal::Fault(Cause::BadOffset));
     };
-    reader.go_on(left);
+    reader.go_on(left, in_vain);
     Ok(quoted_of(pattern, adjusts))
 }

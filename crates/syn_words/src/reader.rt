@@ -1,6 +1,7 @@
 //! What is left of a line, and words taken from it.
 ghost use Rattle.std.specs.Prelude.{◌≡◌, [], false, IfOk};
 ghost use Rattle.syn_words.specs.Answers.{Leaves, Reads};
+ghost use Rattle.syn_words.specs.Vain.{Known};
 ghost use Rattle.syn_words.specs.Words as spec;
 
 use crate::Cause;
@@ -16,21 +17,29 @@ use syn_base::{List, Memory};
 #[derive(Drop)]
 pub(crate) struct Reader<'a> {
     rest: &'a [char],
+    /// Whether a search for a closing bracket was in vain before, so that none is made again.
+    in_vain: bool,
 }
 
 impl<'a> Model for Reader<'a> {
     ghost use Rattle.std.specs.Prelude.{List, ℕ};
+    ghost use Rattle.syn_words.specs.Vain.{Known};
 
     ghost Value = { List ℕ };
 
     ghost view = { λ r. r.rest.now };
+
+    ghost invariant = { λ r. Known r.in_vain r.rest.now };
 }
 
 impl<'a> Reader<'a> {
     pub(crate) fn new(text: &'a [char]) -> Reader<'a>
         ensures { result ≡ text.now }
     {
-        Reader { rest: text }
+        Reader {
+            rest: text,
+            in_vain: false,
+        }
     }
 
     /// What is left.
@@ -40,14 +49,24 @@ impl<'a> Reader<'a> {
         self.rest
     }
 
-    /// Goes on with this text.
-    pub(crate) fn go_on(&mut self, text: &'a [char])
+    /// Whether a search for a closing bracket was in vain before.
+    pub(crate) fn in_vain(&self) -> bool
+        ensures { Known result self.now }
+    {
+        self.in_vain
+    }
+
+    /// Goes on with this text; `in_vain` says whether a search for a closing bracket was in vain.
+    pub(crate) fn go_on(&mut self, text: &'a [char], in_vain: bool)
+        requires { Known in_vain text.now }
         ensures { self.new ≡ text.now }
     {
         self.rest = text;
+        self.in_vain = in_vain;
     }
 
     /// Leaves the rest of the line.
+    #[tactic(auto, using(crate::proofs::VainLaws::known_end))]
     pub(crate) fn leave(&mut self)
         ensures { self.new ≡ [] }
     {
@@ -76,12 +95,14 @@ impl<'a> Reader<'a> {
     }
 
     /// Passes a character.
+    #[tactic(auto, using(crate::proofs::VainLaws::known_first))]
     pub(crate) fn skip_one(&mut self)
         ensures { self.new ≡ spec.behind_first self.old }
     {
         self.rest = behind_first(self.rest);
     }
 
+    #[tactic(auto, using(crate::proofs::VainLaws::known_blanks))]
     pub(crate) fn skip_blanks(&mut self)
         ensures { self.new ≡ spec.past_blanks self.old }
     {
@@ -89,10 +110,19 @@ impl<'a> Reader<'a> {
     }
 
     /// Passes the words up to the command's end.
+    #[tactic(auto, using(crate::proofs::VainLaws::known_command))]
     pub(crate) fn skip_command(&mut self)
         ensures { self.new ≡ spec.past_command false self.old }
     {
         self.rest = past_command(false, self.rest);
+    }
+
+    /// Passes a run of characters.
+    #[tactic(auto, using(crate::proofs::VainLaws::known_past))]
+    pub(crate) fn skip_run(&mut self, until: Until)
+        ensures { self.new ≡ spec.past until self.old }
+    {
+        self.rest = past(until, self.rest);
     }
 
     /// Takes a run of characters.
@@ -101,7 +131,7 @@ impl<'a> Reader<'a> {
         ensures rest { IfOk result (λ _. self.new ≡ spec.past until self.old) }
     {
         let word = run(alloc, until, self.rest)?;
-        self.rest = past(until, self.rest);
+        self.skip_run(until);
         Ok(word)
     }
 
@@ -116,14 +146,15 @@ impl<'a> Reader<'a> {
     pub(crate) fn skip_equals(&mut self)
         ensures { self.new ≡ spec.behind_equals self.old }
     {
-        self.rest = behind_first(past_blanks(self.rest));
+        self.skip_blanks();
+        self.skip_one();
     }
 
     /// Goes to where the next word begins.
     pub(crate) fn word_start(&mut self) -> Result<(), Refusal>
         ensures { Leaves result self.new (spec.word_start self.old) }
     {
-        self.rest = past_blanks(self.rest);
+        self.skip_blanks();
         if is_over(self.rest) {
             return Err(Refusal::Fault(Cause::MissingArgument));
         }
@@ -155,7 +186,7 @@ impl<'a> Reader<'a> {
     pub(crate) fn no_more(&mut self) -> Result<(), Refusal>
         ensures { Leaves result self.new (spec.no_more self.old) }
     {
-        self.rest = past_blanks(self.rest);
+        self.skip_blanks();
         if is_over(self.rest) {
             return Ok(());
         }

@@ -1,5 +1,6 @@
 //! Runs of characters, and comparing words.
-ghost use Rattle.std.specs.Prelude.{◌≡◌, [], ◌∷◌, Some, None, IfOk, MatchOption};
+ghost use Rattle.std.specs.Prelude.{◌≡◌, [], ◌∷◌, Some, None, IfOk, IfSome, MatchOption};
+ghost use Rattle.syn_words.specs.Vain.{Keeps};
 ghost use Rattle.syn_words.specs.Words as spec;
 
 use std::alloc::Global;
@@ -260,9 +261,10 @@ pub(crate) fn abbreviates(least: usize, full: &str, text: &[char]) -> Option<boo
 }
 
 fn strip_bytes<'a>(word: &[u8], text: &'a [char]) -> Option<&'a [char]>
-    ensures { MatchOption result
+    ensures rest { MatchOption result
         (spec.strip word.now text.now ≡ None)
         (λ rest. spec.strip word.now text.now ≡ Some rest.now) }
+    ensures keeps { IfSome result (λ rest. Keeps text.now rest.now) }
 {
     let mut rest = text;
     let mut left = word;
@@ -283,9 +285,10 @@ fn strip_bytes<'a>(word: &[u8], text: &'a [char]) -> Option<&'a [char]>
 
 /// What follows this ASCII word at the front of a text.
 pub(crate) fn strip<'a>(word: &str, text: &'a [char]) -> Option<&'a [char]>
-    ensures { MatchOption result
+    ensures rest { MatchOption result
         (spec.strip word.now text.now ≡ None)
         (λ rest. spec.strip word.now text.now ≡ Some rest.now) }
+    ensures keeps { IfSome result (λ rest. Keeps text.now rest.now) }
 {
     strip_bytes(word.as_bytes(), text)
 }

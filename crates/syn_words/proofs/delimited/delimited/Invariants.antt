@@ -1,13 +1,13 @@
 use Rattle.std.proofs.Common.{◌≡◌, length}
 use Rattle.syn_words.specs.Delimited.{delimited, delimited_after}
-use Rattle.syn_words.specs.Vain.{IsVain}
+use Rattle.syn_words.specs.Vain.{Known}
 use Rattle.syn_words.proofs.delimited.delimited.Given as goal
 
 -- the characters so far, with those from here on, are the pattern
 abbrev pub invariant-loop-c : goal.invariant-loop-c
 invariant-loop-c l = record {
   same : delimited_after l.delimiter l.search.scan l.pattern l.rest ≡ delimited l.delimiter l.text;
-  vain : IsVain l.search.vain l.rest;
+  known : Known l.search.in_vain l.rest;
 }
 
 abbrev pub decreases-loop-c : goal.decreases-loop-c

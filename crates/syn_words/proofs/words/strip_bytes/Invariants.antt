@@ -1,9 +1,13 @@
 use Rattle.std.proofs.Common.{◌≡◌, length}
+use Rattle.syn_words.specs.Vain.{Keeps}
 use Rattle.syn_words.specs.Words.{strip}
 use Rattle.syn_words.proofs.words.strip_bytes.Given as goal
 
 abbrev pub invariant-loop-w : goal.invariant-loop-w
-invariant-loop-w l = strip l.left l.rest ≡ strip l.word l.text
+invariant-loop-w l = record {
+  same : strip l.left l.rest ≡ strip l.word l.text;
+  keeps : Keeps l.text l.rest;
+}
 
 abbrev pub decreases-loop-w : goal.decreases-loop-w
 decreases-loop-w l = length l.left
