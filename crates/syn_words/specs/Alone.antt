@@ -2,7 +2,7 @@
 use Rattle.std.specs.Prelude.{ℕ, List, Ok}
 use Rattle.syn_words.specs.declared.what.What.{What}
 use Rattle.syn_words.specs.Answers.{Read, ◌>>=◌}
-use Rattle.syn_words.specs.Words.{no_more}
+use Rattle.syn_words.specs.Arguments.{no_more}
 
 abbrev pub alone : What → List ℕ → Read What
 alone w text = do

@@ -3,12 +3,12 @@ use Rattle.std.specs.Prelude.{ℕ, List, [], ◌∷◌, ◌++◌, Option, Some, 
 use Rattle.syn_words.specs.declared.cause.Cause.{Cause}
 use Rattle.syn_words.specs.declared.cause.Cause.TheVariants.{UnknownOption, MissingArgument}
 use Rattle.syn_words.specs.declared.what.NamedList.{NamedList}
-use Rattle.syn_words.specs.declared.words.Until.TheVariants as until
+use Rattle.word_reader.specs.declared.words.Until.TheVariants as until
 use Rattle.syntax_set.specs.declared.clusters.Change.{Change}
 use Rattle.syntax_set.specs.declared.clusters.Change.TheVariants as change
 use Rattle.syn_words.specs.Answers.{Read, ◌>>=◌}
-use Rattle.syn_words.specs.Words.{run, past, past_blanks, is_over, is_word_in_any_case, has_equals, behind_equals}
 use Rattle.syn_words.specs.Lists.{list_value}
+use Rattle.word_reader.specs.Words.{behind_equals, has_equals, is_over, is_word_in_any_case, past, past_blanks, run}
 
 abbrev pub change_of : List ℕ → Option Change
 change_of key =

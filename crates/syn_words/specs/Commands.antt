@@ -1,5 +1,5 @@
 -- Commands of a syntax file, each by its first word.
-use Rattle.std.specs.Prelude.{ℕ, nat_eq, not, ◌&&◌, ◌||◌, List, [], ◌∷◌, ◌++◌, Option, Some, None, Bool, true, false, if◌then◌else◌, Result, Ok, Err, codes}
+use Rattle.std.specs.Prelude.{ℕ, nat_eq, ◌&&◌, ◌||◌, List, [], ◌∷◌, ◌++◌, Option, Some, None, Bool, true, false, if◌then◌else◌, Result, Ok, Err, codes}
 use Rattle.syn_words.specs.declared.cause.Cause.{Cause}
 use Rattle.syn_words.specs.declared.cause.Cause.TheVariants as cause
 use Rattle.syn_words.specs.declared.what.ItemCommand.{ItemCommand}
@@ -8,33 +8,25 @@ use Rattle.syn_words.specs.declared.what.Named.{Named}
 use Rattle.syn_words.specs.declared.what.Named.TheVariants as named
 use Rattle.syn_words.specs.declared.what.What.{What}
 use Rattle.syn_words.specs.declared.what.What.TheVariants as what
-use Rattle.syn_words.specs.declared.first_words.CommandName.{CommandName}
-use Rattle.syn_words.specs.declared.first_words.CommandName.TheVariants as name
+use Rattle.word_values.specs.declared.command_names.CommandName.{CommandName}
+use Rattle.word_values.specs.declared.command_names.CommandName.TheVariants as name
 use Rattle.syn_words.specs.declared.first_words.Said.{Said}
 use Rattle.syn_words.specs.declared.first_words.Said.TheVariants.{Does, OpensGuard}
 use Rattle.syn_words.specs.declared.syntax.Subcommand.{Subcommand}
 use Rattle.syn_words.specs.declared.syntax.Subcommand.TheVariants as sub
-use Rattle.syn_words.specs.declared.words.Until.TheVariants as until
+use Rattle.word_reader.specs.declared.words.Until.TheVariants as until
 use Rattle.syn_words.specs.Answers.{Read, ◌>>=◌}
 use Rattle.syn_words.specs.Alone.{alone}
-use Rattle.syn_words.specs.Words.{run, past, past_blanks, past_command, begins, behind_first, is_letter, is_over, is_word, abbreviates, argument, word_start, no_more}
 use Rattle.syn_words.specs.Names.{group_name, group_argument}
 use Rattle.syn_words.specs.Pieces.{pieces}
 use Rattle.syn_words.specs.Highlight.{highlight_command}
 use Rattle.syn_words.specs.FileNames.{file_argument}
 use Rattle.syn_words.specs.Clusters.{changes}
+use Rattle.word_reader.specs.Words.{begins, behind_first, is_over, is_word, past, past_blanks, past_command, run}
+use Rattle.syn_words.specs.Arguments.{argument, no_more, word_start}
+use Rattle.word_values.specs.CommandNames.{command_name, begins_cpo, begins_variable, is_guard}
 
 -- Commands without effect.
-
--- `cpo` or `cpoptions`
-abbrev pub is_cpo : List ℕ → Bool
-is_cpo option = is_word option (codes "cpo") || is_word option (codes "cpoptions")
-
-abbrev pub begins_cpo : List ℕ → Bool
-begins_cpo text = is_cpo (run until.OptionName text)
-
-abbrev pub begins_variable : ℕ → Bool
-begins_variable c = is_letter c || nat_eq c 95
 
 -- the target of `let`, at its first character; the rest of the line isn't read
 abbrev pub let_at : List ℕ → Read What
@@ -199,37 +191,6 @@ syntax_command text = do
   by_subcommand (subcommand_of word.0) word.0 word.1
 
 -- All commands.
-
-abbrev pub is_plain : Option Bool → Bool
-is_plain None = false
-is_plain (Some force) = not force
-
-abbrev pub is_some_way : Option Bool → Bool
-is_some_way None = false
-is_some_way (Some force) = true
-
-abbrev pub highlight_by : Option Bool → Option CommandName
-highlight_by None = None
-highlight_by (Some force) = Some (name.Highlight force)
-
-abbrev pub highlight_name : List ℕ → Option CommandName
-highlight_name word = highlight_by (abbreviates 2 (codes "highlight") word)
-
--- the command that a word names; some may be cut down, and some have a `!` behind them
-abbrev pub command_name : List ℕ → Option CommandName
-command_name word =
-    if is_plain (abbreviates 2 (codes "syntax") word) then Some name.Syntax
-    else if is_word word (codes "let") then Some name.Let
-    else if is_some_way (abbreviates 3 (codes "unlet") word) then Some name.Unlet
-    else if is_plain (abbreviates 2 (codes "set") word) then Some name.Set
-    else if is_plain (abbreviates 7 (codes "scriptencoding") word) then Some name.Scriptencoding
-    else if is_some_way (abbreviates 2 (codes "runtime") word) then Some name.Runtime
-    else if is_word word (codes "if") then Some name.If
-    else highlight_name word
-
--- the condition of the guard, quoted either way
-abbrev pub is_guard : List ℕ → Bool
-is_guard word = is_word word (codes "exists(\"b:current_syntax\")") || is_word word (codes "exists('b:current_syntax')")
 
 -- an `if` other than the guard's is unknown
 abbrev pub guard_at : List ℕ → Read Said

@@ -16,8 +16,8 @@ use Rattle.syn_words.specs.declared.file.Guard.{Guard}
 use Rattle.syn_words.specs.declared.file.Guard.TheVariants.{Outside, AwaitsFinish, AwaitsEndif}
 use Rattle.syn_words.specs.declared.file.Progress.{Progress}
 use Rattle.syn_words.specs.Answers.{Read}
-use Rattle.syn_words.specs.Words.{past_blanks, begins, behind_first}
 use Rattle.syn_words.specs.Commands.{command, awaited}
+use Rattle.word_reader.specs.Words.{begins, behind_first, past_blanks}
 
 abbrev pub fault_at : ℕ → Cause → WordFault
 fault_at line cause = record { line = line; cause = cause }

@@ -1,30 +1,10 @@
 -- Names of files that a syntax file asks for.
-use Rattle.std.specs.Prelude.{ℕ, nat_eq, not, ◌&&◌, ◌||◌, List, ◌++◌, Option, Some, None, Bool, if◌then◌else◌, Result, Ok, Err, codes}
-use Rattle.std.specs.List.{list_any}
+use Rattle.std.specs.Prelude.{ℕ, List, if◌then◌else◌, Result, Ok, Err}
 use Rattle.syn_words.specs.declared.cause.Cause.{Cause}
 use Rattle.syn_words.specs.declared.cause.Cause.TheVariants.{BadFileName}
 use Rattle.syn_words.specs.Answers.{Read, ◌>>=◌}
-use Rattle.syn_words.specs.Words.{argument, begins, strip}
-use Rattle.syn_words.specs.Styles.{has_part}
-
--- `*`, `?` and `[`
-abbrev pub is_wild : ℕ → Bool
-is_wild c = nat_eq c 42 || nat_eq c 63 || nat_eq c 91
-
-abbrev pub has_wild : List ℕ → Bool
-has_wild word = list_any is_wild word
-
--- relative, without a part `..` and without wild characters
-abbrev pub is_file_name : List ℕ → Bool
-is_file_name word = not (begins 47 word) && not (has_part 47 (codes "..") word) && not (has_wild word)
-
--- `<sfile>:p:h/` at the front stands for `syntax/`
-abbrev pub in_folder : Option (List ℕ) → List ℕ → List ℕ
-in_folder (Some rest) word = codes "syntax/" ++ rest
-in_folder None word = word
-
-abbrev pub in_folder_of : List ℕ → List ℕ
-in_folder_of word = in_folder (strip (codes "<sfile>:p:h/") word) word
+use Rattle.syn_words.specs.Arguments.{argument}
+use Rattle.word_values.specs.Paths.{is_file_name, in_folder_of}
 
 abbrev pub file_name : List ℕ → Result (List ℕ) Cause
 file_name word = if is_file_name word then Ok (in_folder_of word) else Err BadFileName

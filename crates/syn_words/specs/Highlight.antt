@@ -5,9 +5,11 @@ use Rattle.syn_words.specs.declared.what.What.{What}
 use Rattle.syn_words.specs.declared.what.What.TheVariants as what
 use Rattle.syn_words.specs.Answers.{Read, ◌>>=◌}
 use Rattle.syn_words.specs.Alone.{alone}
-use Rattle.syn_words.specs.Words.{is_word, argument}
-use Rattle.syn_words.specs.Names.{group_name, group_argument, is_none}
+use Rattle.syn_words.specs.Names.{group_name, group_argument}
 use Rattle.syn_words.specs.Styles.{style_parts}
+use Rattle.word_reader.specs.Words.{is_word}
+use Rattle.syn_words.specs.Arguments.{argument}
+use Rattle.word_values.specs.GroupNames.{is_none}
 
 abbrev pub link_target : List ℕ → Result (Option (List ℕ)) Cause
 link_target word = if is_none word then Ok None else (group_name word >>= λ name. Ok (Some name))

@@ -1,10 +1,8 @@
+pub use Rattle.word_values.specs.GroupNames
 pub mod Answers
-pub mod Words
+pub mod Arguments
 pub mod Names
 pub mod Lists
-pub mod Vain
-pub mod Delimited
-pub mod Offsets
 pub mod Quoted
 pub mod Options
 pub mod Pieces

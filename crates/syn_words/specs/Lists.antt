@@ -2,12 +2,14 @@
 use Rattle.std.specs.Prelude.{ℕ, List, [], ◌∷◌, ◌++◌, Bool, true, false, if◌then◌else◌, Ok}
 use Rattle.syn_words.specs.declared.what.Named.{Named}
 use Rattle.syn_words.specs.declared.what.NamedList.{NamedList}
-use Rattle.syn_words.specs.declared.words.Until.TheVariants.{ListName}
+use Rattle.word_reader.specs.declared.words.Until.TheVariants.{ListName}
 use Rattle.syntax_set.specs.declared.item.Special.{Special}
 use Rattle.syntax_set.specs.declared.item.Special.TheVariants as special
 use Rattle.syn_words.specs.Answers.{Read, ◌>>=◌}
-use Rattle.syn_words.specs.Words.{run, past, past_blanks, begins, behind_first, value_start}
-use Rattle.syn_words.specs.Names.{group_in_list, cluster_in_list, special_of}
+use Rattle.syn_words.specs.Names.{group_in_list, cluster_in_list}
+use Rattle.word_reader.specs.Words.{begins, behind_first, past, past_blanks, run}
+use Rattle.syn_words.specs.Arguments.{value_start}
+use Rattle.word_values.specs.GroupNames.{special_of}
 
 abbrev pub no_names : NamedList
 no_names = record { special = special.Plain; names = [] }

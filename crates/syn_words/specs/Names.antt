@@ -1,33 +1,13 @@
 -- Names of groups and clusters (Vim's help, group-name).
-use Rattle.std.specs.Prelude.{ℕ, nat_eq, nat_le, not, ◌&&◌, ◌||◌, List, length, Bool, if◌then◌else◌, Result, Ok, Err, codes}
-use Rattle.std.specs.List.{list_all, list_any}
+use Rattle.std.specs.Prelude.{ℕ, not, List, if◌then◌else◌, Result, Ok, Err}
 use Rattle.syn_words.specs.declared.cause.Cause.{Cause}
 use Rattle.syn_words.specs.declared.cause.Cause.TheVariants.{BadGroupName, ReservedName, BadList}
 use Rattle.syn_words.specs.declared.what.Named.{Named}
 use Rattle.syn_words.specs.declared.what.Named.TheVariants.{Group, Cluster, Names}
-use Rattle.syntax_set.specs.declared.item.Special.{Special}
-use Rattle.syntax_set.specs.declared.item.Special.TheVariants as special
 use Rattle.syn_words.specs.Answers.{Read, ◌>>=◌}
-use Rattle.syn_words.specs.Words.{is_letter, is_digit, is_word_in_any_case, argument}
-
--- a letter, a digit, `_`, `.` or `-`
-abbrev pub is_name_character : ℕ → Bool
-is_name_character c = is_letter c || is_digit c || nat_eq c 95 || nat_eq c 46 || nat_eq c 45
-
-abbrev pub has_name_characters : List ℕ → Bool
-has_name_characters word = list_all is_name_character word
-
--- one to 200 such characters
-abbrev pub is_group_name : List ℕ → Bool
-is_group_name word = nat_le 1 (length word) && nat_le (length word) 200 && has_name_characters word
-
-abbrev pub is_none : List ℕ → Bool
-is_none word = is_word_in_any_case word (codes "none")
-
-abbrev pub is_reserved : List ℕ → Bool
-is_reserved word =
-    is_none word || is_word_in_any_case word (codes "all") || is_word_in_any_case word (codes "allbut") || is_word_in_any_case word (codes "top")
-    || is_word_in_any_case word (codes "contained") || is_word_in_any_case word (codes "contains")
+use Rattle.syn_words.specs.Arguments.{argument}
+pub use Rattle.word_values.specs.GroupNames.{is_none}
+use Rattle.word_values.specs.GroupNames.{is_group_name, is_reserved, is_listed, is_pattern}
 
 -- the name of a group or a cluster outside a list
 abbrev pub group_name : List ℕ → Result (List ℕ) Cause
@@ -40,17 +20,6 @@ group_argument text = do
   name ← group_name word.0
   Ok (name, word.1)
 
--- a name of a list that isn't reserved
-abbrev pub is_listed : List ℕ → Bool
-is_listed word = is_group_name word && not (is_reserved word)
-
--- one of `\ . * ^ $ ~ [`
-abbrev pub is_pattern_character : ℕ → Bool
-is_pattern_character c = nat_eq c 92 || nat_eq c 46 || nat_eq c 42 || nat_eq c 94 || nat_eq c 36 || nat_eq c 126 || nat_eq c 91
-
-abbrev pub is_pattern : List ℕ → Bool
-is_pattern word = list_any is_pattern_character word
-
 -- a name of a list: with one of these characters it is a pattern of names
 abbrev pub group_in_list : List ℕ → Result Named Cause
 group_in_list word = if is_pattern word then Ok (Names word) else if is_listed word then Ok (Group word) else Err BadList
@@ -58,13 +27,3 @@ group_in_list word = if is_pattern word then Ok (Names word) else if is_listed w
 -- behind an at sign
 abbrev pub cluster_in_list : List ℕ → Result Named Cause
 cluster_in_list word = if is_listed word then Ok (Cluster word) else Err BadList
-
--- what a list says besides its names
-abbrev pub special_of : List ℕ → Special
-special_of word =
-    if is_word_in_any_case word (codes "all") then special.All
-    else if is_word_in_any_case word (codes "allbut") then special.AllBut
-    else if is_word_in_any_case word (codes "top") then special.Top
-    else if is_word_in_any_case word (codes "contained") then special.Contained
-    else if is_none word then special.Nothing
-    else special.Plain

@@ -6,7 +6,7 @@ use Rattle.syn_words.specs.declared.what.Field.TheVariants as field
 use Rattle.syn_words.specs.declared.what.Role.TheVariants as role
 use Rattle.syn_words.specs.declared.options.OptionWord.{OptionWord}
 use Rattle.syn_words.specs.declared.options.OptionWord.TheVariants as word
-use Rattle.syn_words.specs.Words.{is_word_in_any_case}
+use Rattle.word_reader.specs.Words.{is_word_in_any_case}
 
 abbrev pub first_flags : List ℕ → Option Flag
 first_flags key =

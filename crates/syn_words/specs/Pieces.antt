@@ -14,14 +14,16 @@ use Rattle.syn_words.specs.declared.what.Piece.TheVariants.{Has, Cchar, Names, M
 use Rattle.syn_words.specs.declared.options.OptionWord.{OptionWord}
 use Rattle.syn_words.specs.declared.options.OptionWord.TheVariants as word
 use Rattle.syn_words.specs.declared.pieces.Seen.{Seen}
-use Rattle.syn_words.specs.declared.words.Until.TheVariants as until
+use Rattle.word_reader.specs.declared.words.Until.TheVariants as until
 use Rattle.syn_words.specs.Answers.{Read, ◌>>=◌}
-use Rattle.syn_words.specs.Words.{run, past, past_blanks, begins, has_equals, behind_equals, value_start}
-use Rattle.syn_words.specs.Names.{group_name, is_none}
+use Rattle.syn_words.specs.Names.{group_name}
 use Rattle.syn_words.specs.Lists.{list_value}
-use Rattle.syn_words.specs.Delimited.{can_delimit}
+use Rattle.word_reader.specs.Delimited.{can_delimit}
 use Rattle.syn_words.specs.Quoted.{quoted}
 use Rattle.syn_words.specs.Options.{option_of}
+use Rattle.word_reader.specs.Words.{begins, behind_equals, has_equals, past, past_blanks, run}
+use Rattle.syn_words.specs.Arguments.{value_start}
+use Rattle.word_values.specs.GroupNames.{is_none}
 
 -- Which patterns an item has so far.
 

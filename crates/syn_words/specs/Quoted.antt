@@ -1,11 +1,11 @@
 -- A pattern between its delimiters, with its offsets.
 use Rattle.std.specs.Prelude.{ℕ, List, [], ◌∷◌, Option, Some, None, if◌then◌else◌, Ok, Err}
 use Rattle.syn_words.specs.declared.cause.Cause.TheVariants.{NoPattern, NoDelimiter, BadOffset}
-use Rattle.syn_words.specs.declared.offsets.Adjusts.{Adjusts}
+use Rattle.word_reader.specs.declared.offsets.Adjusts.{Adjusts}
 use Rattle.syn_words.specs.declared.what.Quoted.{Quoted}
 use Rattle.syn_words.specs.Answers.{Read}
-use Rattle.syn_words.specs.Delimited.{can_delimit, delimited}
-use Rattle.syn_words.specs.Offsets.{offsets}
+use Rattle.word_reader.specs.Delimited.{can_delimit, delimited}
+use Rattle.word_reader.specs.Offsets.{offsets}
 
 abbrev pub quoted_of : List ℕ → Adjusts → Quoted
 quoted_of text a = record { text = text; ms = a.ms; me = a.me; hs = a.hs; he = a.he; rs = a.rs; re = a.re; lc = a.lc }

@@ -1,58 +1,20 @@
 -- Style commands (Vim's help, :highlight-args).
-use Rattle.std.specs.Prelude.{ℕ, ◌+◌, ◌*◌, nat_eq, nat_lt, nat_le, ◌&&◌, ◌||◌, List, [], ◌∷◌, ◌++◌, length, Option, Some, None, Bool, true, false, if◌then◌else◌, Result, Ok, Err, codes}
-use Rattle.std.specs.Char.{digit_value}
+use Rattle.std.specs.Prelude.{ℕ, List, [], ◌∷◌, ◌++◌, Option, Some, None, Bool, true, false, if◌then◌else◌, Result, Ok, Err, codes}
 use Rattle.std.specs.Option.{option_to_list}
 use Rattle.syn_words.specs.declared.cause.Cause.{Cause}
 use Rattle.syn_words.specs.declared.cause.Cause.TheVariants.{UnknownOption, BadStyle, MissingArgument}
 use Rattle.syn_words.specs.declared.what.StylePart.{StylePart}
 use Rattle.syn_words.specs.declared.what.StylePart.TheVariants.{Front, Back, Shape}
-use Rattle.syn_words.specs.declared.styles.StyleKey.{StyleKey}
-use Rattle.syn_words.specs.declared.styles.StyleKey.TheVariants.{FrontColour, BackColour, Shapes, NoEffect}
-use Rattle.syn_words.specs.declared.words.Until.TheVariants as until
+use Rattle.word_values.specs.declared.style_words.StyleKey.{StyleKey}
+use Rattle.word_values.specs.declared.style_words.StyleKey.TheVariants.{FrontColour, BackColour, Shapes, NoEffect}
+use Rattle.word_reader.specs.declared.words.Until.TheVariants as until
 use Rattle.syn_words.specs.Answers.{Read, ◌>>=◌}
-use Rattle.syn_words.specs.Words.{run, past, past_blanks, begins, behind_first, is_over, is_word, has_equals, behind_equals, value_start}
-
--- Parts of a word stand between separators. Whether this one stands at the front:
-abbrev pub part_here : ℕ → List ℕ → List ℕ → Bool
-part_here separator [] [] = true
-part_here separator [] (c ∷ cs) = nat_eq c separator
-part_here separator (w ∷ ws) [] = false
-part_here separator (w ∷ ws) (c ∷ cs) = nat_eq c w && part_here separator ws cs
-
--- whether it stands anywhere; the first says whether a part begins here
-abbrev pub part_from : Bool → ℕ → List ℕ → List ℕ → Bool
-part_from begins_here separator part [] = begins_here && part_here separator part []
-part_from begins_here separator part (c ∷ cs) = (begins_here && part_here separator part (c ∷ cs)) || part_from (nat_eq c separator) separator part cs
-
-abbrev pub has_part : ℕ → List ℕ → List ℕ → Bool
-has_part separator part word = part_from true separator part word
+use Rattle.word_reader.specs.Words.{begins, behind_equals, behind_first, has_equals, is_over, is_word, past, past_blanks, run}
+use Rattle.syn_words.specs.Arguments.{value_start}
+use Rattle.word_values.specs.Parts.{has_part}
+use Rattle.word_values.specs.StyleWords.{style_key, rgb}
 
 -- A key, and what its value says.
-
-abbrev pub has_no_effect : List ℕ → Bool
-has_no_effect key =
-    is_word key (codes "term") || is_word key (codes "cterm") || is_word key (codes "ctermfg") || is_word key (codes "ctermbg") || is_word key (codes "ctermul")
-    || is_word key (codes "ctermfont") || is_word key (codes "start") || is_word key (codes "stop") || is_word key (codes "font") || is_word key (codes "guisp")
-
-abbrev pub style_key : List ℕ → Option StyleKey
-style_key key =
-    if is_word key (codes "guifg") then Some FrontColour
-    else if is_word key (codes "guibg") then Some BackColour
-    else if is_word key (codes "gui") then Some Shapes
-    else if has_no_effect key then Some NoEffect
-    else None
-
--- a number with one hexadecimal digit more; six digits are never above 0xFFFFFF
-abbrev pub with_hex : ℕ → ℕ → Option ℕ
-with_hex n c = if nat_lt (digit_value c) 16 && nat_le (n * 16 + digit_value c) 16777215 then Some (n * 16 + digit_value c) else None
-
-abbrev pub hex_after : ℕ → List ℕ → Option ℕ
-hex_after n [] = Some n
-hex_after n (c ∷ cs) = elim (with_hex n c) [ None ↦ None | Some m ↦ hex_after m cs ]
-
--- six hexadecimal digits
-abbrev pub rgb : List ℕ → Option ℕ
-rgb digits = if nat_eq (length digits) 6 then hex_after 0 digits else None
 
 abbrev pub coloured : Option ℕ → Result (Option (Option ℕ)) Cause
 coloured (Some n) = Ok (Some (Some n))

@@ -4,13 +4,12 @@ ghost use Rattle.syn_words.specs.Answers.{Gives, Reads};
 ghost use Rattle.syn_words.specs.Clusters as spec;
 
 use crate::lists::list_value;
-use crate::reader::Reader;
 use crate::refusal::Refusal;
-use crate::words::{Until, front, is_word_in_any_case};
 use crate::{Cause, NamedList};
 use std::alloc::Global;
 use syn_base::List;
 use syntax_set::Change;
+use word_reader::{Reader, Until, front, is_word_in_any_case};
 
 fn change_of(key: &[char]) -> Option<Change>
     ensures { result ≡ spec.change_of key.now }

@@ -1,16 +1,15 @@
 //! The commands of a whole file.
 ghost use Rattle.std.specs.Prelude.{◌≡◌, ◌∷◌, ◌++◌, [], IfOk, None, Some};
 ghost use Rattle.syn_words.specs.FileCommands as spec;
-ghost use Rattle.syn_words.specs.Words as words;
+ghost use Rattle.word_reader.specs.Words as words;
 
 use crate::first_words::{Said, awaited, command};
-use crate::reader::Reader;
 use crate::refusal::Refusal;
-use crate::words::{begins, behind_first, front, past_blanks};
 use crate::{Cause, Command, Commands, What, WordFault};
 use std::alloc::Global;
 use syn_base::{List, Memory};
 use syn_lines::{LogicalLine, LogicalLines, logical_lines};
+use word_reader::{Reader, front};
 
 /// Which command of the guard comes next, with the line of its `if`.
 #[derive(Clone, Copy)]

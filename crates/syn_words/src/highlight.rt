@@ -3,15 +3,16 @@ ghost use Rattle.std.specs.Prelude.{◌≡◌, true, false};
 ghost use Rattle.syn_words.specs.Answers.{Reads};
 ghost use Rattle.syn_words.specs.Highlight as spec;
 
-use crate::names::{group_argument, group_name, is_none};
-use crate::reader::Reader;
+use crate::arguments::argument;
+use crate::names::{group_argument, group_name};
 use crate::refusal::Refusal;
 use crate::styles::style_parts;
 use crate::syntax::alone;
-use crate::words::is_word;
 use crate::{Cause, What};
 use std::alloc::Global;
 use syn_base::List;
+use word_reader::{Reader, is_word};
+use word_values::is_none;
 
 /// The group that a link leads to, or none.
 fn link_target(word: List<char>) -> Result<Option<List<char>>, Cause>
@@ -35,7 +36,7 @@ fn link_command(
     ensures { Reads result reader.new (spec.link_command unset force reader.old) }
 {
     let from = group_argument(alloc, reader)?;
-    let word = reader.argument(alloc)?;
+    let word = argument(alloc, reader)?;
     let to = link_target(word)?;
     alone(
         What::Link {
@@ -91,7 +92,7 @@ fn is_default(word: &[char]) -> bool
 fn unset_command(alloc: Global, force: bool, reader: &mut Reader<'_>) -> Result<What, Refusal>
     ensures { Reads result reader.new (spec.unset_command force reader.old) }
 {
-    let word = reader.argument(alloc)?;
+    let word = argument(alloc, reader)?;
     link_or_style(alloc, true, force, word, reader)
 }
 
@@ -103,7 +104,7 @@ pub(crate) fn highlight_command(
 ) -> Result<What, Refusal>
     ensures { Reads result reader.new (spec.highlight_command force reader.old) }
 {
-    let word = reader.argument(alloc)?;
+    let word = argument(alloc, reader)?;
     if is_default(word.as_slice()) {
         return unset_command(alloc, force, reader);
     }

@@ -6,28 +6,24 @@
 //! one that is told, and its missing parts come behind all its words.
 #![tactic(auto)]
 
+mod arguments;
 mod cause;
 mod clusters;
-mod delimited;
 mod file;
 mod file_names;
 mod first_words;
 mod highlight;
 mod lists;
 mod names;
-mod offsets;
 mod options;
 mod pieces;
 mod quoted;
-mod reader;
 mod refusal;
 mod styles;
 mod syntax;
 #[cfg(test)]
 mod tests;
-mod vain;
 mod what;
-mod words;
 
 pub use cause::Cause;
 pub use file::commands;
@@ -35,3 +31,4 @@ pub use what::{
     Command, Commands, Field, Flag, ItemCommand, Named, NamedList, Piece, Quoted, Role, StylePart,
     What, WordFault,
 };
+pub use word_values::is_none;

@@ -4,13 +4,14 @@ ghost use Rattle.syn_words.specs.Answers.{Reads};
 ghost use Rattle.syn_words.specs.Lists as spec;
 
 use crate::NamedList;
-use crate::names::{cluster_in_list, group_in_list, special_of};
-use crate::reader::Reader;
+use crate::arguments::value_start;
+use crate::names::{cluster_in_list, group_in_list};
 use crate::refusal::Refusal;
-use crate::words::{Until, front};
 use std::alloc::Global;
 use syn_base::List;
 use syntax_set::Special;
+use word_reader::{Reader, Until, front};
+use word_values::special_of;
 
 fn no_names(alloc: Global) -> NamedList
     ensures { result ≡ spec.no_names }
@@ -120,6 +121,6 @@ pub(crate) fn list_value(
 ) -> Result<NamedList, Refusal>
     ensures { Reads result reader.new (spec.list_value may_be_special reader.old) }
 {
-    reader.value_start()?;
+    value_start(reader)?;
     names_from(alloc, may_be_special, reader)
 }

@@ -3,51 +3,14 @@ ghost use Rattle.std.specs.Prelude.{◌≡◌};
 ghost use Rattle.syn_words.specs.Answers.{Reads};
 ghost use Rattle.syn_words.specs.Names as spec;
 
-use crate::reader::Reader;
+use crate::arguments::argument;
 use crate::refusal::Refusal;
-use crate::words::{is_digit, is_letter, is_word_in_any_case};
 use crate::{Cause, Named};
 use std::alloc::Global;
 use syn_base::List;
 use syntax_set::Special;
-
-/// The most characters of a group's name.
-const MOST_CHARACTERS: usize = 200;
-
-fn is_name_character(c: char) -> bool
-    ensures { result ≡ spec.is_name_character c }
-{
-    is_letter(c) || is_digit(c) || c == '_' || c == '.' || c == '-'
-}
-
-fn has_name_characters(word: &[char]) -> bool
-    ensures { result ≡ spec.has_name_characters word.now }
-{
-    word.iter().all(|c| is_name_character(*c))
-}
-
-fn is_group_name(word: &[char]) -> bool
-    ensures { result ≡ spec.is_group_name word.now }
-{
-    1 <= word.len() && word.len() <= MOST_CHARACTERS && has_name_characters(word)
-}
-
-pub(crate) fn is_none(word: &[char]) -> bool
-    ensures { result ≡ spec.is_none word.now }
-{
-    is_word_in_any_case(word, "none")
-}
-
-fn is_reserved(word: &[char]) -> bool
-    ensures { result ≡ spec.is_reserved word.now }
-{
-    is_none(word)
-        || is_word_in_any_case(word, "all")
-        || is_word_in_any_case(word, "allbut")
-        || is_word_in_any_case(word, "top")
-        || is_word_in_any_case(word, "contained")
-        || is_word_in_any_case(word, "contains")
-}
+use word_reader::Reader;
+use word_values::{is_group_name, is_listed, is_pattern, is_reserved};
 
 /// The word as a name outside a list.
 pub(crate) fn group_name(word: List<char>) -> Result<List<char>, Cause>
@@ -66,27 +29,9 @@ pub(crate) fn group_name(word: List<char>) -> Result<List<char>, Cause>
 pub(crate) fn group_argument(alloc: Global, reader: &mut Reader<'_>) -> Result<List<char>, Refusal>
     ensures { Reads result reader.new (spec.group_argument reader.old) }
 {
-    let word = reader.argument(alloc)?;
+    let word = argument(alloc, reader)?;
     let name = group_name(word)?;
     Ok(name)
-}
-
-fn is_listed(word: &[char]) -> bool
-    ensures { result ≡ spec.is_listed word.now }
-{
-    is_group_name(word) && !is_reserved(word)
-}
-
-fn is_pattern_character(c: char) -> bool
-    ensures { result ≡ spec.is_pattern_character c }
-{
-    c == '\\' || c == '.' || c == '*' || c == '^' || c == '$' || c == '~' || c == '['
-}
-
-fn is_pattern(word: &[char]) -> bool
-    ensures { result ≡ spec.is_pattern word.now }
-{
-    word.iter().any(|c| is_pattern_character(*c))
 }
 
 /// A name of a list.
@@ -110,23 +55,4 @@ pub(crate) fn cluster_in_list(word: List<char>) -> Result<Named, Cause>
         return Ok(Named::Cluster(word));
     }
     Err(Cause::BadList)
-}
-
-/// What a word says of a list besides its names.
-pub(crate) fn special_of(word: &[char]) -> Special
-    ensures { result ≡ spec.special_of word.now }
-{
-    if is_word_in_any_case(word, "all") {
-        Special::All
-    } else if is_word_in_any_case(word, "allbut") {
-        Special::AllBut
-    } else if is_word_in_any_case(word, "top") {
-        Special::Top
-    } else if is_word_in_any_case(word, "contained") {
-        Special::Contained
-    } else if is_none(word) {
-        Special::Nothing
-    } else {
-        Special::Plain
-    }
 }

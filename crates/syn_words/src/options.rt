@@ -2,8 +2,8 @@
 ghost use Rattle.std.specs.Prelude.{◌≡◌};
 ghost use Rattle.syn_words.specs.Options as spec;
 
-use crate::words::is_word_in_any_case;
 use crate::{Field, Flag, Role};
+use word_reader::is_word_in_any_case;
 
 /// What a key of an item's command stands for.
 #[derive(Clone, Copy)]

@@ -3,17 +3,17 @@ ghost use Rattle.std.specs.Prelude.{◌≡◌, ◌∷◌, ◌++◌, [], None, So
 ghost use Rattle.syn_words.specs.Answers.{Gives, Leaves, Reads};
 ghost use Rattle.syn_words.specs.Pieces as spec;
 
-use crate::delimited::can_delimit;
+use crate::arguments::value_start;
 use crate::lists::list_value;
-use crate::names::{group_name, is_none};
+use crate::names::group_name;
 use crate::options::{OptionWord, option_of};
 use crate::quoted::quote;
-use crate::reader::Reader;
 use crate::refusal::Refusal;
-use crate::words::{Until, begins, front, past, run};
 use crate::{Cause, Field, Flag, ItemCommand, Piece, Role};
 use std::alloc::Global;
 use syn_base::List;
+use word_reader::{Reader, Until, begins, can_delimit, front, past, run};
+use word_values::is_none;
 
 /// Which patterns an item has so far.
 #[derive(Clone, Copy)]
@@ -98,7 +98,7 @@ fn only_character(word: &[char]) -> Result<char, Cause>
 fn cchar(alloc: Global, reader: &mut Reader<'_>) -> Result<Piece, Refusal>
     ensures { Reads result reader.new (spec.cchar reader.old) }
 {
-    reader.value_start()?;
+    value_start(reader)?;
     let word = reader.run(alloc, Until::Word)?;
     let c = only_character(word.as_slice())?;
     Ok(Piece::Cchar(c))
@@ -132,7 +132,7 @@ fn group_or_none(word: List<char>) -> Result<List<char>, Cause>
 fn matchgroup(alloc: Global, reader: &mut Reader<'_>) -> Result<Piece, Refusal>
     ensures { Reads result reader.new (spec.matchgroup reader.old) }
 {
-    reader.value_start()?;
+    value_start(reader)?;
     let word = reader.run(alloc, Until::Word)?;
     let name = group_or_none(word)?;
     Ok(Piece::Matchgroup(name))

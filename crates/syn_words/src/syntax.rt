@@ -4,16 +4,16 @@ ghost use Rattle.syn_words.specs.Answers.{Reads};
 ghost use Rattle.syn_words.specs.Alone as alone_spec;
 ghost use Rattle.syn_words.specs.Commands as spec;
 
+use crate::arguments::{argument, no_more, word_start};
 use crate::clusters::changes;
 use crate::file_names::file_argument;
 use crate::names::{group_argument, group_name};
 use crate::pieces::pieces;
-use crate::reader::Reader;
 use crate::refusal::Refusal;
-use crate::words::{Until, front, is_over, is_word, past, past_blanks, run};
 use crate::{Cause, ItemCommand, Named, What};
 use std::alloc::Global;
 use syn_base::{List, Memory};
+use word_reader::{Reader, Until, front, is_over, is_word, past, past_blanks, run};
 
 /// The word behind `syntax`.
 #[derive(Clone, Copy)]
@@ -35,7 +35,7 @@ pub(crate) enum Subcommand {
 pub(crate) fn alone(what: What, reader: &mut Reader<'_>) -> Result<What, Refusal>
     ensures { Reads result reader.new (alone_spec.alone what reader.old) }
 {
-    reader.no_more()?;
+    no_more(reader)?;
     Ok(what)
 }
 
@@ -54,7 +54,7 @@ fn ignored_case(word: &[char]) -> Result<bool, Cause>
 fn case_command(alloc: Global, reader: &mut Reader<'_>) -> Result<What, Refusal>
     ensures { Reads result reader.new (spec.case_command reader.old) }
 {
-    let word = reader.argument(alloc)?;
+    let word = argument(alloc, reader)?;
     let ignore = ignored_case(word.as_slice())?;
     alone(What::CaseIgnore(ignore), reader)
 }
@@ -71,7 +71,7 @@ fn keyword_set(word: List<char>) -> Option<List<char>>
 fn iskeyword_command(alloc: Global, reader: &mut Reader<'_>) -> Result<What, Refusal>
     ensures { Reads result reader.new (spec.iskeyword_command reader.old) }
 {
-    let word = reader.argument(alloc)?;
+    let word = argument(alloc, reader)?;
     alone(What::Iskeyword(keyword_set(word)), reader)
 }
 
@@ -118,7 +118,7 @@ fn include_in(alloc: Global, reader: &mut Reader<'_>) -> Result<What, Refusal>
 fn include_command(alloc: Global, reader: &mut Reader<'_>) -> Result<What, Refusal>
     ensures { Reads result reader.new (spec.include_command reader.old) }
 {
-    reader.word_start()?;
+    word_start(reader)?;
     if reader.begins('@') {
         reader.skip_one();
         return include_in(alloc, reader);
@@ -137,7 +137,7 @@ fn is_fromstart(alloc: Global, text: &[char]) -> Result<bool, Memory>
 fn sync_command(alloc: Global, reader: &mut Reader<'_>) -> Result<What, Refusal>
     ensures { Reads result reader.new (spec.sync_command reader.old) }
 {
-    reader.word_start()?;
+    word_start(reader)?;
     let fromstart = is_fromstart(alloc, reader.rest())?;
     reader.skip_command();
     Ok(What::Sync { fromstart })
@@ -264,7 +264,7 @@ fn subcommand_of(word: &[char]) -> Option<Subcommand>
 pub(crate) fn syntax_command(alloc: Global, reader: &mut Reader<'_>) -> Result<What, Refusal>
     ensures { Reads result reader.new (spec.syntax_command reader.old) }
 {
-    let word = reader.argument(alloc)?;
+    let word = argument(alloc, reader)?;
     match subcommand_of(word.as_slice()) {
         None => Err(Refusal::Fault(Cause::UnknownSubcommand)),
         Some(Subcommand::Item(kind)) => item_command(alloc, kind, reader),

@@ -1,9 +1,0 @@
-use Rattle.std.proofs.Common.{◌≡◌, length}
-use Rattle.syn_words.specs.Styles.{part_here}
-use Rattle.syn_words.proofs.styles.part_here.Given as goal
-
-abbrev pub invariant-loop-w : goal.invariant-loop-w
-invariant-loop-w l = part_here l.separator l.left l.rest ≡ part_here l.separator l.part l.text
-
-abbrev pub decreases-loop-w : goal.decreases-loop-w
-decreases-loop-w l = length l.left

@@ -1,0 +1,53 @@
+//! Words that a command needs, and where it may take none.
+ghost use Rattle.std.specs.Prelude.{◌≡◌};
+ghost use Rattle.syn_words.specs.Answers.{Leaves, Reads};
+ghost use Rattle.syn_words.specs.Arguments as spec;
+
+use crate::Cause;
+use crate::refusal::Refusal;
+use std::alloc::Global;
+use syn_base::List;
+use word_reader::{Reader, Until};
+
+/// Goes to where the next word begins.
+pub(crate) fn word_start(reader: &mut Reader<'_>) -> Result<(), Refusal>
+    ensures { Leaves result reader.new (spec.word_start reader.old) }
+{
+    reader.skip_blanks();
+    if reader.is_over() {
+        return Err(Refusal::Fault(Cause::MissingArgument));
+    }
+    Ok(())
+}
+
+/// Goes to where the value behind an equals sign begins.
+pub(crate) fn value_start(reader: &mut Reader<'_>) -> Result<(), Refusal>
+    ensures { Leaves result reader.new (spec.value_start reader.old) }
+{
+    if reader.rest().is_empty() || reader.begins('|') {
+        return Err(Refusal::Fault(Cause::MissingArgument));
+    }
+    if reader.begins(' ') || reader.begins('\t') {
+        return word_start(reader);
+    }
+    Ok(())
+}
+
+/// Takes the next word.
+pub(crate) fn argument(alloc: Global, reader: &mut Reader<'_>) -> Result<List<char>, Refusal>
+    ensures { Reads result reader.new (spec.argument reader.old) }
+{
+    word_start(reader)?;
+    Ok(reader.run(alloc, Until::Word)?)
+}
+
+/// Goes to the end of a command that takes no more words.
+pub(crate) fn no_more(reader: &mut Reader<'_>) -> Result<(), Refusal>
+    ensures { Leaves result reader.new (spec.no_more reader.old) }
+{
+    reader.skip_blanks();
+    if reader.is_over() {
+        return Ok(());
+    }
+    Err(Refusal::Fault(Cause::ExtraText))
+}

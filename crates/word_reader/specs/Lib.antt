@@ -1,0 +1,4 @@
+pub mod Words
+pub mod Vain
+pub mod Delimited
+pub mod Offsets

@@ -1,0 +1,293 @@
+//! Offsets of a pattern.
+ghost use Rattle.std.specs.Prelude.{◌≡◌, ◌≤◌, ◌<◌, ◌+◌, Some, None, IfSome, MatchOption, length, pos, neg_ℤ};
+ghost use Rattle.pattern_items.specs.Numbers as numbers;
+ghost use Rattle.word_reader.specs.Offsets as spec;
+ghost use Rattle.word_reader.specs.Vain.{Keeps};
+
+use crate::words::{begins, behind_first, ends_word, front, is_digit, strip};
+use syntax_set::Offset;
+
+/// Which place an offset moves (`:syn-pattern-offset`).
+#[derive(Clone, Copy)]
+pub(crate) enum Edge {
+    MatchStart,
+    MatchEnd,
+    HighlightStart,
+    HighlightEnd,
+    RegionStart,
+    RegionEnd,
+}
+
+/// What one offset says.
+#[derive(Clone, Copy)]
+pub(crate) enum Adjust {
+    Moves(Edge, Offset),
+    /// `lc`.
+    Leads(u32),
+}
+
+/// What all offsets of a pattern say; none for an edge that no offset moves.
+#[derive(Clone, Copy, Debug, PartialEq, Eq)]
+pub struct Adjusts {
+    pub ms: Option<Offset>,
+    pub me: Option<Offset>,
+    pub hs: Option<Offset>,
+    pub he: Option<Offset>,
+    pub rs: Option<Offset>,
+    pub re: Option<Offset>,
+    /// `lc`, or 0.
+    pub lc: u32,
+}
+
+/// A number, none above 65,535, with one digit more.
+fn with_digit(value: Option<u32>, digit: u32) -> Option<u32>
+    requires digit { digit < 10 }
+    requires small { IfSome value (λ n. n ≤ 65535) }
+    ensures value { result ≡ numbers.with_digit value digit }
+    ensures small { IfSome result (λ n. n ≤ 65535) }
+{
+    match value {
+        None => None,
+        Some(n) => {
+            if n * 10 + digit <= 65535 {
+                Some(n * 10 + digit)
+            } else {
+                None
+            }
+        }
+    }
+}
+
+/// The digits at the front: their number, how many they are, and what follows.
+fn digits(text: &[char]) -> (Option<u32>, usize, &[char])
+    ensures value { result.0 ≡ (numbers.digits text.now).value }
+    ensures small { IfSome result.0 (λ n. n ≤ 65535) }
+    ensures count { result.1 ≡ (numbers.digits text.now).count }
+    ensures rest { result.2.now ≡ (numbers.digits text.now).rest }
+    ensures keeps { Keeps text.now result.2.now }
+{
+    let mut value = Some(0);
+    let mut count: usize = 0;
+    let mut rest = text;
+    while let Some((c, more)) = front(rest) {
+        if !is_digit(c) {
+            break;
+        }
+        value = with_digit(value, c as u32 - 48);
+        count += 1;
+        rest = more;
+    }
+    (value, count, rest)
+}
+
+/// The number at the front, up to 65,535, and what follows.
+fn number(text: &[char]) -> Option<(u32, &[char])>
+    ensures value { MatchOption result
+        (spec.number text.now ≡ None)
+        (λ p. spec.number text.now ≡ Some (p.0, p.1.now)) }
+    ensures small { IfSome result (λ p. p.0 ≤ 65535) }
+    ensures keeps { IfSome result (λ p. Keeps text.now p.1.now) }
+{
+    let (value, count, rest) = digits(text);
+    if count == 0 {
+        return None;
+    }
+    match value {
+        None => None,
+        Some(n) => Some((n, rest)),
+    }
+}
+
+fn offset(from_end: bool, by: i32) -> Offset
+    ensures { result ≡ spec.offset from_end by }
+{
+    Offset { from_end, by }
+}
+
+fn forwards(n: u32) -> i32
+    requires { n ≤ 65535 }
+    ensures { result ≡ pos n }
+{
+    n as i32
+}
+
+fn backwards(n: u32) -> i32
+    requires { n ≤ 65535 }
+    ensures { result ≡ neg_ℤ (pos n) }
+{
+    -(n as i32)
+}
+
+/// An offset behind its `s` or `e`.
+fn signed(from_end: bool, text: &[char]) -> Option<(Offset, &[char])>
+    ensures value { MatchOption result
+        (spec.signed from_end text.now ≡ None)
+        (λ p. spec.signed from_end text.now ≡ Some (p.0, p.1.now)) }
+    ensures keeps { IfSome result (λ p. Keeps text.now p.1.now) }
+{
+    match front(text) {
+        Some(('+', more)) => match number(more) {
+            None => None,
+            Some((n, rest)) => Some((offset(from_end, forwards(n)), rest)),
+        },
+        Some(('-', more)) => match number(more) {
+            None => None,
+            Some((n, rest)) => Some((offset(from_end, backwards(n)), rest)),
+        },
+        _ => Some((offset(from_end, 0), text)),
+    }
+}
+
+fn place(text: &[char]) -> Option<(Offset, &[char])>
+    ensures value { MatchOption result
+        (spec.place text.now ≡ None)
+        (λ p. spec.place text.now ≡ Some (p.0, p.1.now)) }
+    ensures keeps { IfSome result (λ p. Keeps text.now p.1.now) }
+{
+    match front(text) {
+        Some(('s', more)) => signed(false, more),
+        Some(('e', more)) => signed(true, more),
+        _ => None,
+    }
+}
+
+/// The edge that is moved, and what follows its equals sign.
+fn edge_at(text: &[char]) -> Option<(Edge, &[char])>
+    ensures value { MatchOption result
+        (spec.edge_at text.now ≡ None)
+        (λ p. spec.edge_at text.now ≡ Some (p.0, p.1.now)) }
+    ensures keeps { IfSome result (λ p. Keeps text.now p.1.now) }
+{
+    if let Some(rest) = strip("ms=", text) {
+        return Some((Edge::MatchStart, rest));
+    }
+    if let Some(rest) = strip("me=", text) {
+        return Some((Edge::MatchEnd, rest));
+    }
+    if let Some(rest) = strip("hs=", text) {
+        return Some((Edge::HighlightStart, rest));
+    }
+    if let Some(rest) = strip("he=", text) {
+        return Some((Edge::HighlightEnd, rest));
+    }
+    if let Some(rest) = strip("rs=", text) {
+        return Some((Edge::RegionStart, rest));
+    }
+    if let Some(rest) = strip("re=", text) {
+        return Some((Edge::RegionEnd, rest));
+    }
+    None
+}
+
+/// An edge with its place.
+fn moved(text: &[char]) -> Option<(Adjust, &[char])>
+    ensures value { MatchOption result
+        (spec.moved (spec.edge_at text.now) ≡ None)
+        (λ p. spec.moved (spec.edge_at text.now) ≡ Some (p.0, p.1.now)) }
+    ensures keeps { IfSome result (λ p. Keeps text.now p.1.now) }
+{
+    match edge_at(text) {
+        None => None,
+        Some((edge, rest)) => match place(rest) {
+            None => None,
+            Some((offset, left)) => Some((Adjust::Moves(edge, offset), left)),
+        },
+    }
+}
+
+/// The offset at the front, and what follows.
+fn adjust_at(text: &[char]) -> Option<(Adjust, &[char])>
+    ensures value { MatchOption result
+        (spec.adjust_at text.now ≡ None)
+        (λ p. spec.adjust_at text.now ≡ Some (p.0, p.1.now)) }
+    ensures keeps { IfSome result (λ p. Keeps text.now p.1.now) }
+{
+    match strip("lc=", text) {
+        None => moved(text),
+        Some(rest) => match number(rest) {
+            None => None,
+            Some((n, left)) => Some((Adjust::Leads(n), left)),
+        },
+    }
+}
+
+const NO_ADJUSTS: Adjusts = Adjusts {
+    ms: None,
+    me: None,
+    hs: None,
+    he: None,
+    rs: None,
+    re: None,
+    lc: 0,
+};
+
+fn with_move(adjusts: Adjusts, edge: Edge, offset: Offset) -> Adjusts
+    ensures { result ≡ spec.with_move adjusts edge offset }
+{
+    let moved = Some(offset);
+    match edge {
+        Edge::MatchStart => Adjusts {
+            ms: moved,
+            ..adjusts
+        },
+        Edge::MatchEnd => Adjusts {
+            me: moved,
+            ..adjusts
+        },
+        Edge::HighlightStart => Adjusts {
+            hs: moved,
+            ..adjusts
+        },
+        Edge::HighlightEnd => Adjusts {
+            he: moved,
+            ..adjusts
+        },
+        Edge::RegionStart => Adjusts {
+            rs: moved,
+            ..adjusts
+        },
+        Edge::RegionEnd => Adjusts {
+            re: moved,
+            ..adjusts
+        },
+    }
+}
+
+fn with_adjust(adjusts: Adjusts, adjust: Adjust) -> Adjusts
+    ensures { result ≡ spec.with_adjust adjusts adjust }
+{
+    match adjust {
+        Adjust::Moves(edge, offset) => with_move(adjusts, edge, offset),
+        Adjust::Leads(lc) => Adjusts { lc, ..adjusts },
+    }
+}
+
+/// The offsets behind a delimiter, and what follows.
+pub(crate) fn offsets(text: &[char]) -> Option<(Adjusts, &[char])>
+    ensures value { MatchOption result
+        (spec.offsets text.now ≡ None)
+        (λ p. spec.offsets text.now ≡ Some (p.0, p.1.now)) }
+    ensures keeps { IfSome result (λ p. Keeps text.now p.1.now) }
+{
+    let mut adjusts = NO_ADJUSTS;
+    if ends_word(text) {
+        return Some((adjusts, text));
+    }
+    let mut turns = text;
+    let mut rest = text;
+    while let Some((_, fewer)) = front(turns) {
+        let Some((found, left)) = adjust_at(rest) else {
+            return None;
+        };
+        adjusts = with_adjust(adjusts, found);
+        if ends_word(left) {
+            return Some((adjusts, left));
+        }
+        if !begins(',', left) {
+            return None;
+        }
+        rest = behind_first(left);
+        turns = fewer;
+    }
+    None
+}

@@ -1,0 +1,300 @@
+//! Runs of characters, and comparing words.
+ghost use Rattle.std.specs.Prelude.{◌≡◌, [], ◌∷◌, Some, None, IfOk, IfSome, MatchOption};
+ghost use Rattle.word_reader.specs.Vain.{Keeps};
+ghost use Rattle.word_reader.specs.Words as spec;
+
+use std::alloc::Global;
+use syn_base::{List, Memory};
+
+/// Where a run of characters ends.
+#[derive(Clone, Copy, Debug, PartialEq, Eq)]
+pub enum Until {
+    /// At a blank or a bar.
+    Word,
+    /// Also at an equals sign.
+    Key,
+    /// Also at a comma.
+    ListName,
+    /// At what isn't a letter, a digit or an underscore.
+    OptionName,
+}
+
+/// The first element, and what follows it.
+pub fn front<T: Copy>(text: &[T]) -> Option<(T, &[T])>
+    ensures { MatchOption result (text.now ≡ []) (λ p. text.now ≡ p.0 ∷ p.1.now) }
+{
+    match text.split_first() {
+        None => None,
+        Some((c, rest)) => Some((*c, rest)),
+    }
+}
+
+/// Whether the character is a space or a tab.
+pub fn is_blank(c: char) -> bool
+    ensures { result ≡ spec.is_blank c }
+{
+    c == ' ' || c == '\t'
+}
+
+/// Whether the character is an ASCII letter.
+pub fn is_letter(c: char) -> bool
+    ensures { result ≡ spec.is_letter c }
+{
+    ('A' <= c && c <= 'Z') || ('a' <= c && c <= 'z')
+}
+
+/// Whether the character is an ASCII digit.
+pub fn is_digit(c: char) -> bool
+    ensures { result ≡ spec.is_digit c }
+{
+    '0' <= c && c <= '9'
+}
+
+pub(crate) fn stops(until: Until, c: char) -> bool
+    ensures { result ≡ spec.stops until c }
+{
+    match until {
+        Until::Word => is_blank(c) || c == '|',
+        Until::Key => is_blank(c) || c == '|' || c == '=',
+        Until::ListName => is_blank(c) || c == '|' || c == ',',
+        Until::OptionName => !(is_letter(c) || is_digit(c) || c == '_'),
+    }
+}
+
+/// The run at the front of a text.
+pub fn run(alloc: Global, until: Until, text: &[char]) -> Result<List<char>, Memory>
+    ensures { IfOk result (λ word. word ≡ spec.run until text.now) }
+{
+    let mut word = List::new(alloc);
+    for c in text {
+        if stops(until, *c) {
+            break;
+        }
+        word.push(*c)?;
+    }
+    Ok(word)
+}
+
+/// What follows that run.
+pub fn past(until: Until, text: &[char]) -> &[char]
+    ensures { result.now ≡ spec.past until text.now }
+{
+    let mut rest = text;
+    while let Some((c, more)) = front(rest) {
+        if stops(until, c) {
+            break;
+        }
+        rest = more;
+    }
+    rest
+}
+
+/// What follows the blanks at the front of a text.
+pub fn past_blanks(text: &[char]) -> &[char]
+    ensures { result.now ≡ spec.past_blanks text.now }
+{
+    let mut rest = text;
+    while let Some((c, more)) = front(rest) {
+        if !is_blank(c) {
+            break;
+        }
+        rest = more;
+    }
+    rest
+}
+
+/// What is left behind a command of whose words nothing is asked.
+pub(crate) fn past_command(may_begin: bool, text: &[char]) -> &[char]
+    ensures { result.now ≡ spec.past_command may_begin text.now }
+{
+    let mut may_begin = may_begin;
+    let mut rest = text;
+    while let Some((c, more)) = front(rest) {
+        if c == '|' || (may_begin && c == '"') {
+            break;
+        }
+        may_begin = is_blank(c);
+        rest = more;
+    }
+    rest
+}
+
+/// Whether a text begins with this character.
+pub fn begins(d: char, text: &[char]) -> bool
+    ensures { result ≡ spec.begins d text.now }
+{
+    match front(text) {
+        None => false,
+        Some((c, _)) => c == d,
+    }
+}
+
+/// What follows the first character.
+pub fn behind_first(text: &[char]) -> &[char]
+    ensures { result.now ≡ spec.behind_first text.now }
+{
+    match front(text) {
+        None => text,
+        Some((_, rest)) => rest,
+    }
+}
+
+/// Whether a word ends here.
+pub(crate) fn ends_word(text: &[char]) -> bool
+    ensures { result ≡ spec.ends_word text.now }
+{
+    match front(text) {
+        None => true,
+        Some((c, _)) => stops(Until::Word, c),
+    }
+}
+
+/// Whether no word begins here.
+pub fn is_over(text: &[char]) -> bool
+    ensures { result ≡ spec.is_over text.now }
+{
+    match front(text) {
+        None => true,
+        Some((c, _)) => c == '|' || c == '"',
+    }
+}
+
+fn lower(c: char) -> u32
+    ensures { result ≡ spec.lower c }
+{
+    if 'A' <= c && c <= 'Z' {
+        c as u32 + 32
+    } else {
+        c as u32
+    }
+}
+
+fn lower_byte(c: u8) -> u32
+    ensures { result ≡ spec.lower c }
+{
+    if b'A' <= c && c <= b'Z' {
+        c as u32 + 32
+    } else {
+        c as u32
+    }
+}
+
+fn alike(ignore: bool, c: char, d: u8) -> bool
+    ensures { result ≡ spec.alike ignore c d }
+{
+    if ignore {
+        lower(c) == lower_byte(d)
+    } else {
+        c as u32 == d as u32
+    }
+}
+
+fn same(ignore: bool, text: &[char], word: &[u8]) -> bool
+    ensures { result ≡ spec.same ignore text.now word.now }
+{
+    let mut rest = text;
+    let mut left = word;
+    while let Some((d, fewer)) = front(left) {
+        match front(rest) {
+            None => return false,
+            Some((c, more)) => {
+                if !alike(ignore, c, d) {
+                    return false;
+                }
+                rest = more;
+                left = fewer;
+            }
+        }
+    }
+    match front(rest) {
+        None => true,
+        Some(_) => false,
+    }
+}
+
+/// Whether a text is this ASCII word.
+pub fn is_word(text: &[char], word: &str) -> bool
+    ensures { result ≡ spec.is_word text.now word.now }
+{
+    same(false, text, word.as_bytes())
+}
+
+/// Whether a text is this ASCII word, case ignored.
+pub fn is_word_in_any_case(text: &[char], word: &str) -> bool
+    ensures { result ≡ spec.is_word_in_any_case text.now word.now }
+{
+    same(true, text, word.as_bytes())
+}
+
+fn bang(least: usize, c: char, rest: &[char]) -> Option<bool>
+    ensures { result ≡ spec.bang least c rest.now }
+{
+    if least == 0 && c == '!' && rest.is_empty() {
+        Some(true)
+    } else {
+        None
+    }
+}
+
+fn abbreviates_bytes(least: usize, full: &[u8], text: &[char]) -> Option<bool>
+    ensures { result ≡ spec.abbreviates least full.now text.now }
+{
+    let mut least = least;
+    let mut full = full;
+    let mut rest = text;
+    while let Some((c, more)) = front(rest) {
+        match front(full) {
+            None => return bang(least, c, more),
+            Some((f, fuller)) => {
+                if c as u32 != f as u32 {
+                    return bang(least, c, more);
+                }
+                least = least.saturating_sub(1);
+                full = fuller;
+                rest = more;
+            }
+        }
+    }
+    if least == 0 { Some(false) } else { None }
+}
+
+/// Whether a text is this ASCII word, cut down to no fewer than `least` letters; if so, whether a
+/// `!` follows.
+pub fn abbreviates(least: usize, full: &str, text: &[char]) -> Option<bool>
+    ensures { result ≡ spec.abbreviates least full.now text.now }
+{
+    abbreviates_bytes(least, full.as_bytes(), text)
+}
+
+fn strip_bytes<'a>(word: &[u8], text: &'a [char]) -> Option<&'a [char]>
+    ensures rest { MatchOption result
+        (spec.strip word.now text.now ≡ None)
+        (λ rest. spec.strip word.now text.now ≡ Some rest.now) }
+    ensures keeps { IfSome result (λ rest. Keeps text.now rest.now) }
+{
+    let mut rest = text;
+    let mut left = word;
+    while let Some((w, fewer)) = front(left) {
+        match front(rest) {
+            None => return None,
+            Some((c, more)) => {
+                if c as u32 != w as u32 {
+                    return None;
+                }
+                rest = more;
+                left = fewer;
+            }
+        }
+    }
+    Some(rest)
+}
+
+/// What follows this ASCII word at the front of a text.
+pub fn strip<'a>(word: &str, text: &'a [char]) -> Option<&'a [char]>
+    ensures rest { MatchOption result
+        (spec.strip word.now text.now ≡ None)
+        (λ rest. spec.strip word.now text.now ≡ Some rest.now) }
+    ensures keeps { IfSome result (λ rest. Keeps text.now rest.now) }
+{
+    strip_bytes(word.as_bytes(), text)
+}

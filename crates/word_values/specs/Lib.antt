@@ -1,0 +1,5 @@
+pub mod GroupNames
+pub mod Parts
+pub mod Paths
+pub mod StyleWords
+pub mod CommandNames
