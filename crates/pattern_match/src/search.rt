@@ -1,5 +1,5 @@
 //! The search for the first way of a part of a pattern.
-ghost use Rattle.std.specs.Prelude.{◌≡◌, ◌≤◌, ◌<◌, ◌^◌, ◌+◌, IfOk, OnOk, List, ◌∷◌, [], pos, ◌-ℤ◌};
+ghost use Rattle.std.specs.Prelude.{◌≡◌, ◌≤◌, ◌<◌, ◌^◌, ◌+◌, IfOk, OnOk, List, ◌∷◌, [], Some, None, pos, ◌-ℤ◌};
 ghost use Rattle.syn_base.specs.Looked.{one_line};
 ghost use Rattle.vim_pattern.specs.GroupNumbers.{HasNumbers};
 ghost use Rattle.match_rules.specs.Ways.{IsPlaceOf};
@@ -49,6 +49,41 @@ struct Look<'p> {
     part: &'p Step,
     behind: Option<Behind>,
     ending: Ending,
+}
+
+impl<'p> Look<'p> {
+    /// A look ahead (`/\@=`, `/\@!`).
+    fn ahead(part: &'p Step, not: bool) -> Look<'p>
+        ensures { result ≡ record { part = part.entry; behind = None; ending = Ending.Look not } }
+    {
+        Look {
+            part,
+            behind: None,
+            ending: Ending::Look { not },
+        }
+    }
+
+    /// A look behind (`/\@<=`, `/\@<!`).
+    fn behind(part: &'p Step, not: bool, limit: Behind) -> Look<'p>
+        ensures { result ≡ record { part = part.entry; behind = Some limit; ending = Ending.Look not } }
+    {
+        Look {
+            part,
+            behind: Some(limit),
+            ending: Ending::Look { not },
+        }
+    }
+
+    /// A part that isn't entered again (`/\@>`).
+    fn whole(part: &'p Step) -> Look<'p>
+        ensures { result ≡ record { part = part.entry; behind = None; ending = Ending.Whole } }
+    {
+        Look {
+            part,
+            behind: None,
+            ending: Ending::Whole,
+        }
+    }
 }
 
 /// Whether a way that stands at a place is wanted: at that one, or at any.
@@ -164,32 +199,14 @@ fn visit<'p, T: Lines>(
         }
         Step::And(a, b) => {
             ways.put_first(Item::Visit(b))?;
-            follow_look(
-                lines,
-                context,
-                ways,
-                Look {
-                    part: a,
-                    behind: None,
-                    ending: Ending::Look { not: false },
-                },
-                spent,
-            )
+            follow_look(lines, context, ways, Look::ahead(a, false), spent)
         }
         Step::Group(part, number) => {
-            let from = ways.place();
-            ways.put_first(Item::Close {
-                number: *number,
-                from,
-            })?;
+            open_group(ways, *number)?;
             Ok(Went::Does(Item::Visit(part)))
         }
         Step::External(part, number) => {
-            let from = ways.place();
-            ways.put_first(Item::CloseExternal {
-                number: *number,
-                from,
-            })?;
+            open_external(ways, *number)?;
             Ok(Went::Does(Item::Visit(part)))
         }
         Step::Repeat {
@@ -203,40 +220,36 @@ fn visit<'p, T: Lines>(
             most: *most,
             lazy: *lazy,
         }))),
-        Step::Ahead { part, not } => follow_look(
-            lines,
-            context,
-            ways,
-            Look {
-                part,
-                behind: None,
-                ending: Ending::Look { not: *not },
-            },
-            spent,
-        ),
-        Step::Before { part, not, limit } => follow_look(
-            lines,
-            context,
-            ways,
-            Look {
-                part,
-                behind: Some(*limit),
-                ending: Ending::Look { not: *not },
-            },
-            spent,
-        ),
-        Step::Whole(part) => follow_look(
-            lines,
-            context,
-            ways,
-            Look {
-                part,
-                behind: None,
-                ending: Ending::Whole,
-            },
-            spent,
-        ),
+        Step::Ahead { part, not } => {
+            follow_look(lines, context, ways, Look::ahead(part, *not), spent)
+        }
+        Step::Before { part, not, limit } => {
+            follow_look(
+                lines,
+                context,
+                ways,
+                Look::behind(part, *not, *limit),
+                spent,
+            )
+        }
+        Step::Whole(part) => follow_look(lines, context, ways, Look::whole(part), spent),
     }
+}
+
+/// A counted group begins on the present way: it closes behind its part.
+fn open_group<'p>(ways: &mut Threads<Item<'p>>, number: u8) -> Result<(), Memory>
+    ensures { OnOk result (ways.new ≡ record ways.old { here = record ways.old.here { todo = Item.Close number ways.old.here.way.at ∷ ways.old.here.todo } }) }
+{
+    let from = ways.place();
+    ways.put_first(Item::Close { number, from })
+}
+
+/// An external group begins on the present way.
+fn open_external<'p>(ways: &mut Threads<Item<'p>>, number: u8) -> Result<(), Memory>
+    ensures { OnOk result (ways.new ≡ record ways.old { here = record ways.old.here { todo = Item.CloseExternal number ways.old.here.way.at ∷ ways.old.here.todo } }) }
+{
+    let from = ways.place();
+    ways.put_first(Item::CloseExternal { number, from })
 }
 
 /// Searches for the first way of a part, and goes on behind it.

@@ -47,17 +47,17 @@ visit-returns-in_ok-put_aside_with-in-Or g t c =
     follow_or x (shape_of c.args.node.now) c.args.ways.now c.put_aside_with.new.ways c.args.spent.now c.requires.numbers c.requires.within c.deref-in-Or-2.result c.deref-in-Or.result
     (rw (c.in-Or.is, c.deref-in-Or-2.ensures, c.deref-in-Or.ensures) refl) c.in_ok-put_aside_with-in-Or.ensures
 
-pub visit-returns-in_ok-put_first-in-Group : goal.visit-returns-in_ok-put_first-in-Group
-visit-returns-in_ok-put_first-in-Group g t c =
+pub visit-returns-in_ok-open_group-in-Group : goal.visit-returns-in_ok-open_group-in-Group
+visit-returns-in_ok-open_group-in-Group g t c =
     let x : AnyContext = context_in (g.T.Lines.lines c.args.lines.now) c.args.context.now in
-    follow_group x (shape_of c.args.node.now) c.args.ways.now c.put_first-in-Group.new.self c.args.spent.now c.requires.numbers c.requires.within c.deref-in-Group.result c.in-Group.number c.place-from.result
-    (rw (c.in-Group.is, c.deref-in-Group.ensures) refl) c.place-from.ensures c.in_ok-put_first-in-Group.ensures
+    follow_group x (shape_of c.args.node.now) c.args.ways.now c.open_group.new.ways c.args.spent.now c.requires.numbers c.requires.within c.deref-in-Group.result c.in-Group.number c.args.ways.now.here.way.at
+    (rw (c.in-Group.is, c.deref-in-Group.ensures) refl) refl c.in_ok-open_group-in-Group.ensures
 
-pub visit-returns-in_ok-put_first-in-External : goal.visit-returns-in_ok-put_first-in-External
-visit-returns-in_ok-put_first-in-External g t c =
+pub visit-returns-in_ok-open_external-in-External : goal.visit-returns-in_ok-open_external-in-External
+visit-returns-in_ok-open_external-in-External g t c =
     let x : AnyContext = context_in (g.T.Lines.lines c.args.lines.now) c.args.context.now in
-    follow_external x (shape_of c.args.node.now) c.args.ways.now c.put_first-in-External.new.self c.args.spent.now c.requires.numbers c.requires.within c.deref-in-External.result c.in-External.number c.place-from-in-External.result
-    (rw (c.in-External.is, c.deref-in-External.ensures) refl) c.place-from-in-External.ensures c.in_ok-put_first-in-External.ensures
+    follow_external x (shape_of c.args.node.now) c.args.ways.now c.open_external.new.ways c.args.spent.now c.requires.numbers c.requires.within c.deref-in-External.result c.in-External.number c.args.ways.now.here.way.at
+    (rw (c.in-External.is, c.deref-in-External.ensures) refl) refl c.in_ok-open_external-in-External.ensures
 
 pub visit-returns-in-Repeat : goal.visit-returns-in-Repeat
 visit-returns-in-Repeat g t c =
@@ -70,14 +70,14 @@ visit-returns-in_ok-put_first-in-And g t c =
     let x : AnyContext = context_in (g.T.Lines.lines c.args.lines.now) c.args.context.now in
     let k : shape_of c.args.node.now ≡ and (shape_of c.deref-in-And-2.result.now) (shape_of c.deref-in-And.result.now) = rw (c.in-And.is, c.deref-in-And-2.ensures, c.deref-in-And.ensures) refl in
     and_step x (shape_of c.args.node.now) c.deref-in-And-2.result c.deref-in-And.result k c.requires.numbers c.args.ways.now c.put_first-in-And.new.self c.in_ok-put_first-in-And.ensures
-    c.follow_look.new.ways c.args.spent.now c.follow_look.new.spent c.follow_look.result c.follow_look.ensures
+    c.follow_look.new.ways c.args.spent.now c.follow_look.new.spent c.follow_look.result (rw c.ahead.ensures at c.follow_look.ensures)
 
 pub visit-returns-in-Before : goal.visit-returns-in-Before
 visit-returns-in-Before g t c =
     let x : AnyContext = context_in (g.T.Lines.lines c.args.lines.now) c.args.context.now in
     rw c.in-Before.is
     (IfOk-weaker c.follow_look-in-Before.result _ _
-    (λ went h. higher x _ _ c.args.ways.now c.follow_look-in-Before.new.ways c.args.spent.now c.follow_look-in-Before.new.spent went (rw c.deref-in-Before.ensures at h))
+    (λ went h. higher x _ _ c.args.ways.now c.follow_look-in-Before.new.ways c.args.spent.now c.follow_look-in-Before.new.spent went (rw (c.behind.ensures, c.deref-in-Before.ensures) at h))
     c.follow_look-in-Before.ensures)
 
 pub visit-returns-in-Ahead : goal.visit-returns-in-Ahead
@@ -85,7 +85,7 @@ visit-returns-in-Ahead g t c =
     let x : AnyContext = context_in (g.T.Lines.lines c.args.lines.now) c.args.context.now in
     rw c.in-Ahead.is
     (IfOk-weaker c.follow_look-in-Ahead.result _ _
-    (λ went h. higher x _ _ c.args.ways.now c.follow_look-in-Ahead.new.ways c.args.spent.now c.follow_look-in-Ahead.new.spent went (rw c.deref-in-Ahead.ensures at h))
+    (λ went h. higher x _ _ c.args.ways.now c.follow_look-in-Ahead.new.ways c.args.spent.now c.follow_look-in-Ahead.new.spent went (rw (c.ahead-in-Ahead.ensures, c.deref-in-Ahead.ensures) at h))
     c.follow_look-in-Ahead.ensures)
 
 pub visit-returns-in-Whole : goal.visit-returns-in-Whole
@@ -93,7 +93,7 @@ visit-returns-in-Whole g t c =
     let x : AnyContext = context_in (g.T.Lines.lines c.args.lines.now) c.args.context.now in
     rw c.in-Whole.is
     (IfOk-weaker c.follow_look-in-Whole.result _ _
-    (λ went h. higher x _ _ c.args.ways.now c.follow_look-in-Whole.new.ways c.args.spent.now c.follow_look-in-Whole.new.spent went (rw c.deref-in-Whole.ensures at h))
+    (λ went h. higher x _ _ c.args.ways.now c.follow_look-in-Whole.new.ways c.args.spent.now c.follow_look-in-Whole.new.spent went (rw (c.whole.ensures, c.deref-in-Whole.ensures) at h))
     c.follow_look-in-Whole.ensures)
 
 pub step-returns-in-AfterTurn : goal.step-returns-in-AfterTurn
