@@ -15,11 +15,12 @@ ghost use Rattle.pattern_match.specs.Search.{IsStep, marks_first, IsSearch, want
 use crate::behind::Starts;
 use crate::context::Context;
 use crate::item::{Item, Turns, Went};
+use crate::parts::{follow_both, follow_either};
 use crate::spent::Spent;
 use crate::step::Step;
 use crate::threads::Threads;
 use crate::tick::tick;
-use crate::turns::{after_turn, count, put_aside_with, turn};
+use crate::turns::{after_turn, count, turn};
 use pattern_items::Behind;
 use syn_base::{Lines, Looked, Memory, Place};
 
@@ -189,14 +190,8 @@ fn visit<'p, T: Lines>(
     match node {
         Step::Empty => Ok(Went::GoesOn),
         Step::One(test) => tick(lines, context, ways, test, spent),
-        Step::Seq(a, b) => {
-            ways.put_first(Item::Visit(b))?;
-            Ok(Went::Does(Item::Visit(a)))
-        }
-        Step::Or(a, b) => {
-            put_aside_with(ways, Item::Visit(b))?;
-            Ok(Went::Does(Item::Visit(a)))
-        }
+        Step::Seq(a, b) => follow_both(lines, context, ways, a, b, spent),
+        Step::Or(a, b) => follow_either(lines, context, ways, a, b, spent),
         Step::And(a, b) => {
             ways.put_first(Item::Visit(b))?;
             follow_look(lines, context, ways, Look::ahead(a, false), spent)

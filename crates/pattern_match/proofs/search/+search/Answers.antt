@@ -17,7 +17,7 @@ use Rattle.pattern_match.specs.Search.{IsSearch, HasEnded, part_marks, wanted_ma
 use Rattle.pattern_match.proofs.Leading.{silent, led, leads_on}
 use Rattle.pattern_match.proofs.Looping.{Running, stepped, taken, passed, one_pending, next_one, started}
 use Rattle.pattern_match.proofs.Stepping.{atom_step}
-use Rattle.pattern_match.proofs.Visiting.{follow_empty, follow_seq, follow_or, follow_group, follow_external, follow_repeat, look_goes, look_over, part-kept, higher, and_step}
+use Rattle.pattern_match.proofs.Visiting.{follow_empty, follow_group, follow_external, follow_repeat, look_goes, look_over, part-kept, higher, and_step}
 use Rattle.pattern_match.proofs.LookingBehind.{behind_ended, behind_over, start_found, start_absent, start_over, start_marks, copy_dropped, starts_over}
 use Rattle.pattern_match.proofs.search.+search.Goals as goal
 use Rattle.pattern_match.proofs.search.+search.Goals.{follow_look-in-None+in_ok-sought-in-None, follow_look-in-Some+in_ok-sought-in-Some, follow_look-in-Found, follow_look-in-Absent, follow_look-in-TooCostly, search-in-Does+in_ok-went-in-Does, search-in-GoesOn+in-Some, search-in-GoesOn+in-None-2, search-in-Ends+else-pending-floor}
@@ -35,17 +35,13 @@ visit-returns-in-One g t c =
     (λ went h. atom_step x (atom_of c.in-One.test) c.args.ways.now c.tick.new.ways c.args.spent.now c.tick.new.spent 0 went h)
     c.tick.ensures)
 
-pub visit-returns-in_ok-put_first-in-Seq : goal.visit-returns-in_ok-put_first-in-Seq
-visit-returns-in_ok-put_first-in-Seq g t c =
-    let x : AnyContext = context_in (g.T.Lines.lines c.args.lines.now) c.args.context.now in
-    follow_seq x (shape_of c.args.node.now) c.args.ways.now c.put_first.new.self c.args.spent.now c.requires.numbers c.requires.within c.deref-in-Seq.result c.deref.result
-    (rw (c.in-Seq.is, c.deref-in-Seq.ensures, c.deref.ensures) refl) c.in_ok-put_first-in-Seq.ensures
+pub visit-returns-in-Seq : goal.visit-returns-in-Seq
+visit-returns-in-Seq g t c =
+    rw c.in-Seq.is (rw (c.deref-in-Seq.ensures, c.deref.ensures) at c.follow_both.ensures)
 
-pub visit-returns-in_ok-put_aside_with-in-Or : goal.visit-returns-in_ok-put_aside_with-in-Or
-visit-returns-in_ok-put_aside_with-in-Or g t c =
-    let x : AnyContext = context_in (g.T.Lines.lines c.args.lines.now) c.args.context.now in
-    follow_or x (shape_of c.args.node.now) c.args.ways.now c.put_aside_with.new.ways c.args.spent.now c.requires.numbers c.requires.within c.deref-in-Or-2.result c.deref-in-Or.result
-    (rw (c.in-Or.is, c.deref-in-Or-2.ensures, c.deref-in-Or.ensures) refl) c.in_ok-put_aside_with-in-Or.ensures
+pub visit-returns-in-Or : goal.visit-returns-in-Or
+visit-returns-in-Or g t c =
+    rw c.in-Or.is (rw (c.deref-in-Or-2.ensures, c.deref-in-Or.ensures) at c.follow_either.ensures)
 
 pub visit-returns-in_ok-open_group-in-Group : goal.visit-returns-in_ok-open_group-in-Group
 visit-returns-in_ok-open_group-in-Group g t c =
@@ -69,7 +65,7 @@ pub visit-returns-in_ok-put_first-in-And : goal.visit-returns-in_ok-put_first-in
 visit-returns-in_ok-put_first-in-And g t c =
     let x : AnyContext = context_in (g.T.Lines.lines c.args.lines.now) c.args.context.now in
     let k : shape_of c.args.node.now ≡ and (shape_of c.deref-in-And-2.result.now) (shape_of c.deref-in-And.result.now) = rw (c.in-And.is, c.deref-in-And-2.ensures, c.deref-in-And.ensures) refl in
-    and_step x (shape_of c.args.node.now) c.deref-in-And-2.result c.deref-in-And.result k c.requires.numbers c.args.ways.now c.put_first-in-And.new.self c.in_ok-put_first-in-And.ensures
+    and_step x (shape_of c.args.node.now) c.deref-in-And-2.result c.deref-in-And.result k c.requires.numbers c.args.ways.now c.put_first.new.self c.in_ok-put_first-in-And.ensures
     c.follow_look.new.ways c.args.spent.now c.follow_look.new.spent c.follow_look.result (rw c.ahead.ensures at c.follow_look.ensures)
 
 pub visit-returns-in-Before : goal.visit-returns-in-Before
