@@ -17,6 +17,7 @@ use Rattle.match_rules.proofs.TurnLaws.{after_turn-took}
 use Rattle.pattern_match.specs.declared.item.Item.{Item}
 use Rattle.pattern_match.specs.declared.item.Item.TheVariants.{Visit, Count, Turn, AfterTurn}
 use Rattle.pattern_match.specs.declared.item.Turns.{Turns}
+use Rattle.pattern_match.specs.declared.item.Next.TheVariants as at_once
 use Rattle.pattern_match.specs.declared.item.Went.{Went}
 use Rattle.pattern_match.specs.declared.item.Went.TheVariants.{GoesOn, Does, Ends, TooCostly as NoMore}
 use Rattle.pattern_match.specs.declared.spent.Spent.{Spent}
@@ -75,14 +76,14 @@ module _ (x : Context) (i j : Bor Step) (old : Ways Item) where
         followed-assoc (visits x (shape_of i.now) old.here.way) (visits x (shape_of j.now)) (marks_with x old.here.todo)
         ∙ ap (λ s. followed (visits x s old.here.way) behind_it) k
 
-    pub both_ticked : HasNumbers (shape_of j.now) → IsTick x a old mid earlier between GoesOn → Goes x (height (seq (shape_of i.now) (shape_of j.now))) both old mid earlier between (Does (Visit j))
+    pub both_ticked : HasNumbers (shape_of j.now) → IsTick x a old mid earlier between GoesOn → Goes x (height (seq (shape_of i.now) (shape_of j.now))) both old mid earlier between (Does (at_once.Visit j))
     both_ticked numbers t =
         let high = height (seq (shape_of i.now) (shape_of j.now)) in
         let told = t.1.0 in
         let all : both ≡ Tick (lines_looked x old.here.way a) ∷ marks_first x (Visit j) mid = both_marks ∙ behind x a old mid earlier between behind_it t.0 told.place_is ∙ rw told.ways refl in
         ticked_goes x high both (marks_first x (Visit j) mid) (lines_looked x old.here.way a) old mid mid earlier between between all told.spent (rw told.ways refl) (rw told.ways refl)
-        (λ p. rw told.ways (way_behind-kept x.text old.here.way t.0 a p t.1.1)) (Does (Visit j))
-        (silent x high (marks_first x (Visit j) mid) mid mid between (Does (Visit j)) told.within (leads_do x high mid (Visit j) numbers (omega arith)))
+        (λ p. rw told.ways (way_behind-kept x.text old.here.way t.0 a p t.1.1)) (Does (at_once.Visit j))
+        (silent x high (marks_first x (Visit j) mid) mid mid between (Does (at_once.Visit j)) told.within (leads_do x high mid (at_once.Visit j) numbers (omega arith)))
 
     pub both_over : (went : Went) → IsTick x a old mid earlier between went → (went ≡ GoesOn → ⊥) → IsStep x (height (seq (shape_of i.now) (shape_of j.now))) both old mid earlier between went
     both_over GoesOn t h = absurd (h refl)
@@ -98,12 +99,12 @@ module _ (x : Context) (i j : Bor Step) (old : Ways Item) where
     either_marks : either ≡ Tick looked ∷ marks_first x (Visit j) old
     either_marks = ap (λ marks. followed (marks ++ visits x (shape_of j.now) old.here.way) (marks_with x old.here.todo)) fails
 
-    pub either_passed : HasNumbers (shape_of j.now) → (later : Spent) → later ≡ spent_on earlier (Tick looked ∷ []) → earlier.cost < earlier.budget → Goes x (height (or (shape_of i.now) (shape_of j.now))) either old old earlier later (Does (Visit j))
+    pub either_passed : HasNumbers (shape_of j.now) → (later : Spent) → later ≡ spent_on earlier (Tick looked ∷ []) → earlier.cost < earlier.budget → Goes x (height (or (shape_of i.now) (shape_of j.now))) either old old earlier later (Does (at_once.Visit j))
     either_passed numbers later spent within =
         let high = height (or (shape_of i.now) (shape_of j.now)) in
         let low : later.cost ≤ later.budget = rw spent (omega arith) in
-        ticked_goes x high either (marks_first x (Visit j) old) looked old old old earlier later later either_marks spent refl refl (λ p. p) (Does (Visit j))
-        (silent x high (marks_first x (Visit j) old) old old later (Does (Visit j)) low (leads_do x high old (Visit j) numbers (omega arith)))
+        ticked_goes x high either (marks_first x (Visit j) old) looked old old old earlier later later either_marks spent refl refl (λ p. p) (Does (at_once.Visit j))
+        (silent x high (marks_first x (Visit j) old) old old later (Does (at_once.Visit j)) low (leads_do x high old (at_once.Visit j) numbers (omega arith)))
 
     pub either_over : earlier.budget ≤ earlier.cost → IsOver either earlier
     either_over h = record { made = Tick looked ∷ []; left = marks_first x (Visit j) old; all = either_marks; over = omega arith }

@@ -13,7 +13,7 @@ ghost use Rattle.pattern_match.specs.Search.{IsStep};
 
 use crate::atoms::try_atom;
 use crate::context::Context;
-use crate::item::{Item, Went};
+use crate::item::{Item, Next, Went};
 use crate::spent::Spent;
 use crate::step::{Step, first_test};
 use crate::threads::Threads;
@@ -59,12 +59,12 @@ pub(crate) fn follow_both<'p, T: Lines>(
 {
     match first {
         Step::One(test) => match tick(lines, context, ways, test, spent)? {
-            Went::GoesOn => Ok(Went::Does(Item::Visit(second))),
+            Went::GoesOn => Ok(Went::Does(Next::Visit(second))),
             went => Ok(went),
         },
         _ => {
             ways.put_first(Item::Visit(second))?;
-            Ok(Went::Does(Item::Visit(first)))
+            Ok(Went::Does(Next::Visit(first)))
         }
     }
 }
@@ -88,11 +88,11 @@ pub(crate) fn follow_either<'p, T: Lines>(
 {
     let Some(looked) = fails_at_once(lines, context, ways, first) else {
         put_aside_with(ways, Item::Visit(second))?;
-        return Ok(Went::Does(Item::Visit(first)));
+        return Ok(Went::Does(Next::Visit(first)));
     };
     if spent.cost >= spent.budget {
         return Ok(Went::TooCostly);
     }
     spent.tick(looked);
-    Ok(Went::Does(Item::Visit(second)))
+    Ok(Went::Does(Next::Visit(second)))
 }

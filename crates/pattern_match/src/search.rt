@@ -10,11 +10,11 @@ ghost use Rattle.pattern_match.specs.Steps.{shape_of};
 ghost use Rattle.pattern_match.specs.Threads.{Thread};
 ghost use Rattle.pattern_match.specs.declared.item.Item.{Item as AnyItem};
 ghost use Rattle.pattern_match.specs.Heights.{height, height_of, IsNumbered};
-ghost use Rattle.pattern_match.specs.Search.{IsStep, marks_first, IsSearch, wanted_marks, is_wanted, look_marks, going, behind_look, IsLed};
+ghost use Rattle.pattern_match.specs.Search.{IsStep, marks_first, item_of, IsSearch, wanted_marks, is_wanted, look_marks, going, behind_look, IsLed};
 
 use crate::behind::Starts;
 use crate::context::Context;
-use crate::item::{Item, Turns, Went};
+use crate::item::{Item, Next, Turns, Went};
 use crate::parts::{follow_both, follow_either};
 use crate::spent::Spent;
 use crate::step::Step;
@@ -116,12 +116,12 @@ pub(crate) fn search<'p, T: Lines>(
 {
     let floor = ways.pending();
     ways.drop_all();
-    let mut went = Went::Does(Item::Visit(part));
+    let mut went = Went::Does(Next::Visit(part));
     for _ in 0..u64::MAX {
         went = match went {
-            Went::Does(item) => step(lines, context, ways, item, spent)?,
+            Went::Does(next) => follow(lines, context, ways, next, spent)?,
             Went::GoesOn => match ways.take_first() {
-                Some(item) => Went::Does(item),
+                Some(item) => step(lines, context, ways, item, spent)?,
                 None if is_wanted(wanted, ways.place()) => {
                     ways.forget_to(floor);
                     return Ok(Sought::Found);
@@ -142,7 +142,6 @@ pub(crate) fn search<'p, T: Lines>(
 }
 
 /// Does one thing on the present way.
-#[cycle(search)]
 fn step<'p, T: Lines>(
     lines: &T,
     context: &Context<'_>,
@@ -157,8 +156,8 @@ fn step<'p, T: Lines>(
         IfOk result (IsStep x (height_of item.entry) (marks_first x item.entry ways.old) ways.old ways.new spent.old spent.new) }
 {
     match item {
-        Item::Visit(node) => visit(lines, context, ways, node, spent),
-        Item::Count(turns) => count(lines, context, ways, turns, spent),
+        Item::Visit(node) => Ok(Went::Does(Next::Visit(node))),
+        Item::Count(turns) => Ok(Went::Does(Next::Count(turns))),
         Item::Turn(turns) => turn(lines, context, ways, turns, spent),
         Item::AfterTurn { turns, from } => Ok(after_turn(ways, turns, from)),
         Item::Close { number, from } => {
@@ -169,6 +168,27 @@ fn step<'p, T: Lines>(
             ways.note_external(number, from)?;
             Ok(Went::GoesOn)
         }
+    }
+}
+
+/// Follows a node from the present way, or makes the turns of a count.
+#[cycle(search)]
+fn follow<'p, T: Lines>(
+    lines: &T,
+    context: &Context<'_>,
+    ways: &mut Threads<Item<'p>>,
+    next: Next<'p>,
+    spent: &mut Spent,
+) -> Result<Went<'p>, Memory>
+    requires on_text { IsPlaceOf (T.lines lines.now) ways.old.here.way.at }
+    requires numbers { IsNumbered (item_of next) }
+    requires within { spent.old.cost ≤ spent.old.budget }
+    ensures { let x = context_in (T.lines lines.now) context.now in
+        IfOk result (IsStep x (height_of (item_of next.entry)) (marks_first x (item_of next.entry) ways.old) ways.old ways.new spent.old spent.new) }
+{
+    match next {
+        Next::Visit(node) => visit(lines, context, ways, node, spent),
+        Next::Count(turns) => count(lines, context, ways, turns, spent),
     }
 }
 
@@ -198,18 +218,18 @@ fn visit<'p, T: Lines>(
         }
         Step::Group(part, number) => {
             open_group(ways, *number)?;
-            Ok(Went::Does(Item::Visit(part)))
+            Ok(Went::Does(Next::Visit(part)))
         }
         Step::External(part, number) => {
             open_external(ways, *number)?;
-            Ok(Went::Does(Item::Visit(part)))
+            Ok(Went::Does(Next::Visit(part)))
         }
         Step::Repeat {
             part,
             least,
             most,
             lazy,
-        } => Ok(Went::Does(Item::Count(Turns {
+        } => Ok(Went::Does(Next::Count(Turns {
             part,
             least: *least,
             most: *most,

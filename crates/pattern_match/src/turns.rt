@@ -10,7 +10,7 @@ ghost use Rattle.pattern_match.specs.Heights.{height};
 ghost use Rattle.pattern_match.specs.Search.{Leads, IsLed, IsStep, marks_first};
 
 use crate::context::Context;
-use crate::item::{Item, Turns, Went};
+use crate::item::{Item, Next, Turns, Went};
 use crate::spent::Spent;
 use crate::step::{Step, Test};
 use crate::threads::Threads;
@@ -71,7 +71,7 @@ pub(crate) fn after_turn<'p>(ways: &Threads<Item<'p>>, turns: Turns<'p>, from: P
     ensures leads { (x : AnyContext) → Leads x (height (shape_of turns.entry.part.now) + 1) (marks_first x (Item.AfterTurn turns.entry from) ways.now) ways.now ways.now result }
 {
     if is_after(ways.place(), from) {
-        Went::Does(Item::Count(Turns {
+        Went::Does(Next::Count(Turns {
             least: turns.least.saturating_sub(1),
             most: one_less(turns.most),
             ..turns
@@ -79,7 +79,7 @@ pub(crate) fn after_turn<'p>(ways: &Threads<Item<'p>>, turns: Turns<'p>, from: P
     } else if turns.least == 0 {
         Went::Ends
     } else {
-        Went::Does(Item::Count(Turns {
+        Went::Does(Next::Count(Turns {
             least: 0,
             most: less_by(turns.most, turns.least),
             ..turns
@@ -110,7 +110,7 @@ pub(crate) fn turn<'p, T: Lines>(
         },
         part => {
             ways.put_first(Item::AfterTurn { turns, from })?;
-            Ok(Went::Does(Item::Visit(part)))
+            Ok(Went::Does(Next::Visit(part)))
         }
     }
 }
