@@ -287,6 +287,37 @@ pub match_stop : told (against (codes "ab" ∷ [])) (seq (ch 97) (seq (one Match
 unfolding is_same set_has is_member range_holds
 match_stop = refl
 
+-- `a\zeb\zec` at 0:0 of `abc`
+pub match_stop_twice : told (against (codes "abc" ∷ [])) (seq (ch 97) (seq (one MatchStop) (seq (ch 98) (seq (one MatchStop) (ch 99))))) (place 0 0) ≡ found (place 0 0) (place 0 2) none no_texts 5 (pos 0) (pos 0)
+unfolding is_same set_has is_member range_holds
+match_stop_twice = refl
+
+-- `\%(a\ze\)*b` at 0:0 of `aab`
+pub match_stop_in_each_turn : told (against (codes "aab" ∷ [])) (seq (repeat (seq (ch 97) (one MatchStop)) 0 None false) (ch 98)) (place 0 0) ≡ found (place 0 0) (place 0 2) none no_texts 6 (pos 0) (pos 0)
+unfolding is_same set_has is_member range_holds
+match_stop_in_each_turn = refl
+
+-- `\(a\zsb\zs\)\@=abc` at 0:0 of `abc`
+pub match_start_twice_in_a_look : told (against (codes "abc" ∷ [])) (seq (ahead (group (seq (ch 97) (seq (one MatchStart) (seq (ch 98) (one MatchStart)))) 1) false) (seq (ch 97) (seq (ch 98) (ch 99)))) (place 0 0) ≡ found (place 0 2) (place 0 3) (with_capture none 1 (place 0 0) (place 0 2)) no_texts 7 (pos 0) (pos 0)
+unfolding is_same set_has is_member range_holds
+match_start_twice_in_a_look = refl
+
+-- `\(a\zeb\ze\)\@=abc` at 0:0 of `abc`
+pub match_stop_twice_in_a_look : told (against (codes "abc" ∷ [])) (seq (ahead (group (seq (ch 97) (seq (one MatchStop) (seq (ch 98) (one MatchStop)))) 1) false) (seq (ch 97) (seq (ch 98) (ch 99)))) (place 0 0) ≡ found (place 0 0) (place 0 2) (with_capture none 1 (place 0 0) (place 0 2)) no_texts 7 (pos 0) (pos 0)
+unfolding is_same set_has is_member range_holds
+match_stop_twice_in_a_look = refl
+
+-- the way that matches counts, and not one that failed
+-- `a\zs\%(b\zsx\|bc\)` at 0:0 of `abc`
+pub match_start_of_the_matching_way : told (against (codes "abc" ∷ [])) (seq (ch 97) (seq (one MatchStart) (or (seq (ch 98) (seq (one MatchStart) (ch 120))) (seq (ch 98) (ch 99))))) (place 0 0) ≡ found (place 0 1) (place 0 3) none no_texts 7 (pos 0) (pos 0)
+unfolding is_same set_has is_member range_holds
+match_start_of_the_matching_way = refl
+
+-- `a\ze\%(b\zex\|bc\)` at 0:0 of `abc`
+pub match_stop_of_the_matching_way : told (against (codes "abc" ∷ [])) (seq (ch 97) (seq (one MatchStop) (or (seq (ch 98) (seq (one MatchStop) (ch 120))) (seq (ch 98) (ch 99))))) (place 0 0) ≡ found (place 0 0) (place 0 1) none no_texts 7 (pos 0) (pos 0)
+unfolding is_same set_has is_member range_holds
+match_stop_of_the_matching_way = refl
+
 -- `\(a.\)\1` at 0:0 of `abab`
 pub reference : told (against (codes "abab" ∷ [])) (seq (group (seq (ch 97) (one (Any false))) 1) (one (Ref 1))) (place 0 0) ≡ found (place 0 0) (place 0 4) (with_capture none 1 (place 0 0) (place 0 2)) no_texts 3 (pos 0) (pos 0)
 unfolding is_same set_has is_member range_holds

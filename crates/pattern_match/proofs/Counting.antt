@@ -13,6 +13,7 @@ use Rattle.match_rules.proofs.Kept.{visits-kept}
 use Rattle.pattern_match.specs.declared.item.Item.{Item}
 use Rattle.pattern_match.specs.declared.item.Item.TheVariants.{Visit, Count, Turn, AfterTurn}
 use Rattle.pattern_match.specs.declared.item.Turns.{Turns}
+use Rattle.pattern_match.specs.declared.item.Next.TheVariants as at_once
 use Rattle.pattern_match.specs.declared.item.Went.{Went}
 use Rattle.pattern_match.specs.declared.item.Went.TheVariants.{GoesOn, Does, Ends}
 use Rattle.pattern_match.specs.declared.spent.Spent.{Spent}
@@ -26,16 +27,16 @@ use Rattle.pattern_match.proofs.Leading.{silent, leads_on, leads_do, leads_two, 
 module _ (x : Context) (t : Turns) (old : Ways Item) (numbers : HasNumbers (shape_of t.part.now)) where
   -- behind a turn that began at a place
   pub turn_took : (from : Place) (least : ℕ) (most : Option ℕ) → is_after old.here.way.at from ≡ true → least ≡ t.least - 1 → most ≡ one_less t.most →
-      Leads x (height (shape_of t.part.now) + 1) (marks_first x (AfterTurn t from) old) old old (Does (Count (record { part = t.part; least = least; most = most; lazy = t.lazy })))
+      Leads x (height (shape_of t.part.now) + 1) (marks_first x (AfterTurn t from) old) old old (Does (at_once.Count (record { part = t.part; least = least; most = most; lazy = t.lazy })))
   turn_took from least most after l m =
       rw (after_turn-took x.text (visits x (shape_of t.part.now)) t.lazy t.least t.most from old.here.way after, ← l, ← m)
-      (leads_do x (height (shape_of t.part.now) + 1) old (Count (record { part = t.part; least = least; most = most; lazy = t.lazy })) numbers (omega arith))
+      (leads_do x (height (shape_of t.part.now) + 1) old (at_once.Count (record { part = t.part; least = least; most = most; lazy = t.lazy })) numbers (omega arith))
 
   pub turn_empty : (from : Place) (most : Option ℕ) → is_after old.here.way.at from ≡ false → t.least ≢ 0 → most ≡ less_by t.most t.least →
-      Leads x (height (shape_of t.part.now) + 1) (marks_first x (AfterTurn t from) old) old old (Does (Count (record { part = t.part; least = 0; most = most; lazy = t.lazy })))
+      Leads x (height (shape_of t.part.now) + 1) (marks_first x (AfterTurn t from) old) old old (Does (at_once.Count (record { part = t.part; least = 0; most = most; lazy = t.lazy })))
   turn_empty from most after l m =
       rw (after_turn-empty x.text (visits x (shape_of t.part.now)) t.lazy t.least t.most from old.here.way after l, ← m)
-      (leads_do x (height (shape_of t.part.now) + 1) old (Count (record { part = t.part; least = 0; most = most; lazy = t.lazy })) numbers (omega arith))
+      (leads_do x (height (shape_of t.part.now) + 1) old (at_once.Count (record { part = t.part; least = 0; most = most; lazy = t.lazy })) numbers (omega arith))
 
   pub turn_dropped : (from : Place) → is_after old.here.way.at from ≡ false → t.least ≡ 0 →
       Leads x (height (shape_of t.part.now) + 1) (marks_first x (AfterTurn t from) old) old old Ends
@@ -44,10 +45,10 @@ module _ (x : Context) (t : Turns) (old : Ways Item) (numbers : HasNumbers (shap
       rw e (leads_nowhere x (height (shape_of t.part.now) + 1) old)
 
   pub push_turn : (new : Ways Item) (from : Place) → from ≡ old.here.way.at → new ≡ record old { here = record old.here { todo = AfterTurn t from ∷ old.here.todo } } →
-      Leads x (height (shape_of t.part.now) + 1) (marks_first x (Turn t) old) old new (Does (Visit t.part))
+      Leads x (height (shape_of t.part.now) + 1) (marks_first x (Turn t) old) old new (Does (at_once.Visit t.part))
   push_turn new from e n =
-      subst (λ p. Leads x (height (shape_of t.part.now) + 1) (followed (followed (visits x (shape_of t.part.now) old.here.way) (item_marks x (AfterTurn t p))) (marks_with x old.here.todo)) old new (Does (Visit t.part))) e
-      (leads_two x (height (shape_of t.part.now) + 1) old new (Visit t.part) (AfterTurn t from) n numbers (omega arith) numbers (omega arith))
+      subst (λ p. Leads x (height (shape_of t.part.now) + 1) (followed (followed (visits x (shape_of t.part.now) old.here.way) (item_marks x (AfterTurn t p))) (marks_with x old.here.todo)) old new (Does (at_once.Visit t.part))) e
+      (leads_two x (height (shape_of t.part.now) + 1) old new (at_once.Visit t.part) (AfterTurn t from) n numbers (omega arith) numbers (omega arith))
 
   module _ (on_text : IsPlaceOf x.text old.here.way.at) where
     pub count_spent : (s : Spent) → s.cost ≤ s.budget → is_spent t.most ≡ true → Goes x (height (shape_of t.part.now) + 1) (marks_first x (Count t) old) old old s s GoesOn

@@ -4,13 +4,14 @@ use Rattle.match_rules.specs.Ways.{Text, Context, Way, IsPlaceOf}
 use Rattle.match_rules.specs.Marks.{Mark, Reach, followed, ticks_first}
 use Rattle.match_rules.proofs.MarkLaws.{followed-append, followed-assoc}
 use Rattle.pattern_match.specs.declared.item.Item.{Item}
+use Rattle.pattern_match.specs.declared.item.Next.{Next}
 use Rattle.pattern_match.specs.declared.item.Went.{Went}
 use Rattle.pattern_match.specs.declared.item.Went.TheVariants.{GoesOn, Does, Ends, TooCostly as NoMore}
 use Rattle.pattern_match.specs.declared.spent.Spent.{Spent}
 use Rattle.pattern_match.specs.Threads.{Thread, Ways}
 use Rattle.pattern_match.specs.Machine.{item_marks, marks_with, marks_to_come}
 use Rattle.pattern_match.specs.Heights.{height_of, IsNumbered, AreSound}
-use Rattle.pattern_match.specs.Search.{going, Leads, Goes, IsLed, IsStep, marks_first}
+use Rattle.pattern_match.specs.Search.{item_of, going, Leads, Goes, IsLed, IsStep, marks_first}
 
 pub marks_to_come-append : (x : Context) (a b : List (Thread Item)) → marks_to_come x (a ++ b) ≡ marks_to_come x a ++ marks_to_come x b
 marks_to_come-append x [] b = refl
@@ -45,35 +46,35 @@ module _ (x : Context) (high : ℕ) (old : Ways Item) where
       (record { more = []; pending = refl; same = refl; sound = λ n h p s. ((kept p, s), tt) })
 
   -- one thing that stands for the marks
-  pub leads_do : (i : Item) → IsNumbered i → height_of i ≤ high → Leads x high (marks_first x i old) old old (Does i)
+  pub leads_do : (i : Next) → IsNumbered (item_of i) → height_of (item_of i) ≤ high → Leads x high (marks_first x (item_of i) old) old old (Does i)
   leads_do i num low = record {
     more = [];
     pending = refl;
-    same = append-nil (marks_first x i old);
+    same = append-nil (marks_first x (item_of i) old);
     sound = λ n h p s. ((p, ((num, omega arith), s)), tt);
   }
 
   -- two things, one after the other
-  pub leads_two : (new : Ways Item) (i j : Item) → new ≡ record old { here = record old.here { todo = j ∷ old.here.todo } } → IsNumbered i → height_of i ≤ high → IsNumbered j → height_of j ≤ high →
-      Leads x high (followed (followed (item_marks x i old.here.way) (item_marks x j)) (marks_with x old.here.todo)) old new (Does i)
+  pub leads_two : (new : Ways Item) (i : Next) (j : Item) → new ≡ record old { here = record old.here { todo = j ∷ old.here.todo } } → IsNumbered (item_of i) → height_of (item_of i) ≤ high → IsNumbered j → height_of j ≤ high →
+      Leads x high (followed (followed (item_marks x (item_of i) old.here.way) (item_marks x j)) (marks_with x old.here.todo)) old new (Does i)
   leads_two new i j e num low num' low' =
-      subst (λ v. Leads x high (followed (followed (item_marks x i old.here.way) (item_marks x j)) (marks_with x old.here.todo)) old v (Does i)) (sym e)
+      subst (λ v. Leads x high (followed (followed (item_marks x (item_of i) old.here.way) (item_marks x j)) (marks_with x old.here.todo)) old v (Does i)) (sym e)
       (record {
         more = [];
         pending = refl;
-        same = append-nil _ ∙ sym (followed-assoc (item_marks x i old.here.way) (item_marks x j) (marks_with x old.here.todo));
+        same = append-nil _ ∙ sym (followed-assoc (item_marks x (item_of i) old.here.way) (item_marks x j) (marks_with x old.here.todo));
         sound = λ n h p s. ((p, ((num, omega arith), ((num', omega arith), s))), tt);
       })
 
   -- the one or the other
-  pub leads_or : (new : Ways Item) (i j : Item) → new ≡ record old { pending = record old.here { todo = j ∷ old.here.todo } ∷ old.pending } → IsNumbered i → height_of i ≤ high → IsNumbered j → height_of j ≤ high →
-      Leads x high (followed (item_marks x i old.here.way ++ item_marks x j old.here.way) (marks_with x old.here.todo)) old new (Does i)
+  pub leads_or : (new : Ways Item) (i : Next) (j : Item) → new ≡ record old { pending = record old.here { todo = j ∷ old.here.todo } ∷ old.pending } → IsNumbered (item_of i) → height_of (item_of i) ≤ high → IsNumbered j → height_of j ≤ high →
+      Leads x high (followed (item_marks x (item_of i) old.here.way ++ item_marks x j old.here.way) (marks_with x old.here.todo)) old new (Does i)
   leads_or new i j e num low num' low' =
-      subst (λ v. Leads x high (followed (item_marks x i old.here.way ++ item_marks x j old.here.way) (marks_with x old.here.todo)) old v (Does i)) (sym e)
+      subst (λ v. Leads x high (followed (item_marks x (item_of i) old.here.way ++ item_marks x j old.here.way) (marks_with x old.here.todo)) old v (Does i)) (sym e)
       (record {
         more = record old.here { todo = j ∷ old.here.todo } ∷ [];
         pending = refl;
-        same = ap (λ r. marks_first x i old ++ r) (append-nil (marks_first x j old)) ∙ sym (followed-append (item_marks x i old.here.way) (item_marks x j old.here.way) (marks_with x old.here.todo));
+        same = ap (λ r. marks_first x (item_of i) old ++ r) (append-nil (marks_first x j old)) ∙ sym (followed-append (item_marks x (item_of i) old.here.way) (item_marks x j old.here.way) (marks_with x old.here.todo));
         sound = λ n h p s. ((p, ((num, omega arith), s)), ((p, ((num', omega arith), s)), tt));
       })
 

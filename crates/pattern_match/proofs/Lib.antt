@@ -3,6 +3,7 @@ pub mod ThreadLaws
 pub mod Leading
 pub mod Counting
 pub mod Stepping
+pub mod Ticking
 pub mod StartLaws
 pub mod Looping
 pub mod LookingBehind

@@ -22,20 +22,20 @@ use Rattle.pattern_match.specs.Machine.{item_marks, marks_with}
 use Rattle.pattern_match.specs.Search.{Leads, Goes, IsOver, IsStep, IsLed, marks_first, IsTicked, IsTick}
 use Rattle.pattern_match.proofs.Leading.{led, leads_on, leads_nowhere}
 
-way_behind-kept : (text : Text) (w : Way) (p : Place) (a : Atom) → IsPlaceOf text w.at → IsPlaceOf text p → IsPlaceOf text (way_behind w p a).at
+pub way_behind-kept : (text : Text) (w : Way) (p : Place) (a : Atom) → IsPlaceOf text w.at → IsPlaceOf text p → IsPlaceOf text (way_behind w p a).at
 way_behind-kept text w p MatchStart h k = h
 way_behind-kept text w p MatchStop h k = h
 way_behind-kept text w p _ h k = k
 
 module _ (x : Context) (a : Atom) (old new : Ways Item) (earlier later : Spent) where
   -- what follows the atom where it has led to a place, and where it hasn't
-  behind : (next : Way → List Mark) (p : Place) → fits x old.here.way a ≡ Some p → followed (tried x old.here.way a) next ≡ Tick (lines_looked x old.here.way a) ∷ next (way_behind old.here.way p a)
+  pub behind : (next : Way → List Mark) (p : Place) → fits x old.here.way a ≡ Some p → followed (tried x old.here.way a) next ≡ Tick (lines_looked x old.here.way a) ∷ next (way_behind old.here.way p a)
   behind next p e = rw e (ap (λ r. Tick (lines_looked x old.here.way a) ∷ r) (append-nil (next (way_behind old.here.way p a))))
 
   nothing_behind : (next : Way → List Mark) → fits x old.here.way a ≡ None → followed (tried x old.here.way a) next ≡ Tick (lines_looked x old.here.way a) ∷ []
   nothing_behind next e = rw e refl
 
-  over : earlier.budget ≤ earlier.cost → (next : Way → List Mark) → IsOver (followed (tried x old.here.way a) next) earlier
+  pub over : earlier.budget ≤ earlier.cost → (next : Way → List Mark) → IsOver (followed (tried x old.here.way a) next) earlier
   over h next = record {
     made = Tick (lines_looked x old.here.way a) ∷ [];
     left = followed (behind_fit old.here.way a (fits x old.here.way a)) next;
@@ -56,7 +56,7 @@ module _ (x : Context) (a : Atom) (old new : Ways Item) (earlier later : Spent) 
           (leads_on x high old new (way_behind old.here.way p a) t.ways (λ h. way_behind-kept x.text old.here.way p a h on_text));
     }
 
-    failed : (next : Way → List Mark) → IsTicked x a old new earlier later None old.here.way → Goes x high (followed (tried x old.here.way a) next) old new earlier later Ends
+    pub failed : (next : Way → List Mark) → IsTicked x a old new earlier later None old.here.way → Goes x high (followed (tried x old.here.way a) next) old new earlier later Ends
     failed next t = record {
       made = Tick (lines_looked x old.here.way a) ∷ [];
       left = [];
@@ -74,7 +74,7 @@ module _ (x : Context) (a : Atom) (old new : Ways Item) (earlier later : Spent) 
 
     -- a turn of a count whose part is an atom
     module _ (t : Turns) (part : shape_of t.part.now ≡ one a) where
-      turn_marks : marks_first x (Turn t) old ≡ followed (tried x old.here.way a) (λ v. followed (item_marks x (AfterTurn t old.here.way.at) v) (marks_with x old.here.todo))
+      pub turn_marks : marks_first x (Turn t) old ≡ followed (tried x old.here.way a) (λ v. followed (item_marks x (AfterTurn t old.here.way.at) v) (marks_with x old.here.todo))
       turn_marks =
           followed-assoc (visits x (shape_of t.part.now) old.here.way) (item_marks x (AfterTurn t old.here.way.at)) (marks_with x old.here.todo)
           ∙ ap (λ s. followed (visits x s old.here.way) (λ v. followed (item_marks x (AfterTurn t old.here.way.at) v) (marks_with x old.here.todo))) part

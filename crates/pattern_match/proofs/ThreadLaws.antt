@@ -6,7 +6,7 @@ use Rattle.std.proofs.lemmas.List.Elements.{All-push, All-take}
 use Rattle.syn_base.specs.declared.places.Place.{Place}
 use Rattle.match_rules.specs.Ways.{Way}
 use Rattle.pattern_match.specs.Entries.{entries_from}
-use Rattle.pattern_match.specs.Threads.{Thread, Ways, next_of, before_of, with_note, with_notes, thread_of, ways_of, IsNumbered, IsWithin, ArePending, AreWays, entries_named}
+use Rattle.pattern_match.specs.Threads.{Thread, Ways, next_of, before_of, with_note, with_notes, here_of, thread_of, ways_of, settled_here, settled_later, IsNumbered, IsWithin, ArePending, AreWays, entries_named}
 use Rattle.pattern_match.specs.declared.threads.Later.{Later}
 use Rattle.pattern_match.specs.declared.threads.Note.{Note}
 use Rattle.pattern_match.specs.declared.threads.Note.TheVariants.{Captured, External, Start, Stop}
@@ -25,26 +25,26 @@ abbrev thread : {T : Type 0} → Here T → List (Later T) → List Noted → Th
 thread here later notes = record { todo = option_to_list here.first ++ map (λ e. e.item) later; way = record (with_notes notes) { at = here.at } }
 
 same_thread : {T : Type 0} (later later2 : List (Later T)) (notes notes2 : List Noted) (l n : ℕ) (here : Here T)
-    → SameTo next_of l later later2 → SameTo before_of n notes notes2 → IsWithin l n here → thread_of later notes here ≡ thread_of later2 notes2 here
+    → SameTo next_of l later later2 → SameTo before_of n notes notes2 → IsWithin l n here.next here.noted → thread_of later notes here ≡ thread_of later2 notes2 here
 same_thread later later2 notes notes2 l n here items noted within =
     ap (λ es. thread here es (entries_from before_of notes here.noted)) (items here.next within.next) ∙ ap (λ es. thread here (entries_from next_of later2 here.next) es) (noted here.noted within.noted)
 
-same_pending : {T : Type 0} (later later2 : List (Later T)) (notes notes2 : List Noted) (l n : ℕ) (ps : List (Pending T))
-    → SameTo next_of l later later2 → SameTo before_of n notes notes2 → ArePending l n ps → map (λ p. thread_of later notes p.here) ps ≡ map (λ p. thread_of later2 notes2 p.here) ps
+same_pending : {T : Type 0} (later later2 : List (Later T)) (notes notes2 : List Noted) (l n : ℕ) (ps : List Pending)
+    → SameTo next_of l later later2 → SameTo before_of n notes notes2 → ArePending l n ps → map (λ p. thread_of later notes (here_of p)) ps ≡ map (λ p. thread_of later2 notes2 (here_of p)) ps
 same_pending later later2 notes notes2 l n [] items noted pending = refl
 same_pending later later2 notes notes2 l n (p ∷ ps) items noted pending =
     let items2 : SameTo next_of p.later later later2 = λ k h. items k (let low = pending.0 in omega arith) in
     let noted2 : SameTo before_of p.notes notes notes2 = λ k h. noted k (let low = pending.1 in omega arith) in
-    let first = same_thread later later2 notes notes2 p.later p.notes p.here items2 noted2 pending.2 in
+    let first = same_thread later later2 notes notes2 p.later p.notes (here_of p) items2 noted2 pending.2 in
     let rest = same_pending later later2 notes notes2 p.later p.notes ps items2 noted2 pending.3 in
-    ap (λ t. t ∷ map (λ p. thread_of later notes p.here) ps) first ∙ ap (λ ts. thread_of later2 notes2 p.here ∷ ts) rest
+    ap (λ t. t ∷ map (λ p. thread_of later notes (here_of p)) ps) first ∙ ap (λ ts. thread_of later2 notes2 (here_of p) ∷ ts) rest
 
-pub ArePending-more : {T : Type 0} (l n l2 n2 : ℕ) (ps : List (Pending T)) → l ≤ l2 → n ≤ n2 → ArePending l n ps → ArePending l2 n2 ps
+pub ArePending-more : (l n l2 n2 : ℕ) (ps : List Pending) → l ≤ l2 → n ≤ n2 → ArePending l n ps → ArePending l2 n2 ps
 ArePending-more l n l2 n2 [] h k pending = tt
 ArePending-more l n l2 n2 (p ∷ ps) h k pending =
     let low = pending.0 in let few = pending.1 in (omega arith, omega arith, pending.2, pending.3)
 
-ArePending-older : {T : Type 0} (l n : ℕ) (newer older : List (Pending T)) → ArePending l n (newer ++ older) → ArePending l n older
+ArePending-older : (l n : ℕ) (newer older : List Pending) → ArePending l n (newer ++ older) → ArePending l n older
 ArePending-older l n [] older pending = pending
 ArePending-older l n (p ∷ newer) older pending =
     ArePending-more p.later p.notes l n older pending.0 pending.1 (ArePending-older p.later p.notes newer older pending.3)
@@ -52,16 +52,16 @@ ArePending-older l n (p ∷ newer) older pending =
 abbrev ways : {T : Type 0} → Thread T → List (Thread T) → Ways T
 ways here pending = record { here = here; pending = pending }
 
-same_ways : {T : Type 0} (later later2 : List (Later T)) (notes notes2 : List Noted) (l n : ℕ) (pending : List (Pending T)) (here : Here T)
-    → SameTo next_of l (reverse later) (reverse later2) → SameTo before_of n (reverse notes) (reverse notes2) → IsWithin l n here → ArePending l n (reverse pending)
+same_ways : {T : Type 0} (later later2 : List (Later T)) (notes notes2 : List Noted) (l n : ℕ) (pending : List Pending) (here : Here T)
+    → SameTo next_of l (reverse later) (reverse later2) → SameTo before_of n (reverse notes) (reverse notes2) → IsWithin l n here.next here.noted → ArePending l n (reverse pending)
     → ways_of later notes pending here ≡ ways_of later2 notes2 pending here
 same_ways later later2 notes notes2 l n pending here items noted within put_aside =
-    ap (λ t. ways t (map (λ p. thread_of (reverse later) (reverse notes) p.here) (reverse pending))) (same_thread (reverse later) (reverse later2) (reverse notes) (reverse notes2) l n here items noted within)
+    ap (λ t. ways t (map (λ p. thread_of (reverse later) (reverse notes) (here_of p)) (reverse pending))) (same_thread (reverse later) (reverse later2) (reverse notes) (reverse notes2) l n here items noted within)
     ∙ ap (λ ts. ways (thread_of (reverse later2) (reverse notes2) here) ts) (same_pending (reverse later) (reverse later2) (reverse notes) (reverse notes2) l n (reverse pending) items noted put_aside)
 
 -- entries that no way names may go
-pub cut : {T : Type 0} (later later2 : List (Later T)) (notes notes2 : List Noted) (l n : ℕ) (pending : List (Pending T)) (here : Here T)
-    → AreWays later notes pending here → later2 ≡ take l later → notes2 ≡ take n notes → l ≤ length later → n ≤ length notes → IsWithin l n here → ArePending l n (reverse pending)
+pub cut : {T : Type 0} (later later2 : List (Later T)) (notes notes2 : List Noted) (l n : ℕ) (pending : List Pending) (here : Here T)
+    → AreWays later notes pending here → later2 ≡ take l later → notes2 ≡ take n notes → l ≤ length later → n ≤ length notes → IsWithin l n here.next here.noted → ArePending l n (reverse pending)
     → AreWays later2 notes2 pending here × (ways_of later2 notes2 pending here ≡ ways_of later notes pending here)
 cut later later2 notes notes2 l n pending here are e f h k within put_aside =
     rw (e, f) ((
@@ -77,26 +77,26 @@ cut later later2 notes notes2 l n pending here are e f h k within put_aside =
 
 -- ---- what is to be done
 
-pub nothing_to_do : {T : Type 0} (later : List (Later T)) (notes : List Noted) (pending : List (Pending T)) (here : Here T) (w : Ways T) → ways_of later notes pending here ≡ w
+pub nothing_to_do : {T : Type 0} (later : List (Later T)) (notes : List Noted) (pending : List Pending) (here : Here T) (w : Ways T) → ways_of later notes pending here ≡ w
     → ways_of later notes pending (record here { first = None; next = 0 }) ≡ record w { here = record w.here { todo = [] } }
 nothing_to_do {T} later notes pending here w e =
     ap (λ es. ways (record { todo = map (λ e. e.item) es; way = (thread_of (reverse later) (reverse notes) here).way }) (ways_of later notes pending here).pending) (entries_from-none next_of (reverse later))
     ∙ ap (λ (v : Ways T). record v { here = record v.here { todo = [] } }) e
 
 -- the thing beside the entries becomes one of them
-pub one_more_to_do : {T : Type 0} (later later2 : List (Later T)) (notes : List Noted) (pending : List (Pending T)) (here : Here T) (w : Ways T) (second item : T) (number : ℕ)
+pub one_more_entry : {T : Type 0} (later later2 : List (Later T)) (notes : List Noted) (pending : List Pending) (here : Here T) (w : Ways T) (second : T) (first_now : Option T) (number : ℕ)
     → AreWays later notes pending here → ways_of later notes pending here ≡ w → here.first ≡ Some second
     → later2 ≡ later ++ record { item = second; next = here.next } ∷ [] → number ≡ length later2
-    → AreWays later2 notes pending (record here { first = Some item; next = number })
-    × (ways_of later2 notes pending (record here { first = Some item; next = number }) ≡ record w { here = record w.here { todo = item ∷ w.here.todo } })
-one_more_to_do {T} later later2 notes pending here w second item number are e first f g =
+    → AreWays later2 notes pending (record here { first = first_now; next = number })
+    × (ways_of later2 notes pending (record here { first = first_now; next = number }) ≡ record w { here = record w.here { todo = option_to_list first_now ++ w.here.todo } })
+one_more_entry {T} later later2 notes pending here w second first_now number are e first f g =
     let entry : Later T = record { item = second; next = here.next } in
     let more : length (later ++ entry ∷ []) ≡ length later + 1 = length-append later (entry ∷ []) in
     let last : number ≡ length later + 1 = g ∙ ap length f ∙ more in
     let next = are.within.next in
-    let todo : item ∷ map (λ e. e.item) (entries_from next_of (reverse (later ++ entry ∷ [])) number) ≡ item ∷ (ways_of later notes pending here).here.todo =
-    ap (λ es. item ∷ map (λ e. e.item) es) (from-pushed next_of later entry number last)
-    ∙ ap (λ (o : Option T). item ∷ (option_to_list o ++ map (λ e. e.item) (entries_from next_of (reverse later) here.next))) (sym first) in
+    let todo : option_to_list first_now ++ map (λ e. e.item) (entries_from next_of (reverse (later ++ entry ∷ [])) number) ≡ option_to_list first_now ++ (ways_of later notes pending here).here.todo =
+    ap (λ es. option_to_list first_now ++ map (λ e. e.item) es) (from-pushed next_of later entry number last)
+    ∙ ap (λ (o : Option T). option_to_list first_now ++ (option_to_list o ++ map (λ e. e.item) (entries_from next_of (reverse later) here.next))) (sym first) in
     let others = same_pending (reverse (later ++ entry ∷ [])) (reverse later) (reverse notes) (reverse notes) (length later) (length notes) (reverse pending)
     (λ k h. from-push next_of later entry k h) (λ k h. refl) are.put_aside in
     rw f ((
@@ -107,13 +107,13 @@ one_more_to_do {T} later later2 notes pending here w second item number are e fi
         within = record { next = omega arith; noted = are.within.noted };
         put_aside = ArePending-more (length later) (length notes) (length (later ++ entry ∷ [])) (length notes) (reverse pending) (omega arith) (omega arith) are.put_aside;
       },
-      ap (λ (t : List T). ways (record { todo = t; way = (ways_of later notes pending here).here.way }) (map (λ p. thread_of (reverse (later ++ entry ∷ [])) (reverse notes) p.here) (reverse pending))) todo
-          ∙ ap (λ ts. ways (record { todo = item ∷ (ways_of later notes pending here).here.todo; way = (ways_of later notes pending here).here.way }) ts) others
-          ∙ ap (λ (v : Ways T). record v { here = record v.here { todo = item ∷ v.here.todo } }) e,
+      ap (λ (t : List T). ways (record { todo = t; way = (ways_of later notes pending here).here.way }) (map (λ p. thread_of (reverse (later ++ entry ∷ [])) (reverse notes) (here_of p)) (reverse pending))) todo
+          ∙ ap (λ ts. ways (record { todo = option_to_list first_now ++ (ways_of later notes pending here).here.todo; way = (ways_of later notes pending here).here.way }) ts) others
+          ∙ ap (λ (v : Ways T). record v { here = record v.here { todo = option_to_list first_now ++ v.here.todo } }) e,
     ))
 
 -- what is to be done first, where it is an entry
-pub first_entry : {T : Type 0} (later : List (Later T)) (notes : List Noted) (pending : List (Pending T)) (here : Here T) (w : Ways T) (entry : Later T)
+pub first_entry : {T : Type 0} (later : List (Later T)) (notes : List Noted) (pending : List Pending) (here : Here T) (w : Ways T) (entry : Later T)
     → AreWays later notes pending here → ways_of later notes pending here ≡ w → here.first ≡ None → 0 < here.next → entry ≡ get_or later (here.next - 1) entry
     → (entry.next + 1 ≤ here.next) × AreWays later notes pending (record here { next = entry.next })
     × (w.here.todo ≡ entry.item ∷ (ways_of later notes pending (record here { next = entry.next })).here.todo)
@@ -137,11 +137,11 @@ first_entry {T} later notes pending here w entry are e none some read =
     )
 
 -- the pending ways name no entry above these
-named_within : {T : Type 0} (l n : ℕ) (ps : List (Pending T)) → ArePending l n ps → entries_named ps ≤ l
+named_within : (l n : ℕ) (ps : List Pending) → ArePending l n ps → entries_named ps ≤ l
 named_within l n [] pending = omega arith
 named_within l n (p ∷ ps) pending = pending.0
 
-ArePending-named : {T : Type 0} (l n m : ℕ) (ps : List (Pending T)) → entries_named ps ≤ m → ArePending l n ps → ArePending m n ps
+ArePending-named : (l n m : ℕ) (ps : List Pending) → entries_named ps ≤ m → ArePending l n ps → ArePending m n ps
 ArePending-named l n m [] h pending = tt
 ArePending-named l n m (p ∷ ps) h pending = (h, pending.1, pending.2, pending.3)
 
@@ -149,7 +149,7 @@ greater : (m n kept count : ℕ) → kept ≡ max m n → m ≤ count → n ≤ 
 greater m n kept count e h k = (omega arith, omega arith, omega arith)
 
 -- it may be forgotten then, with those above it that no pending way names
-pub first_entry_taken : {T : Type 0} (later later2 : List (Later T)) (notes : List Noted) (pending : List (Pending T)) (here : Here T) (w : Ways T) (entry : Later T) (kept : ℕ)
+pub first_entry_taken : {T : Type 0} (later later2 : List (Later T)) (notes : List Noted) (pending : List Pending) (here : Here T) (w : Ways T) (entry : Later T) (kept : ℕ)
     → AreWays later notes pending here → ways_of later notes pending here ≡ w → here.first ≡ None → 0 < here.next → entry ≡ get_or later (here.next - 1) entry
     → kept ≡ max (here.next - 1) (entries_named (reverse pending)) → later2 ≡ take kept later
     → AreWays later2 notes pending (record here { next = entry.next })
@@ -163,7 +163,7 @@ first_entry_taken {T} later later2 notes pending here w entry kept are e none so
     let enough = greater (here.next - 1) (entries_named (reverse pending)) kept (length later) greatest (omega arith) (named_within (length later) (length notes) (reverse pending) are.put_aside) in
     let above = enough.0 in
     let all : notes ≡ take (length notes) notes = sym (take_all (length notes) notes (omega arith)) in
-    let within : IsWithin kept (length notes) (record here { next = entry.next }) = record { next = omega arith; noted = are.within.noted } in
+    let within : IsWithin kept (length notes) entry.next here.noted = record { next = omega arith; noted = are.within.noted } in
     let done = cut later later2 notes notes kept (length notes) pending (record here { next = entry.next }) taken.1 cut_to all enough.2 (omega arith) within
     (ArePending-named (length later) (length notes) kept (reverse pending) enough.1 are.put_aside) in (
       done.0,
@@ -172,7 +172,7 @@ first_entry_taken {T} later later2 notes pending here w entry kept are e none so
       taken.4 ∙ ap (λ (v : Ways T). v.pending) (sym done.1),
     )
 
-pub nothing_left : {T : Type 0} (later : List (Later T)) (notes : List Noted) (pending : List (Pending T)) (here : Here T) (w : Ways T)
+pub nothing_left : {T : Type 0} (later : List (Later T)) (notes : List Noted) (pending : List Pending) (here : Here T) (w : Ways T)
     → ways_of later notes pending here ≡ w → here.first ≡ None → here.next ≡ 0 → w.here.todo ≡ []
 nothing_left {T} later notes pending here w e none zero =
     ap (λ (v : Ways T). v.here.todo) (sym e)
@@ -188,7 +188,7 @@ noted_at w (External number from to) p = refl
 noted_at w (Start q) p = refl
 noted_at w (Stop q) p = refl
 
-pub one_more_note : {T : Type 0} (later : List (Later T)) (notes notes2 : List Noted) (pending : List (Pending T)) (here : Here T) (w : Ways T) (note : Note) (number : ℕ)
+pub one_more_note : {T : Type 0} (later : List (Later T)) (notes notes2 : List Noted) (pending : List Pending) (here : Here T) (w : Ways T) (note : Note) (number : ℕ)
     → AreWays later notes pending here → ways_of later notes pending here ≡ w → IsNumbered note
     → notes2 ≡ notes ++ record { note = note; before = here.noted } ∷ [] → number ≡ length notes2
     → AreWays later notes2 pending (record here { noted = number })
@@ -210,19 +210,62 @@ one_more_note {T} later notes notes2 pending here w note number are e numbered f
         within = record { next = are.within.next; noted = omega arith };
         put_aside = ArePending-more (length later) (length notes) (length later) (length (notes ++ entry ∷ [])) (reverse pending) (omega arith) (omega arith) are.put_aside;
       },
-      ap (λ (v : Way). ways (record { todo = (ways_of later notes pending here).here.todo; way = v }) (map (λ p. thread_of (reverse later) (reverse (notes ++ entry ∷ [])) p.here) (reverse pending))) way
+      ap (λ (v : Way). ways (record { todo = (ways_of later notes pending here).here.todo; way = v }) (map (λ p. thread_of (reverse later) (reverse (notes ++ entry ∷ [])) (here_of p)) (reverse pending))) way
           ∙ ap (λ ts. ways (record { todo = (ways_of later notes pending here).here.todo; way = with_note (ways_of later notes pending here).here.way note }) ts) others
           ∙ ap (λ (v : Ways T). record v { here = record v.here { way = with_note v.here.way note } }) e,
     ))
 
 -- ---- pending ways
 
+-- what is to be done first may become one of the entries
+pub settled_ways : {T : Type 0} (later : List (Later T)) (notes : List Noted) (pending : List Pending) (here : Here T) (w : Ways T)
+    → AreWays later notes pending here → ways_of later notes pending here ≡ w
+    → AreWays (settled_later later here) notes pending (settled_here later here) × (ways_of (settled_later later here) notes pending (settled_here later here) ≡ w)
+settled_ways {T} later notes pending here w are e =
+    let later_of : Option T → List (Later T) = λ o. elim o [ None ↦ later | Some item ↦ later ++ record { item = item; next = here.next } ∷ [] ] in
+    let here_with : Option T → Here T = λ o. elim o [ None ↦ here | Some item ↦ record here { first = None; next = length later + 1 } ] in
+    elim here.first as (λ o. here.first ≡ o → AreWays (later_of o) notes pending (here_with o) × (ways_of (later_of o) notes pending (here_with o) ≡ w)) [
+      | None ↦ λ f. (are, e)
+      | Some item ↦ λ f.
+          let entry : Later T = record { item = item; next = here.next } in
+          one_more_entry later (later ++ entry ∷ []) notes pending here w item None (length later + 1) are e f refl (sym (length-append later (entry ∷ [])))
+    ] refl
+
+pub settled_first : {T : Type 0} (later : List (Later T)) (here : Here T) → (settled_here later here).first ≡ None
+settled_first {T} later here =
+    elim here.first as (λ o. here.first ≡ o → (elim o as (λ _. Here T) [ None ↦ here | Some item ↦ record here { first = None; next = length later + 1 } ]).first ≡ None) [
+      | None ↦ λ f. f
+      | Some item ↦ λ f. refl
+    ] refl
+
+-- a copy of the present way is put aside
+pub one_aside : {T : Type 0} (later : List (Later T)) (notes : List Noted) (pending pending2 : List Pending) (here : Here T) (w : Ways T) (l n : ℕ)
+    → AreWays later notes pending here → ways_of later notes pending here ≡ w → here.first ≡ None → l ≡ length later → n ≡ length notes
+    → pending2 ≡ pending ++ record { at = here.at; next = here.next; noted = here.noted; later = l; notes = n } ∷ []
+    → AreWays later notes pending2 here × (ways_of later notes pending2 here ≡ record w { pending = w.here ∷ w.pending })
+one_aside {T} later notes pending pending2 here w l n are e none f g h =
+    let p : Pending = record { at = here.at; next = here.next; noted = here.noted; later = l; notes = n } in
+    let turned : reverse pending2 ≡ p ∷ reverse pending = ap reverse h ∙ reverse-push pending p in
+    let same : here_of p ≡ here = ap (λ (o : Option T). record here { first = o }) (sym none) in
+    let first : ArePending (length later) (length notes) (p ∷ reverse pending) = rw (f, g) ((omega arith, omega arith, are.within, are.put_aside)) in (
+      record {
+        linked = are.linked;
+        chained = are.chained;
+        numbered = are.numbered;
+        within = are.within;
+        put_aside = subst (ArePending (length later) (length notes)) (sym turned) first;
+      },
+      ap (λ ps. ways (thread_of (reverse later) (reverse notes) here) (map (λ p. thread_of (reverse later) (reverse notes) (here_of p)) ps)) turned
+          ∙ ap (λ t. ways (thread_of (reverse later) (reverse notes) here) (thread_of (reverse later) (reverse notes) t ∷ map (λ p. thread_of (reverse later) (reverse notes) (here_of p)) (reverse pending))) same
+          ∙ ap (λ (v : Ways T). record v { pending = v.here ∷ v.pending }) e,
+    )
+
 -- the next pending way in place of the present one
-pub taken_up : {T : Type 0} (later later2 : List (Later T)) (notes notes2 : List Noted) (pending pending2 : List (Pending T)) (next : Pending T) (here : Here T) (w : Ways T)
+pub taken_up : {T : Type 0} (later later2 : List (Later T)) (notes notes2 : List Noted) (pending pending2 : List Pending) (next : Pending) (here : Here T) (w : Ways T)
     → AreWays later notes pending here → ways_of later notes pending here ≡ w
     → pending ≡ pending2 ++ next ∷ [] → later2 ≡ take next.later later → notes2 ≡ take next.notes notes
-    → AreWays later2 notes2 pending2 next.here
-    × (w.pending ≡ (ways_of later2 notes2 pending2 next.here).here ∷ (ways_of later2 notes2 pending2 next.here).pending)
+    → AreWays later2 notes2 pending2 (here_of next)
+    × (w.pending ≡ (ways_of later2 notes2 pending2 (here_of next)).here ∷ (ways_of later2 notes2 pending2 (here_of next)).pending)
 taken_up {T} later later2 notes notes2 pending pending2 next here w are e f g h =
     let turned : reverse pending ≡ next ∷ reverse pending2 = ap reverse f ∙ reverse-push pending2 next in
     let aside = subst (ArePending (length later) (length notes)) turned are.put_aside in
@@ -230,29 +273,29 @@ taken_up {T} later later2 notes notes2 pending pending2 next here w are e f g h 
     let named = aside.2 in
     let few = aside.0 in
     let few2 = aside.1 in
-    let up : AreWays later notes pending2 next.here = record {
+    let up : AreWays later notes pending2 (here_of next) = record {
       linked = are.linked;
       chained = are.chained;
       numbered = are.numbered;
       within = record { next = let low = named.next in omega arith; noted = let low = named.noted in omega arith };
       put_aside = rest;
     } in
-    let done = cut later later2 notes notes2 next.later next.notes pending2 next.here up g h few few2 named aside.3 in (
+    let done = cut later later2 notes notes2 next.later next.notes pending2 (here_of next) up g h few few2 named aside.3 in (
       done.0,
       ap (λ (v : Ways T). v.pending) (sym e)
-          ∙ ap (map (λ (p : Pending T). thread_of (reverse later) (reverse notes) p.here)) turned
+          ∙ ap (map (λ (p : Pending). thread_of (reverse later) (reverse notes) (here_of p))) turned
           ∙ ap (λ (v : Ways T). v.here ∷ v.pending) (sym done.1),
     )
 
 -- what is to be done on the next pending way, with the notes of the present one
-pub gone_on : {T : Type 0} (later later2 : List (Later T)) (notes : List Noted) (pending pending2 : List (Pending T)) (next : Pending T) (here : Here T) (w : Ways T) (at : Place)
+pub gone_on : {T : Type 0} (later later2 : List (Later T)) (notes : List Noted) (pending pending2 : List Pending) (next : Pending) (here : Here T) (w : Ways T) (at : Place)
     → AreWays later notes pending here → ways_of later notes pending here ≡ w
     → pending ≡ pending2 ++ next ∷ [] → later2 ≡ take next.later later
-    → AreWays later2 notes pending2 (record next.here { at = at; noted = here.noted })
-    × (w.pending ≡ thread_of (reverse later) (reverse notes) next.here ∷ (ways_of later2 notes pending2 (record next.here { at = at; noted = here.noted })).pending)
-    × ((ways_of later2 notes pending2 (record next.here { at = at; noted = here.noted })).here ≡ record { todo = (thread_of (reverse later) (reverse notes) next.here).todo; way = record w.here.way { at = at } })
+    → AreWays later2 notes pending2 (record (here_of next) { at = at; noted = here.noted })
+    × (w.pending ≡ thread_of (reverse later) (reverse notes) (here_of next) ∷ (ways_of later2 notes pending2 (record (here_of next) { at = at; noted = here.noted })).pending)
+    × ((ways_of later2 notes pending2 (record (here_of next) { at = at; noted = here.noted })).here ≡ record { todo = (thread_of (reverse later) (reverse notes) (here_of next)).todo; way = record w.here.way { at = at } })
 gone_on {T} later later2 notes pending pending2 next here w at are e f g =
-    let there : Here T = record next.here { at = at; noted = here.noted } in
+    let there : Here T = record (here_of next) { at = at; noted = here.noted } in
     let turned : reverse pending ≡ next ∷ reverse pending2 = ap reverse f ∙ reverse-push pending2 next in
     let aside = subst (ArePending (length later) (length notes)) turned are.put_aside in
     let rest = ArePending-more next.later next.notes (length later) (length notes) (reverse pending2) aside.0 aside.1 aside.3 in
@@ -270,18 +313,18 @@ gone_on {T} later later2 notes pending pending2 next here w at are e f g =
     let done = cut later later2 notes notes next.later (length notes) pending2 there up g all few (omega arith) (record { next = named.next; noted = are.within.noted }) rest2 in (
       done.0,
       ap (λ (v : Ways T). v.pending) (sym e)
-          ∙ ap (map (λ (p : Pending T). thread_of (reverse later) (reverse notes) p.here)) turned
-          ∙ ap (λ (v : Ways T). thread_of (reverse later) (reverse notes) next.here ∷ v.pending) (sym done.1),
-      ap (λ (v : Ways T). v.here) done.1 ∙ ap (λ (v : Ways T). record { todo = (thread_of (reverse later) (reverse notes) next.here).todo; way = record v.here.way { at = at } }) e,
+          ∙ ap (map (λ (p : Pending). thread_of (reverse later) (reverse notes) (here_of p))) turned
+          ∙ ap (λ (v : Ways T). thread_of (reverse later) (reverse notes) (here_of next) ∷ v.pending) (sym done.1),
+      ap (λ (v : Ways T). v.here) done.1 ∙ ap (λ (v : Ways T). record { todo = (thread_of (reverse later) (reverse notes) (here_of next)).todo; way = record v.here.way { at = at } }) e,
     )
 
 -- the pending ways but for those put aside last
-pub forgotten : {T : Type 0} (later : List (Later T)) (notes : List Noted) (pending pending2 : List (Pending T)) (here : Here T) (w : Ways T) (count : ℕ)
+pub forgotten : {T : Type 0} (later : List (Later T)) (notes : List Noted) (pending pending2 : List Pending) (here : Here T) (w : Ways T) (count : ℕ)
     → AreWays later notes pending here → ways_of later notes pending here ≡ w → count ≤ length w.pending → pending2 ≡ take count pending
     → AreWays later notes pending2 here
     × (ways_of later notes pending2 here ≡ record w { pending = drop (length w.pending - count) w.pending })
 forgotten {T} later notes pending pending2 here w count are e few f =
-    let turn : Pending T → Thread T = λ p. thread_of (reverse later) (reverse notes) p.here in
+    let turn : Pending → Thread T = λ p. thread_of (reverse later) (reverse notes) (here_of p) in
     let dropped = reverse (drop count pending) in
     let kept = reverse (take count pending) in
     let parts : reverse pending ≡ dropped ++ kept = ap reverse (sym (take-append-drop count pending)) ∙ reverse-append (take count pending) (drop count pending) in
@@ -300,3 +343,16 @@ forgotten {T} later notes pending pending2 here w count are e few f =
       },
       ap (λ ts. ways (ways_of later notes pending here).here ts) (sym left) ∙ ap (λ (v : Ways T). ways v.here (drop (length w.pending - count) w.pending)) e,
     ))
+
+-- a copy of the present way is put aside, with what is to be done first among the entries
+module _ {T : Type 0} (later later2 : List (Later T)) (notes : List Noted) (pending pending2 : List Pending) (here here2 : Here T) (w : Ways T)
+    (are : AreWays later notes pending here) (e : ways_of later notes pending here ≡ w) (h : here2 ≡ settled_here later here) (s : later2 ≡ settled_later later here) where
+  pub settled_alone : pending2 ≡ pending → AreWays later2 notes pending2 here2
+  settled_alone p = rw (h, s, p) ((settled_ways later notes pending here w are e).0)
+
+  pub put_aside_too : (l n : ℕ) → l ≡ length later2 → n ≡ length notes
+      → pending2 ≡ pending ++ record { at = here2.at; next = here2.next; noted = here2.noted; later = l; notes = n } ∷ []
+      → AreWays later2 notes pending2 here2 × (ways_of later2 notes pending2 here2 ≡ record w { pending = w.here ∷ w.pending })
+  put_aside_too l n f g p =
+      let both : AreWays later2 notes pending here2 × (ways_of later2 notes pending here2 ≡ w) = rw (h, s) (settled_ways later notes pending here w are e) in
+      one_aside later2 notes pending pending2 here2 w l n both.0 both.1 (ap (λ (x : Here T). x.first) h ∙ settled_first later here) f g p

@@ -24,6 +24,7 @@ use Rattle.match_rules.proofs.Kept.{visits-kept}
 use Rattle.pattern_match.specs.declared.item.Item.{Item}
 use Rattle.pattern_match.specs.declared.item.Item.TheVariants.{Visit, Count, Close, CloseExternal}
 use Rattle.pattern_match.specs.declared.item.Turns.{Turns}
+use Rattle.pattern_match.specs.declared.item.Next.TheVariants as at_once
 use Rattle.pattern_match.specs.declared.item.Went.{Went}
 use Rattle.pattern_match.specs.declared.item.Went.TheVariants.{GoesOn, Does, Ends, TooCostly as NoMore}
 use Rattle.pattern_match.specs.declared.search.Ending.{Ending}
@@ -44,52 +45,52 @@ module _ (x : Context) (node : Shape) (old new : Ways Item) (s : Spent) (numbers
   follow_empty k e = rw k (silent x 0 _ old new s GoesOn within (leads_on x 0 old new old.here.way e (λ p. p)))
 
   pub follow_seq : (i j : Bor Step) → node ≡ seq (shape_of i.now) (shape_of j.now) → new ≡ record old { here = record old.here { todo = Visit j ∷ old.here.todo } } →
-      Goes x (height node) (followed (visits x node old.here.way) (marks_with x old.here.todo)) old new s s (Does (Visit i))
+      Goes x (height node) (followed (visits x node old.here.way) (marks_with x old.here.todo)) old new s s (Does (at_once.Visit i))
   follow_seq i j k e =
       let h : HasNumbers (shape_of i.now) × HasNumbers (shape_of j.now) = rw k at numbers in
       let m : height node ≡ max (height (shape_of i.now)) (height (shape_of j.now)) + 1 = rw k refl in
-      let l = leads_two x (height node) old new (Visit i) (Visit j) e h.0 (omega arith) h.1 (omega arith) in
-      silent x (height node) _ old new s (Does (Visit i)) within
-      (subst (λ n. Leads x (height node) (followed (visits x n old.here.way) (marks_with x old.here.todo)) old new (Does (Visit i))) (sym k) l)
+      let l = leads_two x (height node) old new (at_once.Visit i) (Visit j) e h.0 (omega arith) h.1 (omega arith) in
+      silent x (height node) _ old new s (Does (at_once.Visit i)) within
+      (subst (λ n. Leads x (height node) (followed (visits x n old.here.way) (marks_with x old.here.todo)) old new (Does (at_once.Visit i))) (sym k) l)
 
   pub follow_or : (i j : Bor Step) → node ≡ or (shape_of i.now) (shape_of j.now) → new ≡ record old { pending = record old.here { todo = Visit j ∷ old.here.todo } ∷ old.pending } →
-      Goes x (height node) (followed (visits x node old.here.way) (marks_with x old.here.todo)) old new s s (Does (Visit i))
+      Goes x (height node) (followed (visits x node old.here.way) (marks_with x old.here.todo)) old new s s (Does (at_once.Visit i))
   follow_or i j k e =
       let h : HasNumbers (shape_of i.now) × HasNumbers (shape_of j.now) = rw k at numbers in
       let m : height node ≡ max (height (shape_of i.now)) (height (shape_of j.now)) + 1 = rw k refl in
-      let l = leads_or x (height node) old new (Visit i) (Visit j) e h.0 (omega arith) h.1 (omega arith) in
-      silent x (height node) _ old new s (Does (Visit i)) within
-      (subst (λ n. Leads x (height node) (followed (visits x n old.here.way) (marks_with x old.here.todo)) old new (Does (Visit i))) (sym k) l)
+      let l = leads_or x (height node) old new (at_once.Visit i) (Visit j) e h.0 (omega arith) h.1 (omega arith) in
+      silent x (height node) _ old new s (Does (at_once.Visit i)) within
+      (subst (λ n. Leads x (height node) (followed (visits x n old.here.way) (marks_with x old.here.todo)) old new (Does (at_once.Visit i))) (sym k) l)
 
   pub follow_group : (i : Bor Step) (number : ℕ) (from : Place) → node ≡ group (shape_of i.now) number → from ≡ old.here.way.at → new ≡ record old { here = record old.here { todo = Close number from ∷ old.here.todo } } →
-      Goes x (height node) (followed (visits x node old.here.way) (marks_with x old.here.todo)) old new s s (Does (Visit i))
+      Goes x (height node) (followed (visits x node old.here.way) (marks_with x old.here.todo)) old new s s (Does (at_once.Visit i))
   follow_group i number from k f e =
       let h : IsOneToNine number × HasNumbers (shape_of i.now) = rw k at numbers in
       let m : height node ≡ height (shape_of i.now) + 1 = rw k refl in
       let e' : new ≡ record old { here = record old.here { todo = Close number old.here.way.at ∷ old.here.todo } } = e ∙ ap (λ p. record old { here = record old.here { todo = Close number p ∷ old.here.todo } }) f in
-      let l = leads_two x (height node) old new (Visit i) (Close number old.here.way.at) e' h.1 (omega arith) h.0 (omega arith) in
-      silent x (height node) _ old new s (Does (Visit i)) within
-      (subst (λ n. Leads x (height node) (followed (visits x n old.here.way) (marks_with x old.here.todo)) old new (Does (Visit i))) (sym k) l)
+      let l = leads_two x (height node) old new (at_once.Visit i) (Close number old.here.way.at) e' h.1 (omega arith) h.0 (omega arith) in
+      silent x (height node) _ old new s (Does (at_once.Visit i)) within
+      (subst (λ n. Leads x (height node) (followed (visits x n old.here.way) (marks_with x old.here.todo)) old new (Does (at_once.Visit i))) (sym k) l)
 
   pub follow_external : (i : Bor Step) (number : ℕ) (from : Place) → node ≡ external (shape_of i.now) number → from ≡ old.here.way.at → new ≡ record old { here = record old.here { todo = CloseExternal number from ∷ old.here.todo } } →
-      Goes x (height node) (followed (visits x node old.here.way) (marks_with x old.here.todo)) old new s s (Does (Visit i))
+      Goes x (height node) (followed (visits x node old.here.way) (marks_with x old.here.todo)) old new s s (Does (at_once.Visit i))
   follow_external i number from k f e =
       let h : IsOneToNine number × HasNumbers (shape_of i.now) = rw k at numbers in
       let m : height node ≡ height (shape_of i.now) + 1 = rw k refl in
       let e' : new ≡ record old { here = record old.here { todo = CloseExternal number old.here.way.at ∷ old.here.todo } } = e ∙ ap (λ p. record old { here = record old.here { todo = CloseExternal number p ∷ old.here.todo } }) f in
-      let l = leads_two x (height node) old new (Visit i) (CloseExternal number old.here.way.at) e' h.1 (omega arith) h.0 (omega arith) in
-      silent x (height node) _ old new s (Does (Visit i)) within
-      (subst (λ n. Leads x (height node) (followed (visits x n old.here.way) (marks_with x old.here.todo)) old new (Does (Visit i))) (sym k) l)
+      let l = leads_two x (height node) old new (at_once.Visit i) (CloseExternal number old.here.way.at) e' h.1 (omega arith) h.0 (omega arith) in
+      silent x (height node) _ old new s (Does (at_once.Visit i)) within
+      (subst (λ n. Leads x (height node) (followed (visits x n old.here.way) (marks_with x old.here.todo)) old new (Does (at_once.Visit i))) (sym k) l)
 
   pub follow_repeat : (t : Turns) → node ≡ repeat (shape_of t.part.now) t.least t.most t.lazy → new ≡ old →
-      Goes x (height node) (followed (visits x node old.here.way) (marks_with x old.here.todo)) old new s s (Does (Count t))
+      Goes x (height node) (followed (visits x node old.here.way) (marks_with x old.here.todo)) old new s s (Does (at_once.Count t))
   follow_repeat t k e =
       let h : HasNumbers (shape_of t.part.now) = rw k at numbers in
       let m : height node ≡ height (shape_of t.part.now) + 1 = rw k refl in
-      let l = leads_do x (height node) old (Count t) h (omega arith) in
-      silent x (height node) _ old new s (Does (Count t)) within
-      (subst (λ w. Leads x (height node) (followed (visits x node old.here.way) (marks_with x old.here.todo)) old w (Does (Count t))) (sym e)
-      (subst (λ n. Leads x (height node) (followed (visits x n old.here.way) (marks_with x old.here.todo)) old old (Does (Count t))) (sym k) l))
+      let l = leads_do x (height node) old (at_once.Count t) h (omega arith) in
+      silent x (height node) _ old new s (Does (at_once.Count t)) within
+      (subst (λ w. Leads x (height node) (followed (visits x node old.here.way) (marks_with x old.here.todo)) old w (Does (at_once.Count t))) (sym e)
+      (subst (λ n. Leads x (height node) (followed (visits x n old.here.way) (marks_with x old.here.todo)) old old (Does (at_once.Count t))) (sym k) l))
 
 -- ---- behind a look
 

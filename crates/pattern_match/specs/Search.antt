@@ -12,6 +12,9 @@ use Rattle.match_rules.specs.Looks.{look_end, ending_at, tried_behind}
 use Rattle.match_rules.specs.Attempt.{answer_from}
 use Rattle.match_rules.specs.Visits.{visits}
 use Rattle.pattern_match.specs.declared.item.Item.{Item}
+use Rattle.pattern_match.specs.declared.item.Item.TheVariants.{Visit, Count}
+use Rattle.pattern_match.specs.declared.item.Next.{Next}
+use Rattle.pattern_match.specs.declared.item.Next.TheVariants as at_once
 use Rattle.pattern_match.specs.declared.item.Went.{Went}
 use Rattle.pattern_match.specs.declared.item.Went.TheVariants.{GoesOn, Does, Ends, TooCostly as NoMore}
 use Rattle.pattern_match.specs.declared.search.Sought.{Sought}
@@ -28,10 +31,15 @@ use Rattle.pattern_match.specs.Heights.{AreItems, AreSound}
 
 -- ---- a step
 
+-- what is done at once, as a thing to be done
+abbrev pub item_of : Next → Item
+item_of (at_once.Visit s) = Visit s
+item_of (at_once.Count t) = Count t
+
 -- the present way as it goes on, and the other ways that a step has put before the pending ones
 abbrev pub going : Went → Thread Item → List (Thread Item) → List (Thread Item)
 going GoesOn t more = t ∷ more
-going (Does item) t more = record t { todo = item ∷ t.todo } ∷ more
+going (Does next) t more = record t { todo = item_of next ∷ t.todo } ∷ more
 going Ends t more = more
 going NoMore t more = more
 
@@ -83,7 +91,7 @@ pub record IsTicked (x : Context) (a : Atom) (old new : Ways Item) (earlier late
 
 abbrev pub IsTick : Context → Atom → Ways Item → Ways Item → Spent → Spent → Went → Type 0
 IsTick x a old new earlier later GoesOn = (p : Place) × (IsTicked x a old new earlier later (Some p) (way_behind old.here.way p a) × IsPlaceOf x.text p)
-IsTick x a old new earlier later (Does item) = ⊥
+IsTick x a old new earlier later (Does next) = ⊥
 IsTick x a old new earlier later Ends = IsTicked x a old new earlier later None old.here.way
 IsTick x a old new earlier later NoMore = earlier.budget ≤ earlier.cost
 

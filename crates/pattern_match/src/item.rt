@@ -28,13 +28,22 @@ pub(crate) struct Turns<'p> {
     pub lazy: bool,
 }
 
+/// What is done at once, and so is never kept.
+#[derive(Clone, Copy)]
+pub(crate) enum Next<'p> {
+    /// To follow a node.
+    Visit(&'p Step),
+    /// To make the turns of a count that are left.
+    Count(Turns<'p>),
+}
+
 /// How the present way goes on behind a step.
 #[derive(Clone, Copy)]
 pub(crate) enum Went<'p> {
     /// With what is to be done first on it.
     GoesOn,
     /// With this, before all that is to be done on it.
-    Does(Item<'p>),
+    Does(Next<'p>),
     /// Not at all.
     Ends,
     /// Not at all, nor does any other: the budget is spent.

@@ -14,6 +14,7 @@ mod codes;
 mod collection;
 mod context;
 mod item;
+mod parts;
 mod programs;
 mod ready;
 mod search;

@@ -11,13 +11,13 @@ ghost use Rattle.pattern_match.specs.Threads.{found_way};
 ghost use Rattle.pattern_match.specs.Answers.{answered, lines_or_start, match_of, IsAttempt};
 
 use crate::answer::{Attempt, Caps, GROUPS, Match};
-use crate::atoms::try_atom;
 use crate::context::Context;
 use crate::item::Item;
+use crate::parts::fails_at_once;
 use crate::ready::ready;
 use crate::search::{Sought, search};
 use crate::spent::Spent;
-use crate::step::{Step, first_test};
+use crate::step::Step;
 use crate::threads::{FoundWay, Threads};
 use crate::walks::part_of_line;
 use std::alloc::Global;
@@ -158,26 +158,6 @@ fn looked_or_start<T: Lines>(lines: &T, looked: Option<Looked>, start: Place) ->
 {
     let _count = lines.len();
     looked.unwrap_or(Looked::one(start.line as i64))
-}
-
-/// The lines looked at where the first atom that every way tries doesn't fit: that is the one tick then.
-fn fails_at_once<T: Lines>(
-    lines: &T,
-    context: &Context,
-    ways: &Threads<Item>,
-    step: &Step,
-) -> Option<Looked>
-    requires place { IsPlaceOf (T.lines lines.now) ways.now.here.way.at }
-    requires numbers { HasNumbers (shape_of step.now) }
-    ensures { let x = context_in (T.lines lines.now) context.now in
-        IfSome result (λ looked. visits x (shape_of step.now) ways.now.here.way ≡ Tick looked ∷ []) }
-{
-    let test = first_test(step)?;
-    let tried = try_atom(lines, context, ways, test);
-    match tried.place {
-        None => Some(tried.looked),
-        Some(_) => None,
-    }
 }
 
 /// The match of a way that was found from a start.

@@ -1,5 +1,5 @@
 //! The search for the first way of a part of a pattern.
-ghost use Rattle.std.specs.Prelude.{◌≡◌, ◌≤◌, ◌<◌, ◌^◌, ◌+◌, IfOk, OnOk, List, ◌∷◌, [], pos, ◌-ℤ◌};
+ghost use Rattle.std.specs.Prelude.{◌≡◌, ◌≤◌, ◌<◌, ◌^◌, ◌+◌, IfOk, OnOk, List, ◌∷◌, [], Some, None, pos, ◌-ℤ◌};
 ghost use Rattle.syn_base.specs.Looked.{one_line};
 ghost use Rattle.vim_pattern.specs.GroupNumbers.{HasNumbers};
 ghost use Rattle.match_rules.specs.Ways.{IsPlaceOf};
@@ -10,16 +10,17 @@ ghost use Rattle.pattern_match.specs.Steps.{shape_of};
 ghost use Rattle.pattern_match.specs.Threads.{Thread};
 ghost use Rattle.pattern_match.specs.declared.item.Item.{Item as AnyItem};
 ghost use Rattle.pattern_match.specs.Heights.{height, height_of, IsNumbered};
-ghost use Rattle.pattern_match.specs.Search.{IsStep, marks_first, IsSearch, wanted_marks, is_wanted, look_marks, going, behind_look, IsLed};
+ghost use Rattle.pattern_match.specs.Search.{IsStep, marks_first, item_of, IsSearch, wanted_marks, is_wanted, look_marks, going, behind_look, IsLed};
 
 use crate::behind::Starts;
 use crate::context::Context;
-use crate::item::{Item, Turns, Went};
+use crate::item::{Item, Next, Turns, Went};
+use crate::parts::{follow_both, follow_either};
 use crate::spent::Spent;
 use crate::step::Step;
 use crate::threads::Threads;
 use crate::tick::tick;
-use crate::turns::{after_turn, count, put_aside_with, turn};
+use crate::turns::{after_turn, count, turn};
 use pattern_items::Behind;
 use syn_base::{Lines, Looked, Memory, Place};
 
@@ -51,6 +52,41 @@ struct Look<'p> {
     ending: Ending,
 }
 
+impl<'p> Look<'p> {
+    /// A look ahead (`/\@=`, `/\@!`).
+    fn ahead(part: &'p Step, not: bool) -> Look<'p>
+        ensures { result ≡ record { part = part.entry; behind = None; ending = Ending.Look not } }
+    {
+        Look {
+            part,
+            behind: None,
+            ending: Ending::Look { not },
+        }
+    }
+
+    /// A look behind (`/\@<=`, `/\@<!`).
+    fn behind(part: &'p Step, not: bool, limit: Behind) -> Look<'p>
+        ensures { result ≡ record { part = part.entry; behind = Some limit; ending = Ending.Look not } }
+    {
+        Look {
+            part,
+            behind: Some(limit),
+            ending: Ending::Look { not },
+        }
+    }
+
+    /// A part that isn't entered again (`/\@>`).
+    fn whole(part: &'p Step) -> Look<'p>
+        ensures { result ≡ record { part = part.entry; behind = None; ending = Ending.Whole } }
+    {
+        Look {
+            part,
+            behind: None,
+            ending: Ending::Whole,
+        }
+    }
+}
+
 /// Whether a way that stands at a place is wanted: at that one, or at any.
 fn is_wanted(wanted: Option<Place>, at: Place) -> bool
     ensures { result ≡ is_wanted wanted at }
@@ -80,12 +116,12 @@ pub(crate) fn search<'p, T: Lines>(
 {
     let floor = ways.pending();
     ways.drop_all();
-    let mut went = Went::Does(Item::Visit(part));
+    let mut went = Went::Does(Next::Visit(part));
     for _ in 0..u64::MAX {
         went = match went {
-            Went::Does(item) => step(lines, context, ways, item, spent)?,
+            Went::Does(next) => follow(lines, context, ways, next, spent)?,
             Went::GoesOn => match ways.take_first() {
-                Some(item) => Went::Does(item),
+                Some(item) => step(lines, context, ways, item, spent)?,
                 None if is_wanted(wanted, ways.place()) => {
                     ways.forget_to(floor);
                     return Ok(Sought::Found);
@@ -106,7 +142,6 @@ pub(crate) fn search<'p, T: Lines>(
 }
 
 /// Does one thing on the present way.
-#[cycle(search)]
 fn step<'p, T: Lines>(
     lines: &T,
     context: &Context<'_>,
@@ -121,8 +156,8 @@ fn step<'p, T: Lines>(
         IfOk result (IsStep x (height_of item.entry) (marks_first x item.entry ways.old) ways.old ways.new spent.old spent.new) }
 {
     match item {
-        Item::Visit(node) => visit(lines, context, ways, node, spent),
-        Item::Count(turns) => count(lines, context, ways, turns, spent),
+        Item::Visit(node) => Ok(Went::Does(Next::Visit(node))),
+        Item::Count(turns) => Ok(Went::Does(Next::Count(turns))),
         Item::Turn(turns) => turn(lines, context, ways, turns, spent),
         Item::AfterTurn { turns, from } => Ok(after_turn(ways, turns, from)),
         Item::Close { number, from } => {
@@ -133,6 +168,27 @@ fn step<'p, T: Lines>(
             ways.note_external(number, from)?;
             Ok(Went::GoesOn)
         }
+    }
+}
+
+/// Follows a node from the present way, or makes the turns of a count.
+#[cycle(search)]
+fn follow<'p, T: Lines>(
+    lines: &T,
+    context: &Context<'_>,
+    ways: &mut Threads<Item<'p>>,
+    next: Next<'p>,
+    spent: &mut Spent,
+) -> Result<Went<'p>, Memory>
+    requires on_text { IsPlaceOf (T.lines lines.now) ways.old.here.way.at }
+    requires numbers { IsNumbered (item_of next) }
+    requires within { spent.old.cost ≤ spent.old.budget }
+    ensures { let x = context_in (T.lines lines.now) context.now in
+        IfOk result (IsStep x (height_of (item_of next.entry)) (marks_first x (item_of next.entry) ways.old) ways.old ways.new spent.old spent.new) }
+{
+    match next {
+        Next::Visit(node) => visit(lines, context, ways, node, spent),
+        Next::Count(turns) => count(lines, context, ways, turns, spent),
     }
 }
 
@@ -154,89 +210,61 @@ fn visit<'p, T: Lines>(
     match node {
         Step::Empty => Ok(Went::GoesOn),
         Step::One(test) => tick(lines, context, ways, test, spent),
-        Step::Seq(a, b) => {
-            ways.put_first(Item::Visit(b))?;
-            Ok(Went::Does(Item::Visit(a)))
-        }
-        Step::Or(a, b) => {
-            put_aside_with(ways, Item::Visit(b))?;
-            Ok(Went::Does(Item::Visit(a)))
-        }
+        Step::Seq(a, b) => follow_both(lines, context, ways, a, b, spent),
+        Step::Or(a, b) => follow_either(lines, context, ways, a, b, spent),
         Step::And(a, b) => {
             ways.put_first(Item::Visit(b))?;
-            follow_look(
-                lines,
-                context,
-                ways,
-                Look {
-                    part: a,
-                    behind: None,
-                    ending: Ending::Look { not: false },
-                },
-                spent,
-            )
+            follow_look(lines, context, ways, Look::ahead(a, false), spent)
         }
         Step::Group(part, number) => {
-            let from = ways.place();
-            ways.put_first(Item::Close {
-                number: *number,
-                from,
-            })?;
-            Ok(Went::Does(Item::Visit(part)))
+            open_group(ways, *number)?;
+            Ok(Went::Does(Next::Visit(part)))
         }
         Step::External(part, number) => {
-            let from = ways.place();
-            ways.put_first(Item::CloseExternal {
-                number: *number,
-                from,
-            })?;
-            Ok(Went::Does(Item::Visit(part)))
+            open_external(ways, *number)?;
+            Ok(Went::Does(Next::Visit(part)))
         }
         Step::Repeat {
             part,
             least,
             most,
             lazy,
-        } => Ok(Went::Does(Item::Count(Turns {
+        } => Ok(Went::Does(Next::Count(Turns {
             part,
             least: *least,
             most: *most,
             lazy: *lazy,
         }))),
-        Step::Ahead { part, not } => follow_look(
-            lines,
-            context,
-            ways,
-            Look {
-                part,
-                behind: None,
-                ending: Ending::Look { not: *not },
-            },
-            spent,
-        ),
-        Step::Before { part, not, limit } => follow_look(
-            lines,
-            context,
-            ways,
-            Look {
-                part,
-                behind: Some(*limit),
-                ending: Ending::Look { not: *not },
-            },
-            spent,
-        ),
-        Step::Whole(part) => follow_look(
-            lines,
-            context,
-            ways,
-            Look {
-                part,
-                behind: None,
-                ending: Ending::Whole,
-            },
-            spent,
-        ),
+        Step::Ahead { part, not } => {
+            follow_look(lines, context, ways, Look::ahead(part, *not), spent)
+        }
+        Step::Before { part, not, limit } => {
+            follow_look(
+                lines,
+                context,
+                ways,
+                Look::behind(part, *not, *limit),
+                spent,
+            )
+        }
+        Step::Whole(part) => follow_look(lines, context, ways, Look::whole(part), spent),
     }
+}
+
+/// A counted group begins on the present way: it closes behind its part.
+fn open_group<'p>(ways: &mut Threads<Item<'p>>, number: u8) -> Result<(), Memory>
+    ensures { OnOk result (ways.new ≡ record ways.old { here = record ways.old.here { todo = Item.Close number ways.old.here.way.at ∷ ways.old.here.todo } }) }
+{
+    let from = ways.place();
+    ways.put_first(Item::Close { number, from })
+}
+
+/// An external group begins on the present way.
+fn open_external<'p>(ways: &mut Threads<Item<'p>>, number: u8) -> Result<(), Memory>
+    ensures { OnOk result (ways.new ≡ record ways.old { here = record ways.old.here { todo = Item.CloseExternal number ways.old.here.way.at ∷ ways.old.here.todo } }) }
+{
+    let from = ways.place();
+    ways.put_first(Item::CloseExternal { number, from })
 }
 
 /// Searches for the first way of a part, and goes on behind it.

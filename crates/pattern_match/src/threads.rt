@@ -4,9 +4,9 @@
 //! entries of two lists, each of which names the entry behind it. Entries are numbered from 1, and 0 is
 //! none. A way is a place, the one thing that is to be done first, and two such numbers. When a pending
 //! way is taken up, the entries that came after it are forgotten.
-ghost use Rattle.std.specs.Prelude.{◌≡◌, ◌≤◌, [], ◌∷◌, drop, length, reverse, ◌+◌, ◌-◌, ◌<◌, IfOk, OnOk, MatchOption, ℕ, IsTrue, IsFalse, Some};
+ghost use Rattle.std.specs.Prelude.{◌≡◌, ◌≤◌, [], ◌∷◌, drop, length, reverse, ◌+◌, ◌-◌, ◌<◌, IfOk, OnOk, OnErr, MatchOption, ℕ, IsTrue, IsFalse, Some};
 ghost use Rattle.match_rules.specs.Ways.{way_from, with_capture, capture_of};
-ghost use Rattle.pattern_match.specs.Threads.{Thread, with_note, place_of, found_way, IsNumbered, entries_named, capture_in, with_earlier, with_earlier_capture};
+ghost use Rattle.pattern_match.specs.Threads.{Thread, with_note, place_of, found_way, IsNumbered, entries_named, settled_here, settled_later, capture_in, with_earlier, with_earlier_capture};
 
 use std::alloc::Global;
 use std::marker::Model;
@@ -46,13 +46,18 @@ struct Here<T> {
     noted: usize,
 }
 
-/// A way that is still to be followed, and how many entries there were when it was put aside.
+/// A way that is still to be followed, and how many entries there were when it was put aside. All that
+/// is to be done on it is kept as entries, so that it is small.
 #[derive(Clone, Copy)]
-struct Pending<T> {
-    here: Here<T>,
+struct Pending {
+    at: Place,
+    next: usize,
+    noted: usize,
     later: usize,
     notes: usize,
 }
+
+const _: () = prove!(size_of::<Pending>() <= 64);
 
 /// The present way and the pending ones.
 #[derive(Drop)]
@@ -60,7 +65,7 @@ pub(crate) struct Threads<T> {
     here: Here<T>,
     later: Vec<Later<T>>,
     notes: Vec<Noted>,
-    pending: Vec<Pending<T>>,
+    pending: Vec<Pending>,
 }
 
 impl<T> Model for Threads<T> {
@@ -147,8 +152,12 @@ impl<T: Copy> Threads<T> {
     pub(crate) fn put_aside(&mut self) -> Result<(), Memory>
         ensures { OnOk result (self.new ≡ record self.old { pending = self.old.here ∷ self.old.pending }) }
     {
+        let here = settle(&mut self.later, self.here)?;
+        self.here = here;
         self.pending.push(Pending {
-            here: self.here,
+            at: here.at,
+            next: here.next,
+            noted: here.noted,
             later: self.later.len(),
             notes: self.notes.len(),
         })?;
@@ -172,7 +181,12 @@ impl<T: Copy> Threads<T> {
         };
         self.later.truncate(next.later);
         self.notes.truncate(next.notes);
-        self.here = next.here;
+        self.here = Here {
+            at: next.at,
+            first: None,
+            next: next.next,
+            noted: next.noted,
+        };
         true
     }
 
@@ -194,12 +208,10 @@ impl<T: Copy> Threads<T> {
             return false;
         };
         self.later.truncate(next.later);
-        let there = next.here;
-        let at = place_of(stay, self.here.at, there.at);
         self.here = Here {
-            at,
-            first: there.first,
-            next: there.next,
+            at: place_of(stay, self.here.at, next.at),
+            first: None,
+            next: next.next,
             noted: self.here.noted,
         };
         true
@@ -301,8 +313,29 @@ impl<T: Copy> Threads<T> {
     }
 }
 
+/// The present way with what is to be done first on it among the entries.
+fn settle<T: Copy>(later: &mut Vec<Later<T>>, here: Here<T>) -> Result<Here<T>, Memory>
+    ensures here { IfOk result (λ settled. settled ≡ settled_here later.old.items here) }
+    ensures later { OnOk result (later.new.items ≡ settled_later later.old.items here) }
+    ensures unchanged { OnErr result (later.new.items ≡ later.old.items) }
+{
+    let Some(item) = here.first else {
+        return Ok(here);
+    };
+    later.push(Later {
+        item,
+        next: here.next,
+    })?;
+    Ok(Here {
+        at: here.at,
+        first: None,
+        next: later.len(),
+        noted: here.noted,
+    })
+}
+
 /// How many entries of what is to be done the pending ways may name.
-fn entries_named<T: Copy>(pending: &[Pending<T>]) -> usize
+fn entries_named(pending: &[Pending]) -> usize
     ensures { result ≡ entries_named (reverse pending.now) }
 {
     match pending.last() {

@@ -1,17 +1,18 @@
 //! The turns of a count (`/multi`).
-ghost use Rattle.std.specs.Prelude.{◌≡◌, ◌≤◌, ◌+◌, IfOk, OnOk, ◌∷◌};
+ghost use Rattle.std.specs.Prelude.{◌≡◌, ◌≤◌, ◌+◌, IfOk, OnOk, ◌∷◌, false};
 ghost use Rattle.vim_pattern.specs.GroupNumbers.{HasNumbers};
+ghost use Rattle.vim_pattern.specs.Shape.{one};
 ghost use Rattle.match_rules.specs.Ways.{Context as AnyContext, IsPlaceOf, is_after};
 ghost use Rattle.match_rules.specs.Counts.{one_less, less_by, is_spent};
 ghost use Rattle.pattern_match.specs.Contexts.{context_in};
-ghost use Rattle.pattern_match.specs.Steps.{shape_of};
+ghost use Rattle.pattern_match.specs.Steps.{atom_of, shape_of};
 ghost use Rattle.pattern_match.specs.Heights.{height};
 ghost use Rattle.pattern_match.specs.Search.{Leads, IsLed, IsStep, marks_first};
 
 use crate::context::Context;
-use crate::item::{Item, Turns, Went};
+use crate::item::{Item, Next, Turns, Went};
 use crate::spent::Spent;
-use crate::step::Step;
+use crate::step::{Step, Test};
 use crate::threads::Threads;
 use crate::tick::tick;
 use syn_base::{Lines, Memory, Place};
@@ -70,7 +71,7 @@ pub(crate) fn after_turn<'p>(ways: &Threads<Item<'p>>, turns: Turns<'p>, from: P
     ensures leads { (x : AnyContext) → Leads x (height (shape_of turns.entry.part.now) + 1) (marks_first x (Item.AfterTurn turns.entry from) ways.now) ways.now ways.now result }
 {
     if is_after(ways.place(), from) {
-        Went::Does(Item::Count(Turns {
+        Went::Does(Next::Count(Turns {
             least: turns.least.saturating_sub(1),
             most: one_less(turns.most),
             ..turns
@@ -78,7 +79,7 @@ pub(crate) fn after_turn<'p>(ways: &Threads<Item<'p>>, turns: Turns<'p>, from: P
     } else if turns.least == 0 {
         Went::Ends
     } else {
-        Went::Does(Item::Count(Turns {
+        Went::Does(Next::Count(Turns {
             least: 0,
             most: less_by(turns.most, turns.least),
             ..turns
@@ -109,7 +110,7 @@ pub(crate) fn turn<'p, T: Lines>(
         },
         part => {
             ways.put_first(Item::AfterTurn { turns, from })?;
-            Ok(Went::Does(Item::Visit(part)))
+            Ok(Went::Does(Next::Visit(part)))
         }
     }
 }
@@ -136,8 +137,44 @@ pub(crate) fn count<'p, T: Lines>(
     } else if turns.lazy {
         put_aside_with(ways, Item::Turn(turns))?;
         Ok(Went::GoesOn)
+    } else if let Step::One(test) = turns.part {
+        count_atoms(lines, context, ways, test, turns, spent)
     } else {
         ways.put_aside()?;
         turn(lines, context, ways, turns, spent)
     }
+}
+
+/// Makes the turns of a greedy count of an atom, with the stop behind each, as long as they go on.
+fn count_atoms<'p, T: Lines>(
+    lines: &T,
+    context: &Context<'_>,
+    ways: &mut Threads<Item<'p>>,
+    test: &Test,
+    turns: Turns<'p>,
+    spent: &mut Spent,
+) -> Result<Went<'p>, Memory>
+    requires on_text { IsPlaceOf (T.lines lines.now) ways.old.here.way.at }
+    requires numbers { HasNumbers (shape_of turns.part.now) }
+    requires atom { shape_of turns.part.now ≡ one (atom_of test.now) }
+    requires free { turns.least ≡ 0 }
+    requires greedy { turns.lazy ≡ false }
+    requires within { spent.old.cost ≤ spent.old.budget }
+    ensures { let x = context_in (T.lines lines.now) context.now in
+        IfOk result (IsStep x (height (shape_of turns.entry.part.now) + 1) (marks_first x (Item.Count turns.entry) ways.old) ways.old ways.new spent.old spent.new) }
+{
+    let mut most = turns.most;
+    for _ in 0..u64::MAX {
+        if is_spent(most) {
+            return Ok(Went::GoesOn);
+        }
+        let from = ways.place();
+        ways.put_aside()?;
+        match tick(lines, context, ways, test, spent)? {
+            Went::GoesOn if is_after(ways.place(), from) => most = one_less(most),
+            Went::GoesOn => return Ok(Went::Ends),
+            went => return Ok(went),
+        }
+    }
+    Err(Memory)
 }

@@ -7,6 +7,8 @@
 
 mod attempt;
 mod case;
+#[cfg(test)]
+mod tests;
 mod trial;
 
 use case::write_case;

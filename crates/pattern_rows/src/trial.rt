@@ -139,7 +139,7 @@ fn read_external(option: &str) -> Option<(usize, &str)> {
 }
 
 /// The texts of the external groups that the options give; the others are empty.
-fn read_externals(alloc: Global, options: Option<&str>) -> Result<Externals, Memory> {
+pub(crate) fn read_externals(alloc: Global, options: Option<&str>) -> Result<Externals, Memory> {
     let mut texts = List::new(alloc);
     for index in 0..EXTERNALS {
         let text = external_of(options, index + 1);

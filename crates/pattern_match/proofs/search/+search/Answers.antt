@@ -13,14 +13,14 @@ use Rattle.pattern_match.specs.declared.item.Item.{Item}
 use Rattle.pattern_match.specs.Heights.{height}
 use Rattle.pattern_match.specs.Starts.{starts_left}
 use Rattle.pattern_match.specs.Threads.{Ways}
-use Rattle.pattern_match.specs.Search.{IsSearch, HasEnded, part_marks, wanted_marks, is_wanted}
+use Rattle.pattern_match.specs.Search.{IsSearch, HasEnded, part_marks, wanted_marks, is_wanted, item_of}
 use Rattle.pattern_match.proofs.Leading.{silent, led, leads_on}
-use Rattle.pattern_match.proofs.Looping.{Running, stepped, taken, passed, one_pending, next_one, started}
+use Rattle.pattern_match.proofs.Looping.{Running, stepped, at_once_done, taken, passed, one_pending, next_one, started}
 use Rattle.pattern_match.proofs.Stepping.{atom_step}
-use Rattle.pattern_match.proofs.Visiting.{follow_empty, follow_seq, follow_or, follow_group, follow_external, follow_repeat, look_goes, look_over, part-kept, higher, and_step}
+use Rattle.pattern_match.proofs.Visiting.{follow_empty, follow_group, follow_external, follow_repeat, look_goes, look_over, part-kept, higher, and_step}
 use Rattle.pattern_match.proofs.LookingBehind.{behind_ended, behind_over, start_found, start_absent, start_over, start_marks, copy_dropped, starts_over}
 use Rattle.pattern_match.proofs.search.+search.Goals as goal
-use Rattle.pattern_match.proofs.search.+search.Goals.{follow_look-in-None+in_ok-sought-in-None, follow_look-in-Some+in_ok-sought-in-Some, follow_look-in-Found, follow_look-in-Absent, follow_look-in-TooCostly, search-in-Does+in_ok-went-in-Does, search-in-GoesOn+in-Some, search-in-GoesOn+in-None-2, search-in-Ends+else-pending-floor}
+use Rattle.pattern_match.proofs.search.+search.Goals.{follow_look-in-None+in_ok-sought-in-None, follow_look-in-Some+in_ok-sought-in-Some, follow_look-in-Found, follow_look-in-Absent, follow_look-in-TooCostly, search-in-Does+in_ok-went-in-Does, search-in-GoesOn+in-Some+in_ok-went-in-Some, search-in-GoesOn+in-None-2, search-in-Ends+else-pending-floor}
 
 pub visit-returns-in-Empty : goal.visit-returns-in-Empty
 visit-returns-in-Empty g t c =
@@ -35,29 +35,25 @@ visit-returns-in-One g t c =
     (λ went h. atom_step x (atom_of c.in-One.test) c.args.ways.now c.tick.new.ways c.args.spent.now c.tick.new.spent 0 went h)
     c.tick.ensures)
 
-pub visit-returns-in_ok-put_first-in-Seq : goal.visit-returns-in_ok-put_first-in-Seq
-visit-returns-in_ok-put_first-in-Seq g t c =
-    let x : AnyContext = context_in (g.T.Lines.lines c.args.lines.now) c.args.context.now in
-    follow_seq x (shape_of c.args.node.now) c.args.ways.now c.put_first.new.self c.args.spent.now c.requires.numbers c.requires.within c.deref-in-Seq.result c.deref.result
-    (rw (c.in-Seq.is, c.deref-in-Seq.ensures, c.deref.ensures) refl) c.in_ok-put_first-in-Seq.ensures
+pub visit-returns-in-Seq : goal.visit-returns-in-Seq
+visit-returns-in-Seq g t c =
+    rw c.in-Seq.is (rw (c.deref-in-Seq.ensures, c.deref.ensures) at c.follow_both.ensures)
 
-pub visit-returns-in_ok-put_aside_with-in-Or : goal.visit-returns-in_ok-put_aside_with-in-Or
-visit-returns-in_ok-put_aside_with-in-Or g t c =
-    let x : AnyContext = context_in (g.T.Lines.lines c.args.lines.now) c.args.context.now in
-    follow_or x (shape_of c.args.node.now) c.args.ways.now c.put_aside_with.new.ways c.args.spent.now c.requires.numbers c.requires.within c.deref-in-Or-2.result c.deref-in-Or.result
-    (rw (c.in-Or.is, c.deref-in-Or-2.ensures, c.deref-in-Or.ensures) refl) c.in_ok-put_aside_with-in-Or.ensures
+pub visit-returns-in-Or : goal.visit-returns-in-Or
+visit-returns-in-Or g t c =
+    rw c.in-Or.is (rw (c.deref-in-Or-2.ensures, c.deref-in-Or.ensures) at c.follow_either.ensures)
 
-pub visit-returns-in_ok-put_first-in-Group : goal.visit-returns-in_ok-put_first-in-Group
-visit-returns-in_ok-put_first-in-Group g t c =
+pub visit-returns-in_ok-open_group-in-Group : goal.visit-returns-in_ok-open_group-in-Group
+visit-returns-in_ok-open_group-in-Group g t c =
     let x : AnyContext = context_in (g.T.Lines.lines c.args.lines.now) c.args.context.now in
-    follow_group x (shape_of c.args.node.now) c.args.ways.now c.put_first-in-Group.new.self c.args.spent.now c.requires.numbers c.requires.within c.deref-in-Group.result c.in-Group.number c.place-from.result
-    (rw (c.in-Group.is, c.deref-in-Group.ensures) refl) c.place-from.ensures c.in_ok-put_first-in-Group.ensures
+    follow_group x (shape_of c.args.node.now) c.args.ways.now c.open_group.new.ways c.args.spent.now c.requires.numbers c.requires.within c.deref-in-Group.result c.in-Group.number c.args.ways.now.here.way.at
+    (rw (c.in-Group.is, c.deref-in-Group.ensures) refl) refl c.in_ok-open_group-in-Group.ensures
 
-pub visit-returns-in_ok-put_first-in-External : goal.visit-returns-in_ok-put_first-in-External
-visit-returns-in_ok-put_first-in-External g t c =
+pub visit-returns-in_ok-open_external-in-External : goal.visit-returns-in_ok-open_external-in-External
+visit-returns-in_ok-open_external-in-External g t c =
     let x : AnyContext = context_in (g.T.Lines.lines c.args.lines.now) c.args.context.now in
-    follow_external x (shape_of c.args.node.now) c.args.ways.now c.put_first-in-External.new.self c.args.spent.now c.requires.numbers c.requires.within c.deref-in-External.result c.in-External.number c.place-from-in-External.result
-    (rw (c.in-External.is, c.deref-in-External.ensures) refl) c.place-from-in-External.ensures c.in_ok-put_first-in-External.ensures
+    follow_external x (shape_of c.args.node.now) c.args.ways.now c.open_external.new.ways c.args.spent.now c.requires.numbers c.requires.within c.deref-in-External.result c.in-External.number c.args.ways.now.here.way.at
+    (rw (c.in-External.is, c.deref-in-External.ensures) refl) refl c.in_ok-open_external-in-External.ensures
 
 pub visit-returns-in-Repeat : goal.visit-returns-in-Repeat
 visit-returns-in-Repeat g t c =
@@ -69,15 +65,15 @@ pub visit-returns-in_ok-put_first-in-And : goal.visit-returns-in_ok-put_first-in
 visit-returns-in_ok-put_first-in-And g t c =
     let x : AnyContext = context_in (g.T.Lines.lines c.args.lines.now) c.args.context.now in
     let k : shape_of c.args.node.now ≡ and (shape_of c.deref-in-And-2.result.now) (shape_of c.deref-in-And.result.now) = rw (c.in-And.is, c.deref-in-And-2.ensures, c.deref-in-And.ensures) refl in
-    and_step x (shape_of c.args.node.now) c.deref-in-And-2.result c.deref-in-And.result k c.requires.numbers c.args.ways.now c.put_first-in-And.new.self c.in_ok-put_first-in-And.ensures
-    c.follow_look.new.ways c.args.spent.now c.follow_look.new.spent c.follow_look.result c.follow_look.ensures
+    and_step x (shape_of c.args.node.now) c.deref-in-And-2.result c.deref-in-And.result k c.requires.numbers c.args.ways.now c.put_first.new.self c.in_ok-put_first-in-And.ensures
+    c.follow_look.new.ways c.args.spent.now c.follow_look.new.spent c.follow_look.result (rw c.ahead.ensures at c.follow_look.ensures)
 
 pub visit-returns-in-Before : goal.visit-returns-in-Before
 visit-returns-in-Before g t c =
     let x : AnyContext = context_in (g.T.Lines.lines c.args.lines.now) c.args.context.now in
     rw c.in-Before.is
     (IfOk-weaker c.follow_look-in-Before.result _ _
-    (λ went h. higher x _ _ c.args.ways.now c.follow_look-in-Before.new.ways c.args.spent.now c.follow_look-in-Before.new.spent went (rw c.deref-in-Before.ensures at h))
+    (λ went h. higher x _ _ c.args.ways.now c.follow_look-in-Before.new.ways c.args.spent.now c.follow_look-in-Before.new.spent went (rw (c.behind.ensures, c.deref-in-Before.ensures) at h))
     c.follow_look-in-Before.ensures)
 
 pub visit-returns-in-Ahead : goal.visit-returns-in-Ahead
@@ -85,7 +81,7 @@ visit-returns-in-Ahead g t c =
     let x : AnyContext = context_in (g.T.Lines.lines c.args.lines.now) c.args.context.now in
     rw c.in-Ahead.is
     (IfOk-weaker c.follow_look-in-Ahead.result _ _
-    (λ went h. higher x _ _ c.args.ways.now c.follow_look-in-Ahead.new.ways c.args.spent.now c.follow_look-in-Ahead.new.spent went (rw c.deref-in-Ahead.ensures at h))
+    (λ went h. higher x _ _ c.args.ways.now c.follow_look-in-Ahead.new.ways c.args.spent.now c.follow_look-in-Ahead.new.spent went (rw (c.ahead-in-Ahead.ensures, c.deref-in-Ahead.ensures) at h))
     c.follow_look-in-Ahead.ensures)
 
 pub visit-returns-in-Whole : goal.visit-returns-in-Whole
@@ -93,29 +89,8 @@ visit-returns-in-Whole g t c =
     let x : AnyContext = context_in (g.T.Lines.lines c.args.lines.now) c.args.context.now in
     rw c.in-Whole.is
     (IfOk-weaker c.follow_look-in-Whole.result _ _
-    (λ went h. higher x _ _ c.args.ways.now c.follow_look-in-Whole.new.ways c.args.spent.now c.follow_look-in-Whole.new.spent went (rw c.deref-in-Whole.ensures at h))
+    (λ went h. higher x _ _ c.args.ways.now c.follow_look-in-Whole.new.ways c.args.spent.now c.follow_look-in-Whole.new.spent went (rw (c.whole.ensures, c.deref-in-Whole.ensures) at h))
     c.follow_look-in-Whole.ensures)
-
-pub step-returns-in-AfterTurn : goal.step-returns-in-AfterTurn
-step-returns-in-AfterTurn g t c =
-    let x : AnyContext = context_in (g.T.Lines.lines c.args.lines.now) c.args.context.now in
-    rw c.in-AfterTurn.is
-    (led x _ _ c.args.ways.now c.args.ways.now c.args.spent.now c.args.spent.now c.after_turn.result c.after_turn.ensures.led
-    (silent x _ _ c.args.ways.now c.args.ways.now c.args.spent.now c.after_turn.result c.requires.within (c.after_turn.ensures.leads x)))
-
-pub step-returns-in_ok-note_capture-in-Close : goal.step-returns-in_ok-note_capture-in-Close
-step-returns-in_ok-note_capture-in-Close g t c =
-    let x : AnyContext = context_in (g.T.Lines.lines c.args.lines.now) c.args.context.now in
-    rw c.in-Close.is
-    (silent x 0 _ c.args.ways.now c.note_capture.new.self c.args.spent.now GoesOn c.requires.within
-    (leads_on x 0 c.args.ways.now c.note_capture.new.self (record c.args.ways.now.here.way { captures = with_capture c.args.ways.now.here.way.captures c.in-Close.number c.in-Close.from c.args.ways.now.here.way.at }) c.in_ok-note_capture-in-Close.ensures (λ p. p)))
-
-pub step-returns-in_ok-note_external-in-CloseExternal : goal.step-returns-in_ok-note_external-in-CloseExternal
-step-returns-in_ok-note_external-in-CloseExternal g t c =
-    let x : AnyContext = context_in (g.T.Lines.lines c.args.lines.now) c.args.context.now in
-    rw c.in-CloseExternal.is
-    (silent x 0 _ c.args.ways.now c.note_external.new.self c.args.spent.now GoesOn c.requires.within
-    (leads_on x 0 c.args.ways.now c.note_external.new.self (record c.args.ways.now.here.way { externals = with_capture c.args.ways.now.here.way.externals c.in-CloseExternal.number c.in-CloseExternal.from c.args.ways.now.here.way.at }) c.in_ok-note_external-in-CloseExternal.ensures (λ p. p)))
 
 pub search-loop-init : goal.search-loop-init
 search-loop-init g t c =
@@ -202,14 +177,16 @@ search-loop-preserved g t c =
     let floor = c.args.ways.now.pending in
     elim c.match-went.branch [
       | search-in-Does+in_ok-went-in-Does w ↦
-          (let r : Running x n c.args.wanted answer budget floor c.loop.ways c.loop.spent (Does w.in-Does.item) = rw w.in-Does.is at c.loop.invariant in
+          (let r : Running x n c.args.wanted answer budget floor c.loop.ways c.loop.spent (Does w.in-Does.next) = rw w.in-Does.is at c.loop.invariant in
           rw (w.ways-is, w.spent-is, w.went-is)
-          (stepped x n c.args.wanted answer budget floor c.loop.ways c.loop.spent w.step.new.ways w.step.new.spent w.in-Does.item r w.in_ok-went-in-Does.went w.in_ok-went-in-Does.ensures))
-      | search-in-GoesOn+in-Some w ↦
+          (stepped x n c.args.wanted answer budget floor c.loop.ways c.loop.spent w.follow.new.ways w.follow.new.spent (item_of w.in-Does.next)
+          (at_once_done x n c.args.wanted answer budget floor c.loop.ways c.loop.spent w.in-Does.next r) w.in_ok-went-in-Does.went w.in_ok-went-in-Does.ensures))
+      | search-in-GoesOn+in-Some+in_ok-went-in-Some w ↦
           (let r : Running x n c.args.wanted answer budget floor c.loop.ways c.loop.spent GoesOn = rw w.in-GoesOn.is at c.loop.invariant in
           let k = w.in-Some.ensures in
           rw (w.ways-is, w.spent-is, w.went-is)
-          (taken x n c.args.wanted answer budget floor c.loop.ways c.loop.spent w.take_first.new.self w.in-Some.item r k.0 k.1 k.2))
+          (stepped x n c.args.wanted answer budget floor w.take_first.new.self c.loop.spent w.step.new.ways w.step.new.spent w.in-Some.item
+          (taken x n c.args.wanted answer budget floor c.loop.ways c.loop.spent w.take_first.new.self w.in-Some.item r k.0 k.1 k.2) w.in_ok-went-in-Some.went w.in_ok-went-in-Some.ensures))
       | search-in-GoesOn+in-None-2 w ↦
           (let r : Running x n c.args.wanted answer budget floor c.loop.ways c.loop.spent GoesOn = rw w.in-GoesOn.is at c.loop.invariant in
           let k = w.in-None.ensures in

@@ -4,7 +4,7 @@ use Rattle.match_rules.specs.Attempt.{answer_from}
 use Rattle.pattern_match.specs.Contexts.{context_in}
 use Rattle.pattern_match.specs.Steps.{shape_of}
 use Rattle.pattern_match.specs.Heights.{height, height_of}
-use Rattle.pattern_match.specs.Search.{wanted_marks}
+use Rattle.pattern_match.specs.Search.{wanted_marks, item_of}
 use Rattle.pattern_match.specs.Starts.{starts_left}
 use Rattle.pattern_match.proofs.Looping.{IsRunning}
 use Rattle.pattern_match.proofs.LookingBehind.{IsBehind}
@@ -14,8 +14,8 @@ use Rattle.pattern_match.proofs.search.+search.Given as goal
 abbrev pub decreases-search : goal.decreases-search
 decreases-search g l = 8 * height (shape_of l.part.now) + 3
 
-abbrev pub decreases-step : goal.decreases-step
-decreases-step g l = 8 * height_of l.item + 2
+abbrev pub decreases-follow : goal.decreases-follow
+decreases-follow g l = 8 * height_of (item_of l.next) + 2
 
 abbrev pub decreases-visit : goal.decreases-visit
 decreases-visit g l = 8 * height (shape_of l.node.now) + 1

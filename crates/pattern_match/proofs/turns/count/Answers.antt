@@ -28,6 +28,6 @@ returns-in_ok-put_aside_with g c =
 pub returns-in_ok-put_aside : goal.returns-in_ok-put_aside
 returns-in_ok-put_aside g c =
     let x : AnyContext = context_in (g.T.Lines.lines c.args.lines.now) c.args.context.now in
-    IfOk-weaker c.turn-else-turns.result _ _
-    (λ went step. count_greedy x c.args.turns c.args.ways.now c.requires.numbers c.requires.on_text c.put_aside.new.self c.turn-else-turns.new.ways c.args.spent.now c.turn-else-turns.new.spent went (search rules) (omega arith) (search rules) c.in_ok-put_aside.ensures step)
-    c.turn-else-turns.ensures
+    IfOk-weaker c.turn-in_default.result _ _
+    (λ went step. count_greedy x c.args.turns c.args.ways.now c.requires.numbers c.requires.on_text c.put_aside.new.self c.turn-in_default.new.ways c.args.spent.now c.turn-in_default.new.spent went (search rules) (omega arith) (search rules) c.in_ok-put_aside.ensures step)
+    c.turn-in_default.ensures

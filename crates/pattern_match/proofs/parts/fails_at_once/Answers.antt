@@ -3,7 +3,7 @@ use Rattle.match_rules.specs.Marks.{Tick}
 use Rattle.pattern_match.specs.Contexts.{context_in}
 use Rattle.pattern_match.specs.Steps.{atom_of, shape_of}
 use Rattle.pattern_match.proofs.FirstAtomLaws.{first_atom-fails, first_atom-number}
-use Rattle.pattern_match.proofs.programs.fails_at_once.Goals as goal
+use Rattle.pattern_match.proofs.parts.fails_at_once.Goals as goal
 
 pub try_atom-tried-requires-clause-numbers : goal.try_atom-tried-requires-clause-numbers
 try_atom-tried-requires-clause-numbers g c =
