@@ -1,3 +1,4 @@
+mod CheckLaws
 mod PaintLaws
 mod PrintLaws
 mod RunLaws

@@ -3,19 +3,22 @@ use Rattle.std.proofs.Common.{◌≡◌, ◌≢◌, ℕ, Bool, true, false, List
 use Rattle.std.specs.Prelude.{◌⊎◌, Option, Some, None, Result, Ok, Err, IfSome, IsSomeAnd}
 use Rattle.std.proofs.lemmas.List.{append-nil}
 use Rattle.std.proofs.Math.Seq.{take-length}
+use Rattle.program_words.specs.declared.words.Asked.{Asked}
+use Rattle.program_words.specs.Words.{asked_of}
 use Rattle.syn_base.specs.Causes.{Counted, Rose}
 use Rattle.syn_base.specs.Outside.{AppendsPrefix, FileMap, appended}
 use Rattle.vimsyn_cli.specs.declared.fault.Cause.{Cause}
-use Rattle.vimsyn_cli.specs.declared.fault.Cause.TheVariants.{Missing, Unread, TooLong, NotBuilt, BadUtf8, LineTooLong, TooManyLines}
+use Rattle.vimsyn_cli.specs.declared.fault.Cause.TheVariants.{Missing, Unread, TooLong, Content}
+use Rattle.vimsyn_cli.specs.declared.fault.Fault.{Fault as FaultOf}
 use Rattle.vimsyn_cli.specs.declared.fault.Stop.{Stop}
 use Rattle.vimsyn_cli.specs.declared.fault.Stop.TheVariants as stop
 use Rattle.vimsyn_cli.specs.declared.status.Status.{Status}
-use Rattle.vimsyn_cli.specs.declared.status.Status.TheVariants.{Done, Usage, Memory}
-use Rattle.vimsyn_cli.specs.Answers.{Delivers, Gives, IsUntouched, SinkChange, TellsUnread, Writes, WroteAll}
-use Rattle.vimsyn_cli.specs.Report.{fault_line, fault_status, usage_line}
-use Rattle.vimsyn_cli.specs.Session.{Session, ends, session, session_of}
-use Rattle.vimsyn_cli.specs.Stop.{Plans, Unless, is_unread, stops_for}
-use Rattle.vimsyn_cli.specs.Words.{FileNames, name_of, names_of}
+use Rattle.vimsyn_cli.specs.declared.status.Status.TheVariants.{Done, Usage, ReadFault, WriteFault, Memory}
+use Rattle.vimsyn_cli.specs.Answers.{Delivers, Gives, IsFaultOfAsked, IsUnreadLine, IsUntouched, SinkChange, TellsAllUnread, TellsFault, TellsUnread, Writes, WroteAll}
+use Rattle.vimsyn_cli.specs.Report.{cause_status, usage_line}
+use Rattle.vimsyn_cli.specs.Session.{asked_session, session}
+use Rattle.vimsyn_cli.specs.Stop.{Counts, IfFault, OrUnread, Plans, is_too_long, is_unread}
+use Rattle.vimsyn_cli.specs.Written.{Session, ends}
 
 nothing : (written : Option (List ℕ)) → written ≡ appended written []
 nothing None = refl
@@ -39,113 +42,161 @@ all_of sink bytes planned answer (inl all) sound = all
 all_of sink bytes planned answer (inr some) sound = absurd (sound some.failed)
 
 -- the faulty words
-pub usage_gives : (told : Option FileMap) (words : List (List ℕ)) (out err : SinkChange) (faults faults_after : ℕ) (answer : Status) → names_of words ≡ None → IsUntouched out → Writes err usage_line Usage answer → IfSome told (λ known. ¬ Rose faults faults_after → ¬ Rose out.faults out.faults_after → ¬ Rose err.faults err.faults_after → answer ≢ Memory → Gives (session words known) out.before out.after err.before err.after answer)
+pub usage_gives : (told : Option FileMap) (words : List (List ℕ)) (out err : SinkChange) (faults faults_after : ℕ) (answer : Status) → asked_of words ≡ None → IsUntouched out → Writes err usage_line Usage answer → IfSome told (λ known. ¬ Rose faults faults_after → ¬ Rose out.faults out.faults_after → ¬ Rose err.faults err.faults_after → answer ≢ Memory → Gives (session words known) out.before out.after err.before err.after answer)
 usage_gives None words out err faults faults_after answer faulty same written = tt
 usage_gives (Some known) words out err faults faults_after answer faulty same written =
     λ readable out_sound err_sound enough.
     let all = all_of err usage_line Usage answer written err_sound in
     rw faulty (record { out = untouched out same; err = all.whole; status = all.status })
 
-pub usage_part : (told : Option FileMap) (words : List (List ℕ)) (err : SinkChange) (faults faults_after : ℕ) (answer : Status) → names_of words ≡ None → Writes err usage_line Usage answer → IfSome told (λ known. ¬ Rose faults faults_after → AppendsPrefix err.before err.after (session words known).err)
+pub usage_part : (told : Option FileMap) (words : List (List ℕ)) (err : SinkChange) (faults faults_after : ℕ) (answer : Status) → asked_of words ≡ None → Writes err usage_line Usage answer → IfSome told (λ known. ¬ Rose faults faults_after → AppendsPrefix err.before err.after (session words known).err)
 usage_part None words err faults faults_after answer faulty written = tt
 usage_part (Some known) words err faults faults_after answer faulty written =
     λ readable. rw faulty (part_of err usage_line Usage answer written)
 
-pub usage_part_or : (told : Option FileMap) (words : List (List ℕ)) (err : SinkChange) (answer : Status) → names_of words ≡ None → Writes err usage_line Usage answer → IfSome told (λ known. AppendsPrefix err.before err.after (session words known).err ⊎ IsSomeAnd (names_of words) (λ given. TellsUnread given err.before err.after))
+pub usage_part_or : (told : Option FileMap) (words : List (List ℕ)) (err : SinkChange) (answer : Status) → asked_of words ≡ None → Writes err usage_line Usage answer → IfSome told (λ known. AppendsPrefix err.before err.after (session words known).err ⊎ IsSomeAnd (asked_of words) (λ asked. TellsUnread asked known err.before err.after))
 usage_part_or None words err answer faulty written = tt
 usage_part_or (Some known) words err answer faulty written = rw faulty (inl (part_of err usage_line Usage answer written))
 
 -- a cause that the files' map decides
-decided : (cause : Cause) (P : Type 0) → Unless cause P → is_unread cause ≡ false → P
-decided Missing P p known = p
-decided Unread P p known = absurd cc
-decided TooLong P p known = p
-decided NotBuilt P p known = p
-decided (BadUtf8 number) P p known = p
-decided (LineTooLong number) P p known = p
-decided TooManyLines P p known = p
+decided : (cause : Cause) (unread planned : Type 0) → OrUnread cause unread planned → is_unread cause ≡ false → planned
+decided Missing unread planned p known = p
+decided Unread unread planned p known = absurd cc
+decided TooLong unread planned p known = p
+decided Content unread planned p known = p
 
 uncounted : (counted : Bool) (before after : ℕ) → Counted counted before after → ¬ Rose before after → counted ≡ false
 uncounted true before after rose sound = absurd (sound rose)
 uncounted false before after same sound = refl
 
+-- a line is the session's, or one for a file that couldn't be read
+either : (cause : Cause) (unread planned : Type 0) → OrUnread cause unread planned → planned ⊎ ((is_unread cause ≡ true) × unread)
+either Missing unread planned p = inl p
+either Unread unread planned p = inr (refl, p)
+either TooLong unread planned p = inl p
+either Content unread planned p = inl p
+
 -- what is delivered where nothing fails is the session
-gives_of : (names : FileNames) (s : Session) (result : Result (List ℕ) Stop) (out err : SinkChange) (faults faults_after : ℕ) (answer : Status) → Plans names s result → Delivers names result out err answer → Counted (stops_for is_unread result) faults faults_after → ¬ Rose faults faults_after → ¬ Rose out.faults out.faults_after → ¬ Rose err.faults err.faults_after → answer ≢ Memory → Gives s out.before out.after err.before err.after answer
-gives_of names s (Ok bytes) out err faults faults_after answer planned delivered counted readable out_sound err_sound enough =
+gives_of : (s : Session) (IsLine : List ℕ → Type 0) (result : Result (List ℕ) Stop) (out err : SinkChange) (faults faults_after : ℕ) (answer : Status) → Plans s IsLine result → Delivers result out err answer → Counts is_unread result faults faults_after → ¬ Rose faults faults_after → ¬ Rose out.faults out.faults_after → ¬ Rose err.faults err.faults_after → answer ≢ Memory → Gives s out.before out.after err.before err.after answer
+gives_of s IsLine (Ok bytes) out err faults faults_after answer planned delivered counted readable out_sound err_sound enough =
     let all = all_of out bytes Done answer delivered.1 out_sound in
     let P : Session → Type 0 = λ t. Gives t out.before out.after err.before err.after answer in
     subst P (sym planned) (record { out = all.whole; err = untouched err delivered.0; status = all.status })
-gives_of names s (Err stop.Memory) out err faults faults_after answer planned delivered counted readable out_sound err_sound enough =
+gives_of s IsLine (Err stop.Memory) out err faults faults_after answer planned delivered counted readable out_sound err_sound enough =
     absurd (enough delivered.2)
-gives_of names s (Err (stop.Fault fault)) out err faults faults_after answer planned delivered counted readable out_sound err_sound enough =
+gives_of s IsLine (Err (stop.Fault fault)) out err faults faults_after answer planned delivered counted readable out_sound err_sound enough =
     let known = uncounted (is_unread fault.cause) faults faults_after counted readable in
-    let is : s ≡ ends (name_of names fault.role) fault.cause = decided fault.cause (s ≡ ends (name_of names fault.role) fault.cause) planned known in
+    let is : s ≡ ends fault = decided fault.cause (IsLine fault.line) (s ≡ ends fault) planned known in
+    let all = all_of err fault.line (cause_status fault.cause) answer delivered.1 err_sound in
     let P : Session → Type 0 = λ t. Gives t out.before out.after err.before err.after answer in
-    subst P (sym is) (told delivered.1)
-  where
-    told : Writes err (fault_line (name_of names fault.role) fault.cause) (fault_status fault.cause) answer ⊎ (IsUntouched err × (answer ≡ Memory)) → Gives (ends (name_of names fault.role) fault.cause) out.before out.after err.before err.after answer
-    told (inl written) =
-        let all = all_of err (fault_line (name_of names fault.role) fault.cause) (fault_status fault.cause) answer written err_sound in
-        record { out = untouched out delivered.0; err = all.whole; status = all.status }
-    told (inr silent) = absurd (enough silent.1)
+    subst P (sym is) (record { out = untouched out delivered.0; err = all.whole; status = all.status })
 
 -- `out` got a part of the session's bytes
-out_part_of : (names : FileNames) (s : Session) (result : Result (List ℕ) Stop) (out err : SinkChange) (answer : Status) → Plans names s result → Delivers names result out err answer → AppendsPrefix out.before out.after s.out
-out_part_of names s (Ok bytes) out err answer planned delivered =
+out_part_of : (s : Session) (IsLine : List ℕ → Type 0) (result : Result (List ℕ) Stop) (out err : SinkChange) (answer : Status) → Plans s IsLine result → Delivers result out err answer → AppendsPrefix out.before out.after s.out
+out_part_of s IsLine (Ok bytes) out err answer planned delivered =
     let P : Session → Type 0 = λ t. AppendsPrefix out.before out.after t.out in
     subst P (sym planned) (part_of out bytes Done answer delivered.1)
-out_part_of names s (Err stop.Memory) out err answer planned delivered = none_of out s.out delivered.0
-out_part_of names s (Err (stop.Fault fault)) out err answer planned delivered = none_of out s.out delivered.0
+out_part_of s IsLine (Err stop.Memory) out err answer planned delivered = none_of out s.out delivered.0
+out_part_of s IsLine (Err (stop.Fault fault)) out err answer planned delivered = none_of out s.out delivered.0
 
--- `err` got a part of the line, whatever came of it
-line_part : (sink : SinkChange) (line : List ℕ) (planned answer : Status) → Writes sink line planned answer ⊎ (IsUntouched sink × (answer ≡ Memory)) → AppendsPrefix sink.before sink.after line
-line_part sink line planned answer (inl written) = part_of sink line planned answer written
-line_part sink line planned answer (inr silent) = none_of sink line silent.0
+-- a part of the line of a fault
+line_part : (s : Session) (fault : FaultOf) (err : SinkChange) → s ≡ ends fault → AppendsPrefix err.before err.after fault.line → AppendsPrefix err.before err.after s.err
+line_part s fault err is part = let P : Session → Type 0 = λ t. AppendsPrefix err.before err.after t.err in subst P (sym is) part
 
--- `err` got a part of the session's bytes, or of the line for a file that couldn't be read
-err_part_of : (names : FileNames) (s : Session) (result : Result (List ℕ) Stop) (out err : SinkChange) (answer : Status) → Plans names s result → Delivers names result out err answer → (is_unread_or : Bool) → stops_for is_unread result ≡ is_unread_or → AppendsPrefix err.before err.after s.err ⊎ ((is_unread_or ≡ true) × TellsUnread names err.before err.after)
-err_part_of names s (Ok bytes) out err answer planned delivered unread is = inl (none_of err s.err delivered.0)
-err_part_of names s (Err stop.Memory) out err answer planned delivered unread is = inl (none_of err s.err delivered.1)
-err_part_of names s (Err (stop.Fault fault)) out err answer planned delivered unread is =
-    by_cause fault.cause planned (line_part err (fault_line (name_of names fault.role) fault.cause) (fault_status fault.cause) answer delivered.1) is
+-- where each file was read, `err` got a part of the session's bytes
+err_part_of : (s : Session) (IsLine : List ℕ → Type 0) (result : Result (List ℕ) Stop) (out err : SinkChange) (faults faults_after : ℕ) (answer : Status) → Plans s IsLine result → Delivers result out err answer → Counts is_unread result faults faults_after → ¬ Rose faults faults_after → AppendsPrefix err.before err.after s.err
+err_part_of s IsLine (Ok bytes) out err faults faults_after answer planned delivered counted readable = none_of err s.err delivered.0
+err_part_of s IsLine (Err stop.Memory) out err faults faults_after answer planned delivered counted readable = none_of err s.err delivered.1
+err_part_of s IsLine (Err (stop.Fault fault)) out err faults faults_after answer planned delivered counted readable =
+    let known = uncounted (is_unread fault.cause) faults faults_after counted readable in
+    line_part s fault err (decided fault.cause (IsLine fault.line) (s ≡ ends fault) planned known) (part_of err fault.line (cause_status fault.cause) answer delivered.1)
+
+-- else it got a part of the line for a file that couldn't be read
+err_part_or : (s : Session) (asked : Asked) (known : FileMap) (result : Result (List ℕ) Stop) (out err : SinkChange) (answer : Status) → Plans s (IsUnreadLine asked known) result → Delivers result out err answer → AppendsPrefix err.before err.after s.err ⊎ TellsUnread asked known err.before err.after
+err_part_or s asked known (Ok bytes) out err answer planned delivered = inl (none_of err s.err delivered.0)
+err_part_or s asked known (Err stop.Memory) out err answer planned delivered = inl (none_of err s.err delivered.1)
+err_part_or s asked known (Err (stop.Fault fault)) out err answer planned delivered =
+    by_line (either fault.cause (IsUnreadLine asked known fault.line) (s ≡ ends fault) planned)
   where
-    line : (cause : Cause) → s ≡ ends (name_of names fault.role) cause → AppendsPrefix err.before err.after (fault_line (name_of names fault.role) cause) → AppendsPrefix err.before err.after s.err
-    line cause e part = let P : Session → Type 0 = λ t. AppendsPrefix err.before err.after t.err in subst P (sym e) part
+    part : AppendsPrefix err.before err.after fault.line
+    part = part_of err fault.line (cause_status fault.cause) answer delivered.1
 
-    by_cause : (cause : Cause) → Unless cause (s ≡ ends (name_of names fault.role) cause) → AppendsPrefix err.before err.after (fault_line (name_of names fault.role) cause) → is_unread cause ≡ unread → AppendsPrefix err.before err.after s.err ⊎ ((unread ≡ true) × TellsUnread names err.before err.after)
-    by_cause Missing e part at = inl (line Missing e part)
-    by_cause Unread e part at = inr (sym at, record { role = fault.role; part = part })
-    by_cause TooLong e part at = inl (line TooLong e part)
-    by_cause NotBuilt e part at = inl (line NotBuilt e part)
-    by_cause (BadUtf8 number) e part at = inl (line (BadUtf8 number) e part)
-    by_cause (LineTooLong number) e part at = inl (line (LineTooLong number) e part)
-    by_cause TooManyLines e part at = inl (line TooManyLines e part)
+    by_line : (s ≡ ends fault) ⊎ ((is_unread fault.cause ≡ true) × IsUnreadLine asked known fault.line) → AppendsPrefix err.before err.after s.err ⊎ TellsUnread asked known err.before err.after
+    by_line (inl is) = inl (line_part s fault err is part)
+    by_line (inr unread) = inr (record { line = fault.line; unread = unread.1; part = part })
+
+-- which statuses go with what
+not_done : (cause : Cause) → cause_status cause ≢ Done
+not_done Missing is = absurd cc
+not_done Unread is = absurd cc
+not_done TooLong is = absurd cc
+not_done Content is = absurd cc
+
+-- a read fault is answered where the whole line of a fault was written
+written_whole : (sink : SinkChange) (line : List ℕ) (planned answer : Status) → Writes sink line planned answer → answer ≡ ReadFault → sink.after ≡ appended sink.before line
+written_whole sink line planned answer (inl all) is = all.whole
+written_whole sink line planned answer (inr some) is = absurd (cc (is, some.status))
+
+read_fault_told_of : (s : Session) (asked : Asked) (known : FileMap) (result : Result (List ℕ) Stop) (out err : SinkChange) (answer : Status) → Plans s (IsUnreadLine asked known) result → Delivers result out err answer → answer ≡ ReadFault → (err.after ≡ appended err.before s.err) ⊎ TellsAllUnread asked known err.before err.after
+read_fault_told_of s asked known (Ok bytes) out err answer planned delivered is = absurd (printed delivered.1)
+  where
+    printed : Writes out bytes Done answer → ⊥
+    printed (inl all) = cc (is, all.status)
+    printed (inr some) = cc (is, some.status)
+read_fault_told_of s asked known (Err stop.Memory) out err answer planned delivered is = absurd (cc (is, delivered.2))
+read_fault_told_of s asked known (Err (stop.Fault fault)) out err answer planned delivered is =
+    by_line (either fault.cause (IsUnreadLine asked known fault.line) (s ≡ ends fault) planned)
+  where
+    whole : err.after ≡ appended err.before fault.line
+    whole = written_whole err fault.line (cause_status fault.cause) answer delivered.1 is
+
+    by_line : (s ≡ ends fault) ⊎ ((is_unread fault.cause ≡ true) × IsUnreadLine asked known fault.line) → (err.after ≡ appended err.before s.err) ⊎ TellsAllUnread asked known err.before err.after
+    by_line (inl same) = let P : Session → Type 0 = λ t. err.after ≡ appended err.before t.err in inl (subst P (sym same) whole)
+    by_line (inr unread) = inr (record { line = fault.line; unread = unread.1; whole = whole })
 
 -- the same for the words of the table
-pub session_gives : (told : Option FileMap) (words : List (List ℕ)) (names : FileNames) (result : Result (List ℕ) Stop) (out err : SinkChange) (faults faults_after : ℕ) (answer : Status) → names_of words ≡ Some names → IfSome told (λ known. Plans names (session_of names known) result) → Delivers names result out err answer → Counted (stops_for is_unread result) faults faults_after → IfSome told (λ known. ¬ Rose faults faults_after → ¬ Rose out.faults out.faults_after → ¬ Rose err.faults err.faults_after → answer ≢ Memory → Gives (session words known) out.before out.after err.before err.after answer)
-session_gives None words names result out err faults faults_after answer is planned delivered counted = tt
-session_gives (Some known) words names result out err faults faults_after answer is planned delivered counted =
-    rw is (gives_of names (session_of names known) result out err faults faults_after answer planned delivered counted)
+pub session_gives : (told : Option FileMap) (words : List (List ℕ)) (asked : Asked) (result : Result (List ℕ) Stop) (out err : SinkChange) (faults faults_after : ℕ) (answer : Status) → asked_of words ≡ Some asked → IfSome told (λ known. Plans (asked_session asked known) (IsUnreadLine asked known) result) → Delivers result out err answer → Counts is_unread result faults faults_after → IfSome told (λ known. ¬ Rose faults faults_after → ¬ Rose out.faults out.faults_after → ¬ Rose err.faults err.faults_after → answer ≢ Memory → Gives (session words known) out.before out.after err.before err.after answer)
+session_gives None words asked result out err faults faults_after answer is planned delivered counted = tt
+session_gives (Some known) words asked result out err faults faults_after answer is planned delivered counted =
+    rw is (gives_of (asked_session asked known) (IsUnreadLine asked known) result out err faults faults_after answer planned delivered counted)
 
-pub session_out_part : (told : Option FileMap) (words : List (List ℕ)) (names : FileNames) (result : Result (List ℕ) Stop) (out err : SinkChange) (answer : Status) → names_of words ≡ Some names → IfSome told (λ known. Plans names (session_of names known) result) → Delivers names result out err answer → IfSome told (λ known. AppendsPrefix out.before out.after (session words known).out)
-session_out_part None words names result out err answer is planned delivered = tt
-session_out_part (Some known) words names result out err answer is planned delivered =
-    rw is (out_part_of names (session_of names known) result out err answer planned delivered)
+pub session_out_part : (told : Option FileMap) (words : List (List ℕ)) (asked : Asked) (result : Result (List ℕ) Stop) (out err : SinkChange) (answer : Status) → asked_of words ≡ Some asked → IfSome told (λ known. Plans (asked_session asked known) (IsUnreadLine asked known) result) → Delivers result out err answer → IfSome told (λ known. AppendsPrefix out.before out.after (session words known).out)
+session_out_part None words asked result out err answer is planned delivered = tt
+session_out_part (Some known) words asked result out err answer is planned delivered =
+    rw is (out_part_of (asked_session asked known) (IsUnreadLine asked known) result out err answer planned delivered)
 
-pub session_err_part : (told : Option FileMap) (words : List (List ℕ)) (names : FileNames) (result : Result (List ℕ) Stop) (out err : SinkChange) (faults faults_after : ℕ) (answer : Status) → names_of words ≡ Some names → IfSome told (λ known. Plans names (session_of names known) result) → Delivers names result out err answer → Counted (stops_for is_unread result) faults faults_after → IfSome told (λ known. ¬ Rose faults faults_after → AppendsPrefix err.before err.after (session words known).err)
-session_err_part None words names result out err faults faults_after answer is planned delivered counted = tt
-session_err_part (Some known) words names result out err faults faults_after answer is planned delivered counted =
-    λ readable. rw is (without_fault (err_part_of names (session_of names known) result out err answer planned delivered false (uncounted (stops_for is_unread result) faults faults_after counted readable)))
+pub session_err_part : (told : Option FileMap) (words : List (List ℕ)) (asked : Asked) (result : Result (List ℕ) Stop) (out err : SinkChange) (faults faults_after : ℕ) (answer : Status) → asked_of words ≡ Some asked → IfSome told (λ known. Plans (asked_session asked known) (IsUnreadLine asked known) result) → Delivers result out err answer → Counts is_unread result faults faults_after → IfSome told (λ known. ¬ Rose faults faults_after → AppendsPrefix err.before err.after (session words known).err)
+session_err_part None words asked result out err faults faults_after answer is planned delivered counted = tt
+session_err_part (Some known) words asked result out err faults faults_after answer is planned delivered counted =
+    rw is (err_part_of (asked_session asked known) (IsUnreadLine asked known) result out err faults faults_after answer planned delivered counted)
+
+pub session_err_or_unread : (told : Option FileMap) (words : List (List ℕ)) (asked : Asked) (result : Result (List ℕ) Stop) (out err : SinkChange) (answer : Status) → asked_of words ≡ Some asked → IfSome told (λ known. Plans (asked_session asked known) (IsUnreadLine asked known) result) → Delivers result out err answer → IfSome told (λ known. AppendsPrefix err.before err.after (session words known).err ⊎ IsSomeAnd (asked_of words) (λ given. TellsUnread given known err.before err.after))
+session_err_or_unread None words asked result out err answer is planned delivered = tt
+session_err_or_unread (Some known) words asked result out err answer is planned delivered =
+    rw is (err_part_or (asked_session asked known) asked known result out err answer planned delivered)
+
+pub session_read_fault : (told : Option FileMap) (words : List (List ℕ)) (asked : Asked) (result : Result (List ℕ) Stop) (out err : SinkChange) (answer : Status) → asked_of words ≡ Some asked → IfSome told (λ known. Plans (asked_session asked known) (IsUnreadLine asked known) result) → Delivers result out err answer → answer ≡ ReadFault → IfSome told (λ known. (err.after ≡ appended err.before (session words known).err) ⊎ IsSomeAnd (asked_of words) (λ given. TellsAllUnread given known err.before err.after))
+session_read_fault None words asked result out err answer is planned delivered fault = tt
+session_read_fault (Some known) words asked result out err answer is planned delivered fault =
+    rw is (read_fault_told_of (asked_session asked known) asked known result out err answer planned delivered fault)
+
+-- the line of a fault, whatever the files tell
+tells_of : (asked : Asked) (result : Result (List ℕ) Stop) (out err : SinkChange) (longs longs_after : ℕ) (answer : Status) → IfFault result (IsFaultOfAsked asked) → Delivers result out err answer → Counts is_too_long result longs longs_after → answer ≢ Done → answer ≢ WriteFault → answer ≢ Memory → TellsFault asked err.before err.after longs longs_after answer
+tells_of asked (Ok bytes) out err longs longs_after answer told delivered counted undone written enough = absurd (printed delivered.1)
   where
-    without_fault : {P Q : Type 0} → P ⊎ ((false ≡ true) × Q) → P
-    without_fault (inl p) = p
-    without_fault (inr q) = absurd (cc (q.0))
-
-pub session_err_or_unread : (told : Option FileMap) (words : List (List ℕ)) (names : FileNames) (result : Result (List ℕ) Stop) (out err : SinkChange) (answer : Status) → names_of words ≡ Some names → IfSome told (λ known. Plans names (session_of names known) result) → Delivers names result out err answer → IfSome told (λ known. AppendsPrefix err.before err.after (session words known).err ⊎ IsSomeAnd (names_of words) (λ given. TellsUnread given err.before err.after))
-session_err_or_unread None words names result out err answer is planned delivered = tt
-session_err_or_unread (Some known) words names result out err answer is planned delivered =
-    rw is (either (err_part_of names (session_of names known) result out err answer planned delivered (stops_for is_unread result) refl))
+    printed : Writes out bytes Done answer → ⊥
+    printed (inl all) = undone all.status
+    printed (inr some) = written some.status
+tells_of asked (Err stop.Memory) out err longs longs_after answer told delivered counted undone written enough = absurd (enough delivered.2)
+tells_of asked (Err (stop.Fault fault)) out err longs longs_after answer told delivered counted undone written enough = whole delivered.1
   where
-    either : {P Q R : Type 0} → P ⊎ (R × Q) → P ⊎ Q
-    either (inl p) = inl p
-    either (inr q) = inr q.1
+    long : fault.cause ≡ TooLong → Rose longs longs_after
+    long is = rw is at counted
+
+    whole : Writes err fault.line (cause_status fault.cause) answer → TellsFault asked err.before err.after longs longs_after answer
+    whole (inl all) = record { fault = fault; asked_for = told; line = all.whole; status = all.status; too_long = long }
+    whole (inr some) = absurd (written some.status)
+
+pub session_tells : (words : List (List ℕ)) (asked : Asked) (result : Result (List ℕ) Stop) (out err : SinkChange) (longs longs_after : ℕ) (answer : Status) → asked_of words ≡ Some asked → IfFault result (IsFaultOfAsked asked) → Delivers result out err answer → Counts is_too_long result longs longs_after → answer ≢ Done → answer ≢ WriteFault → answer ≢ Memory → IsSomeAnd (asked_of words) (λ given. TellsFault given err.before err.after longs longs_after answer)
+session_tells words asked result out err longs longs_after answer is told delivered counted undone written enough =
+    rw is (tells_of asked result out err longs longs_after answer told delivered counted undone written enough)

@@ -1,18 +1,20 @@
 -- What a run's clauses say of the bytes that the sinks got and of the status.
 use Rattle.std.specs.Prelude.{◌≡◌, ◌⊎◌, ℕ, Bool, true, false, List, Option, Result, Ok, Err}
+use Rattle.program_words.specs.declared.words.Asked.{Asked}
+use Rattle.program_words.specs.declared.words.Asked.TheVariants.{Spans, Check}
 use Rattle.syn_base.specs.Causes.{Rose}
-use Rattle.syn_base.specs.Outside.{appended, AppendsPrefix}
-use Rattle.vimsyn_cli.specs.declared.fault.Cause.{Cause}
-use Rattle.vimsyn_cli.specs.declared.fault.Cause.TheVariants.{TooLong, Unread}
+use Rattle.syn_base.specs.Outside.{appended, AppendsPrefix, FileMap}
+use Rattle.vimsyn_cli.specs.declared.fault.Cause.TheVariants.{TooLong}
+use Rattle.vimsyn_cli.specs.declared.fault.Fault.{Fault as FaultOf}
 use Rattle.vimsyn_cli.specs.declared.fault.Stop.{Stop}
 use Rattle.vimsyn_cli.specs.declared.fault.Stop.TheVariants.{Fault}
 use Rattle.vimsyn_cli.specs.declared.fault.Stop.TheVariants as stop
 use Rattle.vimsyn_cli.specs.declared.status.Status.{Status}
 use Rattle.vimsyn_cli.specs.declared.status.Status.TheVariants.{Done, Refused, Usage, ReadFault, WriteFault, Memory}
-use Rattle.vimsyn_cli.specs.declared.words.Role.{Role}
-use Rattle.vimsyn_cli.specs.Report.{fault_line, fault_status}
-use Rattle.vimsyn_cli.specs.Session.{Session}
-use Rattle.vimsyn_cli.specs.Words.{FileNames, name_of}
+use Rattle.vimsyn_cli.specs.Check.{IsReadFault, IsUnreadAsked}
+use Rattle.vimsyn_cli.specs.Report.{cause_status}
+use Rattle.vimsyn_cli.specs.Spans.{IsFileFault, IsUnreadFile}
+use Rattle.vimsyn_cli.specs.Written.{Session}
 
 -- both sinks got the bytes of the session, and the status is its
 pub record Gives (session : Session) (out_before out_after err_before err_after : Option (List ℕ)) (answer : Status) : Type 0 where
@@ -29,19 +31,37 @@ is_unfailed ReadFault = false
 is_unfailed WriteFault = false
 is_unfailed Memory = false
 
--- `err` got the whole line of a fault of one of the files, and the answer is the status of that fault;
--- it is of a file too long only where the count of such files rose
-pub record TellsFault (names : FileNames) (before after : Option (List ℕ)) (longs longs_after : ℕ) (answer : Status) : Type 0 where
-  pub role : Role
-  pub cause : Cause
-  pub line : after ≡ appended before (fault_line (name_of names role) cause)
-  pub status : answer ≡ fault_status cause
-  pub too_long : cause ≡ TooLong → Rose longs longs_after
+-- a fault that this command tells, whatever the files say: of a file that the words name, or of reading
+abbrev pub IsFaultOfAsked : Asked → FaultOf → Type 0
+IsFaultOfAsked (Spans names) fault = IsFileFault names fault
+IsFaultOfAsked (Check words) fault = IsReadFault fault
 
--- a part of the line for one of the files that couldn't be read
-pub record TellsUnread (names : FileNames) (before after : Option (List ℕ)) : Type 0 where
-  pub role : Role
-  pub part : AppendsPrefix before after (fault_line (name_of names role) Unread)
+-- the line for a file of this command that can't be read: one that the words name, or that the rules of
+-- reading ask for
+abbrev pub IsUnreadLine : Asked → FileMap → List ℕ → Type 0
+IsUnreadLine (Spans names) files line = IsUnreadFile names line
+IsUnreadLine (Check words) files line = IsUnreadAsked words files line
+
+-- `err` got the whole line of a fault, and the answer is the status of that fault; it is of a file too
+-- long only where the count of such files rose
+pub record TellsFault (asked : Asked) (before after : Option (List ℕ)) (longs longs_after : ℕ) (answer : Status) : Type 0 where
+  pub fault : FaultOf
+  pub asked_for : IsFaultOfAsked asked fault
+  pub line : after ≡ appended before fault.line
+  pub status : answer ≡ cause_status fault.cause
+  pub too_long : fault.cause ≡ TooLong → Rose longs longs_after
+
+-- a part of the line for a file that couldn't be read
+pub record TellsUnread (asked : Asked) (files : FileMap) (before after : Option (List ℕ)) : Type 0 where
+  pub line : List ℕ
+  pub unread : IsUnreadLine asked files line
+  pub part : AppendsPrefix before after line
+
+-- the whole of it
+pub record TellsAllUnread (asked : Asked) (files : FileMap) (before after : Option (List ℕ)) : Type 0 where
+  pub line : List ℕ
+  pub unread : IsUnreadLine asked files line
+  pub whole : after ≡ appended before line
 
 -- a sink took all of the bytes, and the answer is the one planned
 pub record WroteAll (before after : Option (List ℕ)) (faults faults_after : ℕ) (bytes : List ℕ) (planned answer : Status) : Type 0 where
@@ -70,11 +90,8 @@ Writes sink bytes planned answer =
     WroteAll sink.before sink.after sink.faults sink.faults_after bytes planned answer
     ⊎ WroteSome sink.before sink.after sink.faults sink.faults_after bytes answer
 
--- a painting goes to `out`, the line of a fault to `err`, and want of memory is answered in silence
-abbrev pub Delivers : FileNames → Result (List ℕ) Stop → SinkChange → SinkChange → Status → Type 0
-Delivers names (Ok bytes) out err answer = IsUntouched err × Writes out bytes Done answer
-Delivers names (Err (Fault fault)) out err answer =
-    IsUntouched out
-    × (Writes err (fault_line (name_of names fault.role) fault.cause) (fault_status fault.cause) answer
-    ⊎ (IsUntouched err × (answer ≡ Memory)))
-Delivers names (Err stop.Memory) out err answer = IsUntouched out × IsUntouched err × (answer ≡ Memory)
+-- what was asked goes to `out`, the line of a fault to `err`, and want of memory is answered in silence
+abbrev pub Delivers : Result (List ℕ) Stop → SinkChange → SinkChange → Status → Type 0
+Delivers (Ok bytes) out err answer = IsUntouched err × Writes out bytes Done answer
+Delivers (Err (Fault fault)) out err answer = IsUntouched out × Writes err fault.line (cause_status fault.cause) answer
+Delivers (Err stop.Memory) out err answer = IsUntouched out × IsUntouched err × (answer ≡ Memory)

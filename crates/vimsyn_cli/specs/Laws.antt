@@ -1,22 +1,25 @@
 -- Laws of the definitions in the subject's own terms: what an accepted run gives, which files are
 -- syntax files, and which characters the spans of a line cover.
 use Rattle.std.specs.Prelude.{◌≡◌, ◌↔◌, ℕ, ◌+◌, ◌<◌, ◌≤◌, nat_le, Bool, true, false, ◌&&◌, ◌||◌, List, [], ◌∷◌, length, Some, Ok}
+use Rattle.program_words.specs.declared.words.Asked.TheVariants.{Spans}
+use Rattle.program_words.specs.Given.{SpansWords}
+use Rattle.program_words.specs.Words.{asked_of}
 use Rattle.syn_base.specs.Outside.{FileMap, file_named}
 use Rattle.text_buffer.specs.TextOfBytes.{text_of}
 use Rattle.vimsyn_cli.specs.declared.paint.Run.{Run}
 use Rattle.vimsyn_cli.specs.declared.painting.TheConstants.{MOST_SYNTAX_BYTES, MOST_TEXT_BYTES}
 use Rattle.vimsyn_cli.specs.LiteralSyntax.{IsSyntaxFile, LiteralMatch, literal_syntax}
 use Rattle.vimsyn_cli.specs.Painting.{is_shown, spans_of}
-use Rattle.vimsyn_cli.specs.Session.{session, shows}
+use Rattle.vimsyn_cli.specs.Session.{session}
 use Rattle.vimsyn_cli.specs.SpanText.{painting_text}
-use Rattle.vimsyn_cli.specs.Words.{FileNames, names_of}
+use Rattle.vimsyn_cli.specs.Written.{shows}
 
 -- words of the table, with a syntax file and a text file that are there, short enough and accepted
 pub record AcceptedFiles (words : List (List ℕ)) (files : FileMap) (syntax : LiteralMatch) (lines : List (List ℕ)) : Type 0 where
-  pub names : FileNames
+  pub names : SpansWords
   pub syntax_bytes : List ℕ
   pub text_bytes : List ℕ
-  pub words_are : names_of words ≡ Some names
+  pub words_are : asked_of words ≡ Some (Spans names)
   pub syntax_file : file_named files names.syntax ≡ Some syntax_bytes
   pub syntax_short : length syntax_bytes ≤ MOST_SYNTAX_BYTES
   pub syntax_is : IsSyntaxFile syntax_bytes syntax

@@ -1,10 +1,13 @@
 pub mod Answers
+pub mod Check
+pub mod FileStop
 pub mod Laws
 pub mod LiteralSyntax
 pub mod Painting
 pub mod Report
 pub mod Session
 pub mod SpanText
+pub mod Spans
 pub mod Stop
 pub mod TextFault
-pub mod Words
+pub mod Written

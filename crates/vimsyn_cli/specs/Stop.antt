@@ -1,84 +1,63 @@
--- Answers that may stop a run: what they agree with, and which count each of them raises.
-use Rattle.std.specs.Prelude.{◌≡◌, ◌≢◌, ℕ, Bool, true, false, List, Result, Ok, Err, ⊤}
+-- What a command comes to, bytes or a stop, against its session, and which count of the files each stop
+-- raises.
+use Rattle.std.specs.Prelude.{◌≡◌, ℕ, Bool, true, false, List, Result, Ok, Err, ⊤}
+use Rattle.syn_base.specs.Causes.{Counted}
 use Rattle.vimsyn_cli.specs.declared.fault.Cause.{Cause}
-use Rattle.vimsyn_cli.specs.declared.fault.Cause.TheVariants.{Missing, Unread, TooLong, NotBuilt, BadUtf8, LineTooLong, TooManyLines}
+use Rattle.vimsyn_cli.specs.declared.fault.Cause.TheVariants.{Missing, Unread, TooLong, Content}
+use Rattle.vimsyn_cli.specs.declared.fault.Fault.{Fault as FaultOf}
 use Rattle.vimsyn_cli.specs.declared.fault.Stop.{Stop}
 use Rattle.vimsyn_cli.specs.declared.fault.Stop.TheVariants.{Fault, Memory}
-use Rattle.text_buffer.specs.declared.TextError.{TextError}
-use Rattle.text_buffer.specs.declared.TextError.TheVariants.{Memory as OutOfMemory}
-use Rattle.vimsyn_cli.specs.TextFault.{text_cause}
-use Rattle.vimsyn_cli.specs.Session.{Session, ends, shows}
-use Rattle.vimsyn_cli.specs.Words.{FileNames, name_of}
-use Rattle.vimsyn_cli.specs.declared.words.Role.{Role}
-use Rattle.vimsyn_cli.specs.declared.words.Role.TheVariants.{Text}
+use Rattle.vimsyn_cli.specs.Written.{Session, ends, shows}
 
 -- which cause raises which count
 abbrev pub is_unread : Cause → Bool
 is_unread Missing = false
 is_unread Unread = true
 is_unread TooLong = false
-is_unread NotBuilt = false
-is_unread (BadUtf8 number) = false
-is_unread (LineTooLong number) = false
-is_unread TooManyLines = false
+is_unread Content = false
 
 abbrev pub is_missing : Cause → Bool
 is_missing Missing = true
 is_missing Unread = false
 is_missing TooLong = false
-is_missing NotBuilt = false
-is_missing (BadUtf8 number) = false
-is_missing (LineTooLong number) = false
-is_missing TooManyLines = false
+is_missing Content = false
 
 abbrev pub is_too_long : Cause → Bool
 is_too_long Missing = false
 is_too_long Unread = false
 is_too_long TooLong = true
-is_too_long NotBuilt = false
-is_too_long (BadUtf8 number) = false
-is_too_long (LineTooLong number) = false
-is_too_long TooManyLines = false
+is_too_long Content = false
 
--- the cause raises no count: it lies in the bytes of a file that was read
-abbrev pub IsUncounted : Cause → Type 0
-IsUncounted cause = (is_unread cause ≡ false) × (is_missing cause ≡ false) × (is_too_long cause ≡ false)
+-- The count rose where the answer is a stop for such a cause, and else it is as it was. Want of memory
+-- says nothing of it.
+abbrev pub Counts : {A : Type 0} → (Cause → Bool) → Result A Stop → ℕ → ℕ → Type 0
+Counts test (Ok value) before now = now ≡ before
+Counts test (Err (Fault fault)) before now = Counted (test fault.cause) before now
+Counts test (Err Memory) before now = ⊤
 
--- the answer is a stop for such a cause
-abbrev pub stops_for : {A : Type 0} → (Cause → Bool) → Result A Stop → Bool
-stops_for test (Ok value) = false
-stops_for test (Err (Fault fault)) = test fault.cause
-stops_for test (Err Memory) = false
-
--- the fact holds of the fault's file and cause, if the answer is a fault
-abbrev pub IfFault : {A : Type 0} → Result A Stop → (Role → Cause → Type 0) → Type 0
+-- the fact holds of the fault, if the answer is one
+abbrev pub IfFault : {A : Type 0} → Result A Stop → (FaultOf → Type 0) → Type 0
 IfFault (Ok value) P = ⊤
-IfFault (Err (Fault fault)) P = P fault.role fault.cause
+IfFault (Err (Fault fault)) P = P fault
 IfFault (Err Memory) P = ⊤
 
--- the cause is none that the files' map decides: a file in it couldn't be read all the same
-abbrev pub Unless : Cause → Type 0 → Type 0
-Unless Missing P = P
-Unless Unread P = ⊤
-Unless TooLong P = P
-Unless NotBuilt P = P
-Unless (BadUtf8 number) P = P
-Unless (LineTooLong number) P = P
-Unless TooManyLines P = P
+-- the cause raises no count: it lies in the bytes of a file that was read
+abbrev pub IsOfContent : FaultOf → Type 0
+IsOfContent fault = fault.cause ≡ Content
 
--- the fault of a text as a stop
-abbrev pub StopsForText : TextError → Stop → Type 0
-StopsForText fault (Fault stop) = (fault ≢ OutOfMemory) × (stop.role ≡ Text) × (stop.cause ≡ text_cause fault)
-StopsForText fault Memory = fault ≡ OutOfMemory
+-- the files' map decides each cause but one: a file in it couldn't be read all the same
+abbrev pub OrUnread : Cause → Type 0 → Type 0 → Type 0
+OrUnread Missing unread planned = planned
+OrUnread Unread unread planned = unread
+OrUnread TooLong unread planned = planned
+OrUnread Content unread planned = planned
 
--- the bytes of a file, or the cause, are those that are expected
-abbrev pub Reads : Result (List ℕ) Cause → Result (List ℕ) Stop → Type 0
-Reads expected (Ok bytes) = expected ≡ Ok bytes
-Reads expected (Err (Fault fault)) = Unless fault.cause (expected ≡ Err fault.cause)
-Reads expected (Err Memory) = ⊤
+-- the bytes, or the line of a fault, are those of the session, or the line is one for a file that couldn't be read
+abbrev pub Plans : Session → (List ℕ → Type 0) → Result (List ℕ) Stop → Type 0
+Plans session IsUnread (Ok bytes) = session ≡ shows bytes
+Plans session IsUnread (Err (Fault fault)) = OrUnread fault.cause (IsUnread fault.line) (session ≡ ends fault)
+Plans session IsUnread (Err Memory) = ⊤
 
--- the printed painting, or the fault, is that of the session with these names
-abbrev pub Plans : FileNames → Session → Result (List ℕ) Stop → Type 0
-Plans names session (Ok bytes) = session ≡ shows bytes
-Plans names session (Err (Fault fault)) = Unless fault.cause (session ≡ ends (name_of names fault.role) fault.cause)
-Plans names session (Err Memory) = ⊤
+-- the same where all files were read
+abbrev pub PlansRead : Session → Result (List ℕ) Stop → Type 0
+PlansRead session result = Plans session (λ line. ⊥) result

@@ -1,18 +1,20 @@
-//! The run of the program: words, syntax file, text, painting, in this order.
+//! The run of the program: its words, then the command that they ask for.
 //!
-//! Nothing is printed before the painting is whole. So a run writes either the painting on `out` or
-//! one line on `err`.
+//! What a command prints is made whole before anything is written. So a run writes either that on `out`
+//! or one line on `err`.
 ghost use Rattle.std.specs.Prelude.{◌≡◌, ◌≢◌, ◌⊎◌, None, IfSome, IsSomeAnd, true};
+ghost use Rattle.program_words.specs.Words.{asked_of, texts_of};
 ghost use Rattle.syn_base.specs.Causes.{Rose};
-ghost use Rattle.syn_base.specs.Outside.{AppendsPrefix};
-ghost use Rattle.vimsyn_cli.specs.Answers.{Delivers, Gives, TellsFault, TellsUnread, Writes, is_unfailed};
-ghost use Rattle.vimsyn_cli.specs.Session.{session};
-ghost use Rattle.vimsyn_cli.specs.Words.{names_of, texts_of};
+ghost use Rattle.syn_base.specs.Outside.{AppendsPrefix, appended};
+ghost use Rattle.vimsyn_cli.specs.Answers.{Delivers, Gives, IsFaultOfAsked, IsUnreadLine, TellsAllUnread, TellsFault, TellsUnread, Writes, is_unfailed};
+ghost use Rattle.vimsyn_cli.specs.Session.{asked_session, session};
+ghost use Rattle.vimsyn_cli.specs.Stop.{Counts, IfFault, Plans, is_missing, is_too_long, is_unread};
 
 use crate::Status;
+use crate::check::check;
 use crate::fault::Stop;
 use crate::painting::print_files;
-use crate::words::Names;
+use program_words::Asked;
 use std::alloc::Global;
 use syn_base::{Files, Ledger, List, Sink, Source, Steps, put_all};
 
@@ -22,9 +24,10 @@ const USAGE: &[u8; 58] = b"usage: vimsyn check|spans|html|edit|large [options] n
 /// Runs the program on its words, which are those behind its name.
 ///
 /// Where the files tell their bytes, what is written and the status are those of the session, a
-/// definition that paints the whole text anew. A read fault comes only where a file couldn't be read
-/// or is absent, a write fault only where a write failed. Want of memory may be answered wherever the
-/// words are in the table. Nothing is taken from `script`, and no line is counted in `steps`.
+/// definition that reads the whole syntax and paints the whole text anew. A read fault comes only where
+/// a file couldn't be read or is absent, a write fault only where a write failed. Want of memory may be
+/// answered wherever the words are in the table. Nothing is taken from `script`, and no line is counted
+/// in `steps`.
 pub fn run<F: Files, I: Source, O: Sink, E: Sink, L: Ledger>(
     alloc: Global,
     words: &[String],
@@ -49,17 +52,20 @@ pub fn run<F: Files, I: Source, O: Sink, E: Sink, L: Ledger>(
         → AppendsPrefix (E.written err.old) (E.written err.new) (session (texts_of words.now) known).err) }
     ensures err_part_or_unread { IfSome (F.told files.old) (λ known.
         AppendsPrefix (E.written err.old) (E.written err.new) (session (texts_of words.now) known).err
-        ⊎ IsSomeAnd (names_of (texts_of words.now)) (λ names. TellsUnread names (E.written err.old) (E.written err.new))) }
+        ⊎ IsSomeAnd (asked_of (texts_of words.now)) (λ asked. TellsUnread asked known (E.written err.old) (E.written err.new))) }
 
     // Each answer and its cause.
-    ensures usage { result ≡ Status.Usage → names_of (texts_of words.now) ≡ None }
-    ensures faulty_words { names_of (texts_of words.now) ≡ None → (result ≡ Status.Usage) ⊎ (result ≡ Status.WriteFault) }
-    ensures refused { result ≡ Status.Refused → IsSomeAnd (names_of (texts_of words.now)) (λ names.
-        TellsFault names (E.written err.old) (E.written err.new) (F.longs files.old) (F.longs files.new) result) }
+    ensures usage { result ≡ Status.Usage → asked_of (texts_of words.now) ≡ None }
+    ensures faulty_words { asked_of (texts_of words.now) ≡ None → (result ≡ Status.Usage) ⊎ (result ≡ Status.WriteFault) }
+    ensures refused { result ≡ Status.Refused → IsSomeAnd (asked_of (texts_of words.now)) (λ asked.
+        TellsFault asked (E.written err.old) (E.written err.new) (F.longs files.old) (F.longs files.new) result) }
     ensures read_fault { result ≡ Status.ReadFault
         → Rose (F.faults files.old) (F.faults files.new) ⊎ Rose (F.misses files.old) (F.misses files.new) }
-    ensures read_fault_line { result ≡ Status.ReadFault → IsSomeAnd (names_of (texts_of words.now)) (λ names.
-        TellsFault names (E.written err.old) (E.written err.new) (F.longs files.old) (F.longs files.new) result) }
+    ensures read_fault_line { result ≡ Status.ReadFault → IsSomeAnd (asked_of (texts_of words.now)) (λ asked.
+        TellsFault asked (E.written err.old) (E.written err.new) (F.longs files.old) (F.longs files.new) result) }
+    ensures read_fault_told { result ≡ Status.ReadFault → IfSome (F.told files.old) (λ known.
+        (E.written err.new ≡ appended (E.written err.old) (session (texts_of words.now) known).err)
+        ⊎ IsSomeAnd (asked_of (texts_of words.now)) (λ asked. TellsAllUnread asked known (E.written err.old) (E.written err.new))) }
     ensures write_fault { result ≡ Status.WriteFault
         → Rose (O.faults out.old) (O.faults out.new) ⊎ Rose (E.faults err.old) (E.faults err.new) }
 
@@ -74,32 +80,39 @@ pub fn run<F: Files, I: Source, O: Sink, E: Sink, L: Ledger>(
     ensures script_unfailed { I.faults script.new ≡ I.faults script.old }
     ensures steps_kept { steps.new ≡ steps.old }
 {
-    let Some(names) = Names::read(words) else {
+    let Some(asked) = Asked::read(words) else {
         return finish(err, USAGE, Status::Usage);
     };
-    let painting = print_files(alloc, files, &names);
-    deliver(alloc, &names, painting, out, err)
+    let answer = carry_out(alloc, files, &asked);
+    deliver(answer, out, err)
 }
 
-/// Writes a painting to `out`, or the line of a fault to `err`.
-fn deliver<O: Sink, E: Sink>(
-    alloc: Global,
-    names: &Names<'_>,
-    painting: Result<List<u8>, Stop>,
-    out: &mut O,
-    err: &mut E,
-) -> Status
-    ensures { Delivers names.now painting
+/// What the command prints, or why it prints nothing.
+fn carry_out<F: Files>(alloc: Global, files: &mut F, asked: &Asked<'_>) -> Result<List<u8>, Stop>
+    ensures kept { F.told files.new ≡ F.told files.old }
+    ensures planned { IfSome (F.told files.old) (λ known.
+        Plans (asked_session asked.now known) (IsUnreadLine asked.now known) result) }
+    ensures told { IfFault result (IsFaultOfAsked asked.now) }
+    ensures faults { Counts is_unread result (F.faults files.old) (F.faults files.new) }
+    ensures misses { Counts is_missing result (F.misses files.old) (F.misses files.new) }
+    ensures longs { Counts is_too_long result (F.longs files.old) (F.longs files.new) }
+{
+    match asked {
+        Asked::Spans(names) => print_files(alloc, files, names),
+        Asked::Check(words) => check(alloc, files, words),
+    }
+}
+
+/// Writes what was asked to `out`, or the line of a fault to `err`.
+fn deliver<O: Sink, E: Sink>(answer: Result<List<u8>, Stop>, out: &mut O, err: &mut E) -> Status
+    ensures { Delivers answer
         (record { before = O.written out.old; after = O.written out.new; faults = O.faults out.old; faults_after = O.faults out.new })
         (record { before = E.written err.old; after = E.written err.new; faults = E.faults err.old; faults_after = E.faults err.new })
         result }
 {
-    match painting {
+    match answer {
         Ok(bytes) => finish(out, bytes.as_slice(), Status::Done),
-        Err(Stop::Fault(fault)) => match fault.line(alloc, names) {
-            Ok(line) => finish(err, line.as_slice(), fault.status()),
-            Err(_) => Status::Memory,
-        },
+        Err(Stop::Fault(fault)) => finish(err, fault.line.as_slice(), fault.cause.status()),
         Err(Stop::Memory) => Status::Memory,
     }
 }

@@ -1,6 +1,6 @@
 use Rattle.std.proofs.Common.{refl, sym, ◌∙◌}
-use Rattle.vimsyn_cli.specs.Words.{texts_of}
-use Rattle.vimsyn_cli.proofs.RunLaws.{session_err_or_unread, session_err_part, session_gives, session_out_part, usage_gives, usage_part, usage_part_or}
+use Rattle.program_words.specs.Words.{texts_of}
+use Rattle.vimsyn_cli.proofs.RunLaws.{session_err_or_unread, session_err_part, session_gives, session_out_part, session_read_fault, session_tells, usage_gives, usage_part, usage_part_or}
 use Rattle.vimsyn_cli.proofs.session.run.Goals as goal
 
 pub returns-in_default-clause-session : goal.returns-in_default-clause-session
@@ -24,20 +24,37 @@ returns-in_default-clause-err_part_or_unread g c =
 
 pub returns-clause-session : goal.returns-clause-session
 returns-clause-session g c =
-    session_gives (g.F.Files.told c.args.files.now) (texts_of c.args.words.now) c.in-Some.names c.print_files-painting.result _ _ (g.F.Files.faults c.args.files.now) (g.F.Files.faults c.print_files-painting.new.files) c.deliver.result
-    (sym c.read.ensures ∙ c.in-Some.is) c.print_files-painting.ensures.planned c.deliver.ensures c.print_files-painting.ensures.faults
+    session_gives (g.F.Files.told c.args.files.now) (texts_of c.args.words.now) c.in-Some.asked c.carry_out-answer.result _ _ (g.F.Files.faults c.args.files.now) (g.F.Files.faults c.carry_out-answer.new.files) c.deliver.result
+    (sym c.read.ensures ∙ c.in-Some.is) c.carry_out-answer.ensures.planned c.deliver.ensures c.carry_out-answer.ensures.faults
 
 pub returns-clause-out_part : goal.returns-clause-out_part
 returns-clause-out_part g c =
-    session_out_part (g.F.Files.told c.args.files.now) (texts_of c.args.words.now) c.in-Some.names c.print_files-painting.result _ _ c.deliver.result
-    (sym c.read.ensures ∙ c.in-Some.is) c.print_files-painting.ensures.planned c.deliver.ensures
+    session_out_part (g.F.Files.told c.args.files.now) (texts_of c.args.words.now) c.in-Some.asked c.carry_out-answer.result _ _ c.deliver.result
+    (sym c.read.ensures ∙ c.in-Some.is) c.carry_out-answer.ensures.planned c.deliver.ensures
 
 pub returns-clause-err_part : goal.returns-clause-err_part
 returns-clause-err_part g c =
-    session_err_part (g.F.Files.told c.args.files.now) (texts_of c.args.words.now) c.in-Some.names c.print_files-painting.result _ _ (g.F.Files.faults c.args.files.now) (g.F.Files.faults c.print_files-painting.new.files) c.deliver.result
-    (sym c.read.ensures ∙ c.in-Some.is) c.print_files-painting.ensures.planned c.deliver.ensures c.print_files-painting.ensures.faults
+    session_err_part (g.F.Files.told c.args.files.now) (texts_of c.args.words.now) c.in-Some.asked c.carry_out-answer.result _ _ (g.F.Files.faults c.args.files.now) (g.F.Files.faults c.carry_out-answer.new.files) c.deliver.result
+    (sym c.read.ensures ∙ c.in-Some.is) c.carry_out-answer.ensures.planned c.deliver.ensures c.carry_out-answer.ensures.faults
 
 pub returns-clause-err_part_or_unread : goal.returns-clause-err_part_or_unread
 returns-clause-err_part_or_unread g c =
-    session_err_or_unread (g.F.Files.told c.args.files.now) (texts_of c.args.words.now) c.in-Some.names c.print_files-painting.result _ _ c.deliver.result
-    (sym c.read.ensures ∙ c.in-Some.is) c.print_files-painting.ensures.planned c.deliver.ensures
+    session_err_or_unread (g.F.Files.told c.args.files.now) (texts_of c.args.words.now) c.in-Some.asked c.carry_out-answer.result _ _ c.deliver.result
+    (sym c.read.ensures ∙ c.in-Some.is) c.carry_out-answer.ensures.planned c.deliver.ensures
+
+pub returns-clause-read_fault_told : goal.returns-clause-read_fault_told
+returns-clause-read_fault_told g c =
+    session_read_fault (g.F.Files.told c.args.files.now) (texts_of c.args.words.now) c.in-Some.asked c.carry_out-answer.result _ _ c.deliver.result
+    (sym c.read.ensures ∙ c.in-Some.is) c.carry_out-answer.ensures.planned c.deliver.ensures
+
+pub returns-clause-refused : goal.returns-clause-refused
+returns-clause-refused g c is =
+    session_tells (texts_of c.args.words.now) c.in-Some.asked c.carry_out-answer.result _ _ (g.F.Files.longs c.args.files.now) (g.F.Files.longs c.carry_out-answer.new.files) c.deliver.result
+    (sym c.read.ensures ∙ c.in-Some.is) c.carry_out-answer.ensures.told c.deliver.ensures c.carry_out-answer.ensures.longs
+    (λ other. absurd (cc (is, other))) (λ other. absurd (cc (is, other))) (λ other. absurd (cc (is, other)))
+
+pub returns-clause-read_fault_line : goal.returns-clause-read_fault_line
+returns-clause-read_fault_line g c is =
+    session_tells (texts_of c.args.words.now) c.in-Some.asked c.carry_out-answer.result _ _ (g.F.Files.longs c.args.files.now) (g.F.Files.longs c.carry_out-answer.new.files) c.deliver.result
+    (sym c.read.ensures ∙ c.in-Some.is) c.carry_out-answer.ensures.told c.deliver.ensures c.carry_out-answer.ensures.longs
+    (λ other. absurd (cc (is, other))) (λ other. absurd (cc (is, other))) (λ other. absurd (cc (is, other)))
