@@ -1,0 +1,5 @@
+mod Rows
+pub mod Runs
+pub mod Fetches
+pub mod NameLaws
+pub mod TreeLaws
