@@ -3,3 +3,6 @@ pub mod Runs
 pub mod Fetches
 pub mod NameLaws
 pub mod TreeLaws
+pub mod AbbreviationLaws
+pub mod ListLaws
+pub mod MatchingLaws

@@ -1,12 +1,8 @@
 -- What the pieces of an item hold (Vim's help, :syn-arguments), from left to right: the words of a keyword, the tree of a
 -- pattern, the groups of a pattern of names.
-use Rattle.std.specs.Prelude.{ℕ, nat_lt, Bool, List, [], ◌∷◌, ◌++◌, length, Option, Some, None, if◌then◌else◌, Result, Ok, Err}
-use Rattle.std.specs.List.{list_any}
-use Rattle.keyword_table.specs.Abbreviation.{expansions}
-use Rattle.keyword_table.specs.declared.table.TheConstants.{MOST_WORD_CHARS}
+use Rattle.std.specs.Prelude.{ℕ, List, [], ◌∷◌, ◌++◌, Result, Ok}
 use Rattle.vim_pattern.specs.Tree.{PatternTree}
 use Rattle.syn_words.specs.declared.cause.Cause.{Cause}
-use Rattle.syn_words.specs.declared.cause.Cause.TheVariants as cause
 use Rattle.syn_words.specs.declared.what.Piece.{Piece}
 use Rattle.syn_words.specs.declared.what.Piece.TheVariants as piece
 use Rattle.syn_reader.specs.declared.contents.Content.{Content}
@@ -14,21 +10,7 @@ use Rattle.syn_reader.specs.declared.contents.Content.TheVariants as content
 use Rattle.syn_reader.specs.Answers.{◌>>=◌, each}
 use Rattle.syn_reader.specs.Patterns.{pattern_read}
 use Rattle.syn_reader.specs.NamedLists.{list_read}
-
--- no word of a keyword has more than 80 characters
-abbrev pub any_too_long : List (List ℕ) → Bool
-any_too_long words = list_any (λ word. nat_lt MOST_WORD_CHARS (length word)) words
-
-abbrev pub short_words : List (List ℕ) → Result (List (List ℕ)) Cause
-short_words words = if any_too_long words then Err cause.TooLongWord else Ok words
-
-abbrev pub expanded : Option (List (List ℕ)) → Result (List (List ℕ)) Cause
-expanded None = Err cause.BadBrackets
-expanded (Some words) = short_words words
-
--- the words of a keyword: first its brackets are looked at, then its length
-abbrev pub words_of : List ℕ → Result (List (List ℕ)) Cause
-words_of text = expanded (expansions text)
+use Rattle.syn_reader.specs.Abbreviations.{words_of}
 
 -- a piece with the patterns that are known then
 abbrev pub content_of : List (List ℕ) → List PatternTree → Piece → Result (Content × List PatternTree) Cause

@@ -4,6 +4,7 @@ pub mod Patterns
 pub mod UsualSets
 pub mod PatternsOfNames
 pub mod NamedLists
+pub mod Abbreviations
 pub mod Contents
 pub mod Items
 pub mod Clusters

@@ -1,5 +1,5 @@
 -- The patterns of items (Vim's help, :syn-pattern), each with its tree, or with the fault of its text.
-use Rattle.std.specs.Prelude.{ℕ, suc, nat_lt, min, List, [], ◌∷◌, ◌++◌, length, count_by, Option, Some, None, false, if◌then◌else◌, Result, Ok, Err, pos}
+use Rattle.std.specs.Prelude.{ℕ, nat_eq, nat_lt, min, List, [], ◌∷◌, ◌++◌, length, count_by, Option, Some, None, false, if◌then◌else◌, Result, Ok, Err, pos}
 use Rattle.std.specs.List.{list_any}
 use Rattle.syn_base.specs.declared.places.PatternId.{PatternId}
 use Rattle.pattern_items.specs.declared.item.PatternUse.{PatternUse}
@@ -56,8 +56,7 @@ use_of role.End = usage.SkipOrEnd
 
 -- so many characters behind the start; `lc` is at most 65,535
 abbrev pub behind_start : ℕ → Option Offset
-behind_start zero = None
-behind_start (suc n) = Some (record { from_end = false; by = pos (min (suc n) 65535) })
+behind_start lc = if nat_eq lc 0 then None else Some (record { from_end = false; by = pos (min lc 65535) })
 
 -- `lc` sets `ms`, unless that is given
 abbrev pub match_start : Option Offset → ℕ → Option Offset

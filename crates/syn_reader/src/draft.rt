@@ -181,12 +181,7 @@ impl Draft {
     }
 
     /// Takes one piece more.
-    fn take(
-        &mut self,
-        alloc: Global,
-        names: &mut Names,
-        content: Content,
-    ) -> Result<(), Refusal>
+    fn take(&mut self, alloc: Global, names: &mut Names, content: Content) -> Result<(), Refusal>
         ensures { Leaves result (self.new, names.new) (spec.with_content (self.old, names.old) content) }
     {
         match content {

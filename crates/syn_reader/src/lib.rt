@@ -6,9 +6,11 @@
 //! code of each command is its definition, step by step.
 #![tactic(auto)]
 
+mod abbreviation;
 mod clusters;
 mod contents;
 mod draft;
+mod entries;
 mod files;
 mod highlight;
 mod includes;
@@ -16,6 +18,7 @@ mod lists;
 mod names;
 mod names_pattern;
 mod patterns;
+mod read_list;
 mod reading;
 mod refusal;
 mod syntax;

@@ -1,45 +1,33 @@
 //! Lists of groups, with their new names made.
-ghost use Rattle.std.specs.Prelude.{◌≡◌, ◌++◌, map, OnOk};
-ghost use Rattle.syntax_set.specs.declared.item.Entry.TheVariants as entry;
-ghost use Rattle.syn_reader.specs.Answers.{Leaves, Makes};
+ghost use Rattle.syn_reader.specs.Answers.{Makes};
 ghost use Rattle.syn_reader.specs.NamedLists as spec;
 
-use crate::contents::{ReadList, ReadName};
+use crate::entries::Entries;
 use crate::names::Names;
+use crate::read_list::{ReadList, ReadName};
 use crate::refusal::Refusal;
 use std::alloc::Global;
-use syn_base::{GroupId, List, Memory};
-use syntax_set::{Entry, GroupList};
+use syntax_set::GroupList;
 
-/// Puts entries of groups at the end.
-fn push_groups(entries: &mut List<Entry>, groups: &[GroupId]) -> Result<(), Memory>
-    ensures { OnOk result (entries.new ≡ entries.old ++ map entry.Group groups.now) }
-{
-    for group in groups {
-        entries.push(Entry::Group(*group))?;
-    }
-    Ok(())
-}
-
-/// Puts the entries of a name at the end.
-fn push_name(
+/// The entries with that of a name, which is made if it is new.
+fn with_name(
     alloc: Global,
     names: &mut Names,
-    entries: &mut List<Entry>,
+    entries: Entries,
     name: &ReadName,
-) -> Result<(), Refusal>
-    ensures { Leaves result (entries.new, names.new) (spec.with_entry_made (entries.old, names.old) name.now) }
+) -> Result<Entries, Refusal>
+    ensures { Makes result names.new (spec.with_entry_made (entries, names.old) name.now) }
 {
     match name {
         ReadName::Group(name) => {
             let group = names.group(alloc, name.as_slice())?;
-            Ok(entries.push(Entry::Group(group))?)
+            Ok(entries.with_group(group)?)
         }
         ReadName::Cluster(name) => {
             let cluster = names.cluster(alloc, name.as_slice())?;
-            Ok(entries.push(Entry::Cluster(cluster))?)
+            Ok(entries.with_cluster(cluster)?)
         }
-        ReadName::Found(groups) => Ok(push_groups(entries, groups.as_slice())?),
+        ReadName::Found(group) => Ok(entries.with_group(*group)?),
     }
 }
 
@@ -51,12 +39,12 @@ pub(crate) fn list_made(
 ) -> Result<GroupList, Refusal>
     ensures { Makes result names.new (spec.list_made names.old list.now) }
 {
-    let mut entries = List::new(alloc);
+    let mut entries = Entries::new(alloc);
     for name in list.names.as_slice() {
-        push_name(alloc, names, &mut entries, name)?;
+        entries = with_name(alloc, names, entries, name)?;
     }
     Ok(GroupList {
         special: list.special,
-        entries,
+        entries: entries.into_list(),
     })
 }

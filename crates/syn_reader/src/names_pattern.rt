@@ -1,18 +1,16 @@
 //! Patterns of names.
-ghost use Rattle.std.specs.Prelude.{◌≡◌, ◌∷◌, [], chars, IfOk};
+ghost use Rattle.std.specs.Prelude.{◌≡◌, ◌∷◌, [], chars, replicate, IfOk};
+ghost use Rattle.syntax_set.specs.Groups.{group_numbered, name_of};
 ghost use Rattle.vim_pattern.specs.GroupNumbers.{HasNumbers};
 ghost use Rattle.syn_reader.specs.Answers.{Gives};
 ghost use Rattle.syn_reader.specs.PatternsOfNames as spec;
-ghost use Rattle.syn_reader.specs.PatternsOfNames.{IsTrial};
 ghost use Rattle.syn_reader.specs.UsualSets.{usual_sets};
-ghost use Rattle.vim_pattern.specs.Tree.{PatternTree};
 
 use crate::patterns::tree_at;
 use crate::refusal::Refusal;
 use char_class::Sets;
 use pattern_match::{Attempt, Context, Programs};
 use std::alloc::Global;
-use std::marker::Model;
 use syn_base::{Externals, GroupId, Lines, List, Memory, PatternId, Place};
 use syn_words::Cause;
 use syntax_set::Groups;
@@ -76,10 +74,14 @@ fn to_the_end(alloc: Global, tree: Tree) -> Result<Tree, Memory>
 /// What names are tried with.
 #[derive(Drop)]
 struct Trial {
-    /// One pattern, up to the end of the text.
+    /// The pattern, up to the end of the text.
+    whole: Tree,
     programs: Programs,
     sets: Sets,
     externals: Externals,
+    ghost pattern: { programs ≡ whole ∷ [] },
+    ghost usual: { sets ≡ usual_sets },
+    ghost none: { externals ≡ replicate 9 [] },
 }
 
 pub(crate) fn usual_sets() -> Sets
@@ -90,19 +92,25 @@ pub(crate) fn usual_sets() -> Sets
 
 fn trial_of(alloc: Global, tree: Tree) -> Result<Trial, Memory>
     requires { HasNumbers tree.node }
-    ensures { IfOk result (λ trial. IsTrial trial (spec.to_the_end tree)) }
+    ensures { IfOk result (λ trial. trial.whole ≡ spec.to_the_end tree) }
 {
     let whole = to_the_end(alloc, tree)?;
     let mut programs = Programs::new(alloc);
     programs.add(&whole)?;
+    let sets = usual_sets();
+    let externals = Externals::none(alloc)?;
     Ok(Trial {
+        whole,
         programs,
-        sets: usual_sets(),
-        externals: Externals::none(alloc)?,
+        sets,
+        externals,
     })
 }
 
-fn is_matched(attempt: &Attempt) -> Result<bool, Refusal> {
+/// Whether an attempt found a match.
+fn is_found(attempt: &Attempt) -> Result<bool, Refusal>
+    ensures { Gives result (spec.is_found attempt.now) }
+{
     match attempt {
         Attempt::Found(_, _) => Ok(true),
         Attempt::Absent(_) => Ok(false),
@@ -112,7 +120,7 @@ fn is_matched(attempt: &Attempt) -> Result<bool, Refusal> {
 
 /// Whether the pattern matches a whole name.
 fn has_name(alloc: Global, trial: &Trial, name: &str) -> Result<bool, Refusal>
-    ensures { (whole : PatternTree) → IsTrial trial.now whole → Gives result (spec.has_name whole (chars name.now)) }
+    ensures { Gives result (spec.has_name trial.now.whole (chars name.now)) }
 {
     let text = line_of(alloc, name)?;
     let context = Context {
@@ -121,11 +129,38 @@ fn has_name(alloc: Global, trial: &Trial, name: &str) -> Result<bool, Refusal>
         externals: &trial.externals,
     };
     let start = Place { line: 0, col: 0 };
-    let attempt =
-        trial
-            .programs
-            .attempt(alloc, PatternId(0), &text, &context, start, NAMES_BUDGET)?;
-    is_matched(&attempt)
+    let attempt = trial
+        .programs
+        .attempt(alloc, PatternId(0), &text, &context, start, NAMES_BUDGET)?;
+    is_found(&attempt)
+}
+
+/// The group of a number, which fits in every group's number.
+fn group_at(number: usize) -> Result<GroupId, Memory>
+    ensures { IfOk result (λ group. group ≡ group_numbered number) }
+{
+    match u32::try_from(number) {
+        Ok(number) => Ok(GroupId(number)),
+        Err(_) => Err(Memory),
+    }
+}
+
+/// The groups with this one, if the pattern stands for it.
+fn with_tried(
+    alloc: Global,
+    trial: &Trial,
+    groups: &Groups,
+    found: List<GroupId>,
+    number: usize,
+) -> Result<List<GroupId>, Refusal>
+    ensures { Gives result (spec.with_tried trial.now.whole found number (name_of groups.now (group_numbered number))) }
+{
+    let mut found = found;
+    let group = group_at(number)?;
+    if has_name(alloc, trial, groups.name(group))? {
+        found.push(group)?;
+    }
+    Ok(found)
 }
 
 /// The groups that a pattern of names stands for.
@@ -140,10 +175,7 @@ pub(crate) fn matching(
     let trial = trial_of(alloc, tree)?;
     let mut found = List::new(alloc);
     for number in 0..groups.len() {
-        let group = GroupId(number as u32);
-        if has_name(alloc, &trial, groups.name(group))? {
-            found.push(group)?;
-        }
+        found = with_tried(alloc, &trial, groups, found, number)?;
     }
     Ok(found)
 }

@@ -82,8 +82,11 @@ fn names_are_found_by_patterns_and_files_are_included(rt: HostRuntime) -> Result
 
 #[test]
 fn a_refusal_names_file_line_and_cause(rt: HostRuntime) -> Result<(), Memory> {
-    let Err(ReadError::Refused { file, line, cause }) =
-        read(rt.alloc(), "syn include f\n", "syn case match\nsyn sync minlines=5\n")?
+    let Err(ReadError::Refused { file, line, cause }) = read(
+        rt.alloc(),
+        "syn include f\n",
+        "syn case match\nsyn sync minlines=5\n",
+    )?
     else {
         assert!(rt; false);
         return Ok(());

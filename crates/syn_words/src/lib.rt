@@ -31,6 +31,7 @@ mod words;
 
 pub use cause::Cause;
 pub use file::commands;
+pub use names::is_none;
 pub use what::{
     Command, Commands, Field, Flag, ItemCommand, Named, NamedList, Piece, Quoted, Role, StylePart,
     What, WordFault,

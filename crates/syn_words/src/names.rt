@@ -32,7 +32,8 @@ fn is_group_name(word: &[char]) -> bool
     1 <= word.len() && word.len() <= MOST_CHARACTERS && has_name_characters(word)
 }
 
-pub(crate) fn is_none(word: &[char]) -> bool
+/// Whether the word is `NONE`, case ignored, which stands for no group (`:syn-matchgroup`, `:hi-link`).
+pub fn is_none(word: &[char]) -> bool
     ensures { result ≡ spec.is_none word.now }
 {
     is_word_in_any_case(word, "none")
