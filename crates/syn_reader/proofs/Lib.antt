@@ -6,3 +6,5 @@ pub mod TreeLaws
 pub mod AbbreviationLaws
 pub mod ListLaws
 pub mod MatchingLaws
+pub mod ClusterLaws
+pub mod ItemLaws

@@ -1,12 +1,19 @@
 -- Worked rows: small syntax files, and what the rules make of them.
 use Rattle.std.proofs.Common.{◌≡◌, ℕ, List, [], ◌∷◌, ◌++◌, refl, true, false, Some, None, length}
-use Rattle.std.specs.Prelude.{Bool, Option, Result, Ok, Err, codes, count_by, map}
+use Rattle.std.specs.Prelude.{Bool, Option, Result, Ok, Err, codes, count_by, map, ℤ, pos, negsuc}
 use Rattle.syn_base.specs.Outside.{FileMap}
 use Rattle.syn_base.specs.declared.places.GroupId.{GroupId}
 use Rattle.pattern_items.specs.declared.cause.PatternCause.TheVariants as pattern
 use Rattle.hi_links.specs.FinalGroup.{final_group}
 use Rattle.syntax_set.specs.Groups.{group_of, name_of, group_numbered}
 use Rattle.syntax_set.specs.ClusterTable.{ClusterList}
+use Rattle.syntax_set.specs.declared.item.Entry.{Entry}
+use Rattle.syntax_set.specs.declared.item.Entry.TheVariants as entry
+use Rattle.syntax_set.specs.declared.item.GroupList.{GroupList}
+use Rattle.syntax_set.specs.declared.item.ItemKind.{ItemKind}
+use Rattle.syntax_set.specs.declared.item.ItemKind.TheVariants as item_kind
+use Rattle.syntax_set.specs.declared.item.Offset.{Offset}
+use Rattle.syntax_set.specs.declared.item.Pattern.{Pattern}
 use Rattle.syn_words.specs.declared.cause.Cause.{Cause}
 use Rattle.syn_words.specs.declared.cause.Cause.TheVariants as cause
 use Rattle.syn_reader.specs.declared.syntax.ReadError.{ReadError}
@@ -109,3 +116,83 @@ taken_link_needs_a_link = refl
 
 style_takes_the_link : final_of (codes "A") (read (alone (codes "hi link A B\nhi A gui=NONE\nhi def link A C"))) ≡ codes "A"
 style_takes_the_link = refl
+
+-- the names of an item's `contains`
+abbrev entry_name : Syntax → Entry → List ℕ
+entry_name syntax (entry.Group g) = name_of syntax.groups g
+entry_name syntax (entry.Cluster c) = 64 ∷ name_of syntax.clusters.names (group_numbered c)
+
+abbrev list_names : Syntax → Option GroupList → List (List ℕ)
+list_names syntax None = []
+list_names syntax (Some list) = map (entry_name syntax) list.entries
+
+abbrev contained_in : Result Syntax ReadError → List (List (List ℕ))
+contained_in (Ok syntax) = map (λ added. list_names syntax added.item.contains) syntax.items
+contained_in (Err e) = []
+
+a_group_stands_once : contained_in (read (alone (codes "syn match A /x/ contains=B,@C,b,A,@c,B"))) ≡ (codes "B" ∷ codes "@C" ∷ codes "A" ∷ []) ∷ []
+a_group_stands_once = refl
+
+a_found_group_stands_once : contained_in (read (alone (codes "syn match A /x/ contains=Number,T[oy].*,Number,Type,todo,NUMBE[R]"))) ≡ (codes "Number" ∷ codes "Todo" ∷ codes "Type" ∷ codes "Typedef" ∷ []) ∷ []
+a_found_group_stands_once = refl
+
+a_pattern_doesnt_find_its_own_group : contained_in (read (alone (codes "syn match Zed /x/ contains=Z.*\nsyn match Zoo /y/ contains=\\CZ.*"))) ≡ [] ∷ (codes "Zed" ∷ []) ∷ []
+a_pattern_doesnt_find_its_own_group = refl
+
+the_last_list_counts : contained_in (read (alone (codes "syn match A /x/ contains=B contains=C,D"))) ≡ (codes "C" ∷ codes "D" ∷ []) ∷ []
+the_last_list_counts = refl
+
+-- the matchgroup and the `excludenl` of an item's patterns
+abbrev group_name : Syntax → Option GroupId → List ℕ
+group_name syntax None = []
+group_name syntax (Some g) = name_of syntax.groups g
+
+abbrev beside : Syntax → Pattern → List ℕ × Bool
+beside syntax p = (group_name syntax p.matchgroup, p.excludenl)
+
+abbrev patterns_of : ItemKind → List Pattern
+patterns_of item_kind.Keyword = []
+patterns_of (item_kind.Match p) = p ∷ []
+patterns_of (item_kind.Region starts None ends) = starts ++ ends
+patterns_of (item_kind.Region starts (Some skip) ends) = starts ++ skip ∷ ends
+
+abbrev all_patterns : {A : Type 0} → (Syntax → Pattern → A) → Result Syntax ReadError → List (List A)
+all_patterns f (Ok syntax) = map (λ added. map (f syntax) (patterns_of added.item.kind)) syntax.items
+all_patterns f (Err e) = []
+
+matchgroup_and_excludenl : all_patterns beside (read (alone (codes "syn region R start=/a/ matchgroup=Q start=/b/ skip=/s/ matchgroup=none start=/c/ excludenl end=/d/ matchgroup=Q end=/e/ matchgroup=r end=/f/")))
+    ≡ (([], false) ∷ (codes "Q", false) ∷ ([], false) ∷ ([], false) ∷ ([], true) ∷ (codes "Q", true) ∷ ([], true) ∷ []) ∷ []
+matchgroup_and_excludenl = refl
+
+excludenl_behind_its_pattern : all_patterns beside (read (alone (codes "syn match A /x/ excludenl"))) ≡ (([], false) ∷ []) ∷ []
+excludenl_behind_its_pattern = refl
+
+-- where a match starts
+abbrev from_start : ℤ → Option Offset
+from_start by = Some (record { from_end = false; by = by })
+
+leading_context : all_patterns (λ _ p. p.ms) (read (alone (codes "syn match A /x/lc=2\nsyn match A /x/lc=2,ms=s+1\nsyn match A /x/ms=s-1,lc=2\nsyn match A /x/me=e+1")))
+    ≡ (from_start (pos 2) ∷ []) ∷ (from_start (pos 1) ∷ []) ∷ (from_start (negsuc 0) ∷ []) ∷ (None ∷ []) ∷ []
+leading_context = refl
+
+-- the causes of one command, from left to right
+pattern_before_names : Refused (alone (codes "syn match A /\\(/ contains=a\\{x")) 1 (cause.Pattern 0 pattern.Unclosed)
+pattern_before_names = refl
+
+names_before_pattern : Refused (alone (codes "syn match A contains=ab\\) /\\(/")) 1 (cause.Pattern 2 pattern.UnopenedClose)
+names_before_pattern = refl
+
+brackets_before_length : Refused (alone (codes "syn keyword K a[b]c aaaaaaaaaaaaaaaaaaaaaaaaaaaaaaaaaaaaaaaaaaaaaaaaaaaaaaaaaaaaaaaaaaaaaaaaaaaaaaaaa")) 1 cause.BadBrackets
+brackets_before_length = refl
+
+eighty_are_no_more_than_eighty : Counts (alone (codes "syn keyword K aaaaaaaaaaaaaaaaaaaaaaaaaaaaaaaaaaaaaaaaaaaaaaaaaaaaaaaaaaaaaaaaaaaaaaaaaaaaaa[aa]")) 1 3 0
+eighty_are_no_more_than_eighty = refl
+
+words_before_what_they_hold : Refused (alone (codes "syn match A /\\(/ foo")) 1 cause.UnknownOption
+words_before_what_they_hold = refl
+
+unknown_names_are_not_made : Counts (alone (codes "syn clear A @B")) 0 0 0
+unknown_names_are_not_made = refl
+
+a_cluster_in_the_order_written : groups_in (read (alone (codes "syn cluster C add=A,B remove=A add=D,a\nsyn cluster C add=b,E\nsyn cluster D contains=A\nsyn clear @D"))) ≡ (codes "B" ∷ codes "D" ∷ codes "A" ∷ codes "E" ∷ []) ∷ [] ∷ []
+a_cluster_in_the_order_written = refl

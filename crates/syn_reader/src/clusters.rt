@@ -90,6 +90,8 @@ impl Reading {
         match self.names.clusters.find(name)? {
             None => Ok(()),
             Some(cluster) => {
+                // each name has a list
+                let _count = self.names.clusters.len();
                 let nothing = GroupList {
                     special: Special::Plain,
                     entries: List::new(alloc),

@@ -1,5 +1,5 @@
 //! The groups and clusters that have a name so far.
-ghost use Rattle.std.specs.Prelude.{◌≡◌, IfOk, chars, encode_utf8_all};
+ghost use Rattle.std.specs.Prelude.{◌≡◌, ◌<◌, length, IfOk, chars, encode_utf8_all};
 ghost use Rattle.std.specs.String.{string_bytes};
 ghost use Rattle.syn_reader.specs.Answers.{Makes};
 ghost use Rattle.syn_reader.specs.Names as spec;
@@ -36,9 +36,13 @@ impl Names {
     /// The cluster of a name, which is made if it is new (`:syn-cluster`).
     #[tactic(auto, using(crate::proofs::NameLaws::cluster_ok, crate::proofs::NameLaws::cluster_refused))]
     fn cluster_named(&mut self, name: &str) -> Result<u32, Refusal>
-        ensures { Makes result self.new (spec.cluster_named self.old name.now) }
+        ensures made { Makes result self.new (spec.cluster_named self.old name.now) }
+        ensures within { IfOk result (λ cluster. cluster < length self.new.clusters.lists) }
     {
-        Ok(self.clusters.number(name)?)
+        let cluster = self.clusters.number(name)?;
+        // each name has a list
+        let _count = self.clusters.len();
+        Ok(cluster)
     }
 
     /// The group of a name as a command has it.
@@ -51,7 +55,8 @@ impl Names {
 
     /// The cluster of a name as a command has it.
     pub(crate) fn cluster(&mut self, alloc: Global, name: &[char]) -> Result<u32, Refusal>
-        ensures { Makes result self.new (spec.cluster_made self.old name.now) }
+        ensures made { Makes result self.new (spec.cluster_made self.old name.now) }
+        ensures within { IfOk result (λ cluster. cluster < length self.new.clusters.lists) }
     {
         let text = text_of(alloc, name)?;
         self.cluster_named(text.as_str())
