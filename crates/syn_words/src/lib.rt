@@ -31,4 +31,3 @@ pub use what::{
     Command, Commands, Field, Flag, ItemCommand, Named, NamedList, Piece, Quoted, Role, StylePart,
     What, WordFault,
 };
-pub use word_values::is_none;

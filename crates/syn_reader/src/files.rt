@@ -1,0 +1,352 @@
+//! Files, and the files that they ask for.
+ghost use Rattle.std.specs.Prelude.{◌≡◌, suc, IfOk, OnOk, chars};
+ghost use Rattle.std.specs.String.{string_bytes};
+ghost use Rattle.syn_words.specs.declared.cause.Cause.TheVariants as cause;
+ghost use Rattle.syn_reader.specs.declared.syntax.ReadError.TheVariants as error;
+ghost use Rattle.syn_reader.specs.Follows.{counts, Counts, Does, HasOtherCause, HasOtherCauses, IsFaultOf, IsInLine, IsOrMemory, Reads};
+ghost use Rattle.syn_reader.specs.Includes.{counted, include_begun};
+ghost use Rattle.syn_reader.specs.SyntaxOf as spec;
+
+use crate::includes::Progress;
+use crate::names::text_of;
+use crate::refusal::Refusal;
+use crate::syntax::{ReadError, ReadOptions};
+use std::alloc::Global;
+use syn_base::{Fetched, Files, List, Memory};
+use syn_words::{Cause, Command, Commands, What, WordFault, commands};
+
+/// The most bytes of a syntax file.
+pub(crate) const FILE_LIMIT: usize = 8 << 20;
+
+/// The most files that are open at once: the first one, and 20 nested in it.
+pub(crate) const MOST_OPEN: usize = 21;
+
+/// Where a file is asked for, or a command stands.
+#[derive(Clone, Copy)]
+pub(crate) struct Asker<'a> {
+    pub file: &'a [char],
+    pub line: usize,
+}
+
+fn copied(alloc: Global, characters: &[char]) -> Result<List<char>, Memory>
+    ensures { IfOk result (λ list. list ≡ characters.now) }
+{
+    Ok(List::from_vec(Vec::from_slice(alloc, characters)?))
+}
+
+/// The characters of a name.
+pub(crate) fn characters_of(alloc: Global, name: &str) -> Result<List<char>, Memory>
+    ensures { IfOk result (λ list. list ≡ chars name.now) }
+{
+    Ok(List::from_vec(name.chars().collect(alloc)?))
+}
+
+/// The name of a file that a syntax file asks for.
+fn path_of(alloc: Global, options: &ReadOptions, name: &[char]) -> Result<String, Memory>
+    ensures { IfOk result (λ path. string_bytes path ≡ spec.path_of options.now name.now) }
+{
+    let mut path = Vec::from_slice(alloc, options.folder.as_slice())?;
+    path.push('/')?;
+    path.extend_from_slice(name)?;
+    text_of(alloc, path.as_slice())
+}
+
+/// Why a command is refused. That a file is too long is no such cause: it is told where it is fetched.
+fn refused(alloc: Global, asker: Asker<'_>, cause: Cause) -> ReadError
+    ensures told { IsOrMemory result (error.Refused asker.file.now asker.line cause) }
+    ensures other { HasOtherCause result }
+{
+    if let Cause::TooLongFile { name: _ } = cause {
+        return ReadError::Memory;
+    }
+    match copied(alloc, asker.file) {
+        Ok(file) => ReadError::Refused {
+            file,
+            line: asker.line,
+            cause,
+        },
+        Err(_) => ReadError::Memory,
+    }
+}
+
+/// A file that is asked for. It is made before the fetch, so that what comes of it can be told.
+#[derive(Drop)]
+struct Asked {
+    file: List<char>,
+    line: usize,
+    name: List<char>,
+}
+
+fn asked_for(alloc: Global, asker: Asker<'_>, name: &str) -> Result<Asked, Memory>
+    ensures { IfOk result (λ asked. asked ≡ record { file = asker.file.now; line = asker.line; name = chars name.now }) }
+{
+    Ok(Asked {
+        file: copied(alloc, asker.file)?,
+        line: asker.line,
+        name: characters_of(alloc, name)?,
+    })
+}
+
+impl Asked {
+    fn too_long(self) -> ReadError
+        ensures { result ≡ error.Refused self.file self.line (cause.TooLongFile self.name) }
+    {
+        ReadError::Refused {
+            file: self.file,
+            line: self.line,
+            cause: Cause::TooLongFile { name: self.name },
+        }
+    }
+
+    fn missing(self) -> ReadError
+        ensures { result ≡ error.Missing self.file self.line self.name }
+    {
+        ReadError::Missing {
+            file: self.file,
+            line: self.line,
+            name: self.name,
+        }
+    }
+
+    fn file_fault(self) -> ReadError
+        ensures { result ≡ error.FileFault self.file self.line self.name }
+    {
+        ReadError::FileFault {
+            file: self.file,
+            line: self.line,
+            name: self.name,
+        }
+    }
+}
+
+/// What carrying out a command answers, told with its file and line.
+fn in_line(
+    alloc: Global,
+    asker: Asker<'_>,
+    done: Result<(), Refusal>,
+) -> Result<(), ReadError>
+    ensures { IsInLine asker.file.now asker.line done result }
+{
+    match done {
+        Ok(()) => Ok(()),
+        Err(Refusal::Fault(cause)) => Err(refused(alloc, asker, cause)),
+        Err(Refusal::Memory) => Err(ReadError::Memory),
+    }
+}
+
+/// A command that is refused as words.
+fn fault_of(alloc: Global, file: &[char], fault: Option<WordFault>) -> Result<(), ReadError>
+    ensures { IsFaultOf file.now fault result }
+{
+    match fault {
+        None => Ok(()),
+        Some(fault) => {
+            let asker = Asker {
+                file,
+                line: fault.line,
+            };
+            Err(refused(alloc, asker, fault.cause))
+        }
+    }
+}
+
+/// Carries out a command that asks for no file.
+fn do_effect(
+    alloc: Global,
+    options: &ReadOptions,
+    asker: Asker<'_>,
+    progress: &mut Progress,
+    what: What,
+) -> Result<(), ReadError>
+    ensures answer { Does result progress.new (spec.effect_done options.now asker.file.now asker.line progress.old what) }
+    ensures causes { HasOtherCauses result }
+    ensures includes { progress.new.includes ≡ progress.old.includes }
+{
+    let assume = options.assume_fromstart;
+    let done = progress.reading.carry_out(alloc, assume, what);
+    in_line(alloc, asker, done)
+}
+
+/// Reads a file that is asked for, where so many files may still be opened, each in the one before.
+#[cycle(files)]
+pub(crate) fn ask<F: Files>(
+    alloc: Global,
+    files: &mut F,
+    options: &ReadOptions,
+    room: usize,
+    asker: Asker<'_>,
+    name: &str,
+    progress: &mut Progress,
+) -> Result<(), ReadError>
+    ensures kept { F.told files.new ≡ F.told files.old }
+    ensures counts { Counts result (counts (F.faults files.old) (F.misses files.old) (F.longs files.old)) (counts (F.faults files.new) (F.misses files.new) (F.longs files.new)) }
+    ensures answer { Reads (F.told files.old) progress.old.includes (λ fetch. spec.asked_within room fetch options.now asker.file.now asker.line name.now progress.old) progress.new result }
+{
+    if room == 0 {
+        return Err(refused(alloc, asker, Cause::TooDeepIncludes));
+    }
+    let asked = asked_for(alloc, asker, name)?;
+    match files.fetch(alloc, name, FILE_LIMIT) {
+        Fetched::Whole(bytes) => {
+            let found = commands(alloc, bytes.as_slice())?;
+            let file = asked.name;
+            carry_out_all(alloc, files, options, room - 1, file.as_slice(), progress, found)
+        }
+        Fetched::Missing => Err(asked.missing()),
+        Fetched::TooLong => Err(asked.too_long()),
+        Fetched::Failed => Err(asked.file_fault()),
+        Fetched::Memory => Err(ReadError::Memory),
+    }
+}
+
+/// Carries out the commands of a file.
+#[cycle(files)]
+fn carry_out_all<F: Files>(
+    alloc: Global,
+    files: &mut F,
+    options: &ReadOptions,
+    room: usize,
+    file: &[char],
+    progress: &mut Progress,
+    found: Commands,
+) -> Result<(), ReadError>
+    ensures kept { F.told files.new ≡ F.told files.old }
+    ensures counts { Counts result (counts (F.faults files.old) (F.misses files.old) (F.longs files.old)) (counts (F.faults files.new) (F.misses files.new) (F.longs files.new)) }
+    ensures answer { Reads (F.told files.old) (suc progress.old.includes) (λ fetch. spec.with_commands (spec.asked_within room fetch options.now) options.now file.now progress.old found) progress.new result }
+{
+    let Commands { list, fault } = found;
+    for command in list.into_vec() {
+        carry_out(alloc, files, options, room, file, progress, command)?;
+    }
+    fault_of(alloc, file, fault)
+}
+
+/// Carries out one command.
+#[cycle(files)]
+fn carry_out<F: Files>(
+    alloc: Global,
+    files: &mut F,
+    options: &ReadOptions,
+    room: usize,
+    file: &[char],
+    progress: &mut Progress,
+    command: Command,
+) -> Result<(), ReadError>
+    ensures kept { F.told files.new ≡ F.told files.old }
+    ensures counts { Counts result (counts (F.faults files.old) (F.misses files.old) (F.longs files.old)) (counts (F.faults files.new) (F.misses files.new) (F.longs files.new)) }
+    ensures answer { Reads (F.told files.old) (suc progress.old.includes) (λ fetch. spec.with_command (spec.asked_within room fetch options.now) options.now file.now progress.old command) progress.new result }
+{
+    let Command { line, what } = command;
+    let asker = Asker { file, line };
+    match what {
+        What::Runtime(name) => {
+            runtime(alloc, files, options, room, asker, progress, name.as_slice())
+        }
+        What::Include { cluster, name } => {
+            let wanted = Wanted { cluster, name };
+            include(alloc, files, options, room, asker, progress, &wanted)
+        }
+        what => do_effect(alloc, options, asker, progress, what),
+    }
+}
+
+/// `:runtime`.
+#[cycle(files)]
+fn runtime<F: Files>(
+    alloc: Global,
+    files: &mut F,
+    options: &ReadOptions,
+    room: usize,
+    asker: Asker<'_>,
+    progress: &mut Progress,
+    name: &[char],
+) -> Result<(), ReadError>
+    ensures kept { F.told files.new ≡ F.told files.old }
+    ensures counts { Counts result (counts (F.faults files.old) (F.misses files.old) (F.longs files.old)) (counts (F.faults files.new) (F.misses files.new) (F.longs files.new)) }
+    ensures answer { Reads (F.told files.old) (suc progress.old.includes) (λ fetch. spec.runtime_command (spec.asked_within room fetch options.now) options.now asker.file.now asker.line progress.old name.now) progress.new result }
+{
+    count_include(alloc, asker, progress)?;
+    let path = path_of(alloc, options, name)?;
+    ask(alloc, files, options, room, asker, path.as_str(), progress)
+}
+
+/// The file of an include, and the cluster that its groups join.
+#[derive(Drop)]
+struct Wanted {
+    cluster: Option<List<char>>,
+    name: List<char>,
+}
+
+/// `:syn-include`.
+#[cycle(files)]
+fn include<F: Files>(
+    alloc: Global,
+    files: &mut F,
+    options: &ReadOptions,
+    room: usize,
+    asker: Asker<'_>,
+    progress: &mut Progress,
+    wanted: &Wanted,
+) -> Result<(), ReadError>
+    ensures kept { F.told files.new ≡ F.told files.old }
+    ensures counts { Counts result (counts (F.faults files.old) (F.misses files.old) (F.longs files.old)) (counts (F.faults files.new) (F.misses files.new) (F.longs files.new)) }
+    ensures answer { Reads (F.told files.old) (suc progress.old.includes) (λ fetch. spec.include_command (spec.asked_within room fetch options.now) options.now asker.file.now asker.line progress.old wanted.now.cluster wanted.now.name) progress.new result }
+{
+    let around = progress.reading.include;
+    begin_include(alloc, asker, progress, &wanted.cluster)?;
+    let number = progress.reading.include;
+    let path = path_of(alloc, options, wanted.name.as_slice())?;
+    ask(alloc, files, options, room, asker, path.as_str(), progress)?;
+    let numbers = Numbers { number, around };
+    end_include(alloc, asker, progress, numbers, &wanted.cluster)
+}
+
+/// The number of an include, and that of the one around it.
+#[derive(Clone, Copy)]
+struct Numbers {
+    number: u32,
+    around: u32,
+}
+
+/// Counts one include more.
+fn count_include(alloc: Global, asker: Asker<'_>, progress: &mut Progress) -> Result<(), ReadError>
+    ensures answer { Does result progress.new (spec.in_line asker.file.now asker.line (counted progress.old)) }
+    ensures causes { HasOtherCauses result }
+    ensures more { OnOk result (progress.new.includes ≡ suc progress.old.includes) }
+{
+    let done = progress.count_include();
+    in_line(alloc, asker, done)
+}
+
+/// Begins an include.
+fn begin_include(
+    alloc: Global,
+    asker: Asker<'_>,
+    progress: &mut Progress,
+    cluster: &Option<List<char>>,
+) -> Result<(), ReadError>
+    ensures answer { Does result progress.new (spec.in_line asker.file.now asker.line (include_begun progress.old cluster.now)) }
+    ensures causes { HasOtherCauses result }
+    ensures more { OnOk result (progress.new.includes ≡ suc progress.old.includes) }
+{
+    let done = progress.begin_include(alloc, cluster);
+    in_line(alloc, asker, done)
+}
+
+/// Ends an include.
+fn end_include(
+    alloc: Global,
+    asker: Asker<'_>,
+    progress: &mut Progress,
+    numbers: Numbers,
+    cluster: &Option<List<char>>,
+) -> Result<(), ReadError>
+    ensures answer { Does result progress.new (spec.end_done asker.file.now asker.line numbers.number numbers.around cluster.now progress.old) }
+    ensures causes { HasOtherCauses result }
+    ensures includes { progress.new.includes ≡ progress.old.includes }
+{
+    let done = progress
+        .reading
+        .end_include(alloc, numbers.number, numbers.around, cluster);
+    in_line(alloc, asker, done)
+}

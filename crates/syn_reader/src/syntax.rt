@@ -1,0 +1,79 @@
+//! A syntax, and why there is none.
+
+use char_class::Sets;
+use hi_links::Links;
+use keyword_table::Keywords;
+use pattern_match::Programs;
+use std::alloc::AllocError;
+use syn_base::{List, Memory};
+use syn_words::Cause;
+use syntax_set::{Clusters, Groups, ItemSet};
+
+/// How syntax files are read.
+#[derive(Drop)]
+pub struct ReadOptions {
+    /// The folder that stands before the names of included files, without a slash at its end.
+    pub folder: List<char>,
+    /// Each `syntax sync` counts as `fromstart`.
+    pub assume_fromstart: bool,
+}
+
+/// A syntax.
+#[derive(Drop)]
+pub struct Syntax {
+    pub items: ItemSet,
+    pub clusters: Clusters,
+    pub groups: Groups,
+    pub programs: Programs,
+    pub keywords: Keywords,
+    pub links: Links,
+    pub sets: Sets,
+}
+
+/// Why there is no syntax. Lines count from 1. Where the first file itself isn't fetched whole,
+/// `file` is its name and `line` is 0; where another file isn't, they are those of the command that
+/// asks for it.
+#[derive(Drop)]
+pub enum ReadError {
+    /// A line has no meaning, a limit is reached or a file is too long.
+    Refused {
+        file: List<char>,
+        line: usize,
+        cause: Cause,
+    },
+    /// There is no file of that name.
+    Missing {
+        file: List<char>,
+        line: usize,
+        name: List<char>,
+    },
+    /// The file of that name couldn't be read.
+    FileFault {
+        file: List<char>,
+        line: usize,
+        name: List<char>,
+    },
+    Memory,
+}
+
+impl From<Memory> for ReadError {
+    ghost use Rattle.std.specs.Prelude.{◌≡◌};
+    ghost use Rattle.syn_reader.specs.declared.syntax.ReadError.TheVariants as error;
+
+    ghost from_gives = { λ _ e. e ≡ error.Memory };
+
+    fn from(_: Memory) -> ReadError {
+        ReadError::Memory
+    }
+}
+
+impl From<AllocError> for ReadError {
+    ghost use Rattle.std.specs.Prelude.{◌≡◌};
+    ghost use Rattle.syn_reader.specs.declared.syntax.ReadError.TheVariants as error;
+
+    ghost from_gives = { λ _ e. e ≡ error.Memory };
+
+    fn from(_: AllocError) -> ReadError {
+        ReadError::Memory
+    }
+}
