@@ -1,5 +1,5 @@
 //! Names of files.
-ghost use Rattle.std.specs.Prelude.{◌≡◌, ◌++◌, IfOk, OnOk};
+ghost use Rattle.std.specs.Prelude.{◌≡◌};
 ghost use Rattle.syn_words.specs.Answers.{Gives, Reads};
 ghost use Rattle.syn_words.specs.FileNames as spec;
 
@@ -7,7 +7,7 @@ use crate::Cause;
 use crate::arguments::argument;
 use crate::refusal::Refusal;
 use std::alloc::Global;
-use syn_base::{List, Memory};
+use syn_base::List;
 use word_reader::Reader;
 use word_values::{in_folder, is_file_name};
 

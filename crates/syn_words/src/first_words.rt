@@ -1,8 +1,7 @@
 //! Commands by their first word.
-ghost use Rattle.std.specs.Prelude.{◌≡◌, IfOk, Some, None};
+ghost use Rattle.std.specs.Prelude.{◌≡◌, Some, None};
 ghost use Rattle.syn_words.specs.Answers.{Leaves, Reads};
 ghost use Rattle.syn_words.specs.Commands as spec;
-ghost use Rattle.word_reader.specs.Words as words;
 
 use crate::arguments::{no_more, word_start};
 use crate::file_names::file_argument;
@@ -11,7 +10,6 @@ use crate::refusal::Refusal;
 use crate::syntax::{alone, quiet, syntax_command};
 use crate::{Cause, What};
 use std::alloc::Global;
-use syn_base::Memory;
 use word_reader::{Reader, Until, front, is_word};
 use word_values::{CommandName, begins_cpo, begins_variable, command_name, is_guard};
 

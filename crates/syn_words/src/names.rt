@@ -8,7 +8,6 @@ use crate::refusal::Refusal;
 use crate::{Cause, Named};
 use std::alloc::Global;
 use syn_base::List;
-use syntax_set::Special;
 use word_reader::Reader;
 use word_values::{is_group_name, is_listed, is_pattern, is_reserved};
 

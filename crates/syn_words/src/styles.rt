@@ -1,5 +1,5 @@
 //! The parts of a style command.
-ghost use Rattle.std.specs.Prelude.{◌≡◌, ◌≤◌, ◌∷◌, ◌++◌, [], OnOk, Ok, IfSome};
+ghost use Rattle.std.specs.Prelude.{◌≡◌, ◌∷◌, ◌++◌, [], OnOk, Ok};
 ghost use Rattle.std.specs.Option.{option_to_list};
 ghost use Rattle.syn_words.specs.Answers.{Gives, Reads};
 ghost use Rattle.syn_words.specs.Styles as spec;

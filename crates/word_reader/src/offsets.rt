@@ -1,5 +1,5 @@
 //! Offsets of a pattern.
-ghost use Rattle.std.specs.Prelude.{◌≡◌, ◌≤◌, ◌<◌, ◌+◌, Some, None, IfSome, MatchOption, length, pos, neg_ℤ};
+ghost use Rattle.std.specs.Prelude.{◌≡◌, ◌≤◌, ◌<◌, ◌+◌, Some, None, IfSome, MatchOption, pos, neg_ℤ};
 ghost use Rattle.pattern_items.specs.Numbers as numbers;
 ghost use Rattle.word_reader.specs.Offsets as spec;
 ghost use Rattle.word_reader.specs.Vain.{Keeps};
