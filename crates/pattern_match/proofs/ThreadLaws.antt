@@ -1,12 +1,12 @@
 -- Laws of the present way and the pending ones, kept as entries.
 use Rattle.std.proofs.Common.{◌≡◌, ℕ, ◌+◌, ◌-◌, ◌<◌, ◌≤◌, List, [], ◌∷◌, ◌++◌, length, take, drop, get_or, refl, sym, ap, ◌∙◌, subst, arith}
-use Rattle.std.specs.Prelude.{reverse, map, max, Option, Some, None, option_to_list}
+use Rattle.std.specs.Prelude.{reverse, map, max}
 use Rattle.std.proofs.lemmas.List.{take-append-drop, map-append, reverse-append, length-reverse, length-append, length-map, length-drop, length-take-le, take_all, drop_at}
 use Rattle.std.proofs.lemmas.List.Elements.{All-push, All-take}
 use Rattle.syn_base.specs.declared.places.Place.{Place}
 use Rattle.match_rules.specs.Ways.{Way}
 use Rattle.pattern_match.specs.Entries.{entries_from}
-use Rattle.pattern_match.specs.Threads.{Thread, Ways, next_of, before_of, with_note, with_notes, here_of, thread_of, ways_of, settled_here, settled_later, IsNumbered, IsWithin, ArePending, AreWays, entries_named}
+use Rattle.pattern_match.specs.Threads.{Thread, Ways, next_of, before_of, with_note, with_notes, thread_of, ways_of, IsNumbered, IsWithin, ArePending, AreWays, entries_named}
 use Rattle.pattern_match.specs.declared.threads.Later.{Later}
 use Rattle.pattern_match.specs.declared.threads.Note.{Note}
 use Rattle.pattern_match.specs.declared.threads.Note.TheVariants.{Captured, External, Start, Stop}
@@ -21,23 +21,23 @@ use Rattle.pattern_match.proofs.EntryLaws.{entries_from-none, from-pushed, from-
 abbrev SameTo : {X : Type 0} → (X → ℕ) → ℕ → List X → List X → Type 0
 SameTo behind most xs ys = (k : ℕ) → k ≤ most → entries_from behind xs k ≡ entries_from behind ys k
 
-abbrev thread : {T : Type 0} → Here T → List (Later T) → List Noted → Thread T
-thread here later notes = record { todo = option_to_list here.first ++ map (λ e. e.item) later; way = record (with_notes notes) { at = here.at } }
+abbrev thread : {T : Type 0} → Here → List (Later T) → List Noted → Thread T
+thread here later notes = record { todo = map (λ e. e.item) later; way = record (with_notes notes) { at = here.at } }
 
-same_thread : {T : Type 0} (later later2 : List (Later T)) (notes notes2 : List Noted) (l n : ℕ) (here : Here T)
-    → SameTo next_of l later later2 → SameTo before_of n notes notes2 → IsWithin l n here.next here.noted → thread_of later notes here ≡ thread_of later2 notes2 here
+same_thread : {T : Type 0} (later later2 : List (Later T)) (notes notes2 : List Noted) (l n : ℕ) (here : Here)
+    → SameTo next_of l later later2 → SameTo before_of n notes notes2 → IsWithin l n here → thread_of later notes here ≡ thread_of later2 notes2 here
 same_thread later later2 notes notes2 l n here items noted within =
     ap (λ es. thread here es (entries_from before_of notes here.noted)) (items here.next within.next) ∙ ap (λ es. thread here (entries_from next_of later2 here.next) es) (noted here.noted within.noted)
 
 same_pending : {T : Type 0} (later later2 : List (Later T)) (notes notes2 : List Noted) (l n : ℕ) (ps : List Pending)
-    → SameTo next_of l later later2 → SameTo before_of n notes notes2 → ArePending l n ps → map (λ p. thread_of later notes (here_of p)) ps ≡ map (λ p. thread_of later2 notes2 (here_of p)) ps
+    → SameTo next_of l later later2 → SameTo before_of n notes notes2 → ArePending l n ps → map (λ p. thread_of later notes p.here) ps ≡ map (λ p. thread_of later2 notes2 p.here) ps
 same_pending later later2 notes notes2 l n [] items noted pending = refl
 same_pending later later2 notes notes2 l n (p ∷ ps) items noted pending =
     let items2 : SameTo next_of p.later later later2 = λ k h. items k (let low = pending.0 in omega arith) in
     let noted2 : SameTo before_of p.notes notes notes2 = λ k h. noted k (let low = pending.1 in omega arith) in
-    let first = same_thread later later2 notes notes2 p.later p.notes (here_of p) items2 noted2 pending.2 in
+    let first = same_thread later later2 notes notes2 p.later p.notes p.here items2 noted2 pending.2 in
     let rest = same_pending later later2 notes notes2 p.later p.notes ps items2 noted2 pending.3 in
-    ap (λ t. t ∷ map (λ p. thread_of later notes (here_of p)) ps) first ∙ ap (λ ts. thread_of later2 notes2 (here_of p) ∷ ts) rest
+    ap (λ t. t ∷ map (λ p. thread_of later notes p.here) ps) first ∙ ap (λ ts. thread_of later2 notes2 p.here ∷ ts) rest
 
 pub ArePending-more : (l n l2 n2 : ℕ) (ps : List Pending) → l ≤ l2 → n ≤ n2 → ArePending l n ps → ArePending l2 n2 ps
 ArePending-more l n l2 n2 [] h k pending = tt
@@ -52,16 +52,16 @@ ArePending-older l n (p ∷ newer) older pending =
 abbrev ways : {T : Type 0} → Thread T → List (Thread T) → Ways T
 ways here pending = record { here = here; pending = pending }
 
-same_ways : {T : Type 0} (later later2 : List (Later T)) (notes notes2 : List Noted) (l n : ℕ) (pending : List Pending) (here : Here T)
-    → SameTo next_of l (reverse later) (reverse later2) → SameTo before_of n (reverse notes) (reverse notes2) → IsWithin l n here.next here.noted → ArePending l n (reverse pending)
+same_ways : {T : Type 0} (later later2 : List (Later T)) (notes notes2 : List Noted) (l n : ℕ) (pending : List Pending) (here : Here)
+    → SameTo next_of l (reverse later) (reverse later2) → SameTo before_of n (reverse notes) (reverse notes2) → IsWithin l n here → ArePending l n (reverse pending)
     → ways_of later notes pending here ≡ ways_of later2 notes2 pending here
 same_ways later later2 notes notes2 l n pending here items noted within put_aside =
-    ap (λ t. ways t (map (λ p. thread_of (reverse later) (reverse notes) (here_of p)) (reverse pending))) (same_thread (reverse later) (reverse later2) (reverse notes) (reverse notes2) l n here items noted within)
+    ap (λ t. ways t (map (λ p. thread_of (reverse later) (reverse notes) p.here) (reverse pending))) (same_thread (reverse later) (reverse later2) (reverse notes) (reverse notes2) l n here items noted within)
     ∙ ap (λ ts. ways (thread_of (reverse later2) (reverse notes2) here) ts) (same_pending (reverse later) (reverse later2) (reverse notes) (reverse notes2) l n (reverse pending) items noted put_aside)
 
 -- entries that no way names may go
-pub cut : {T : Type 0} (later later2 : List (Later T)) (notes notes2 : List Noted) (l n : ℕ) (pending : List Pending) (here : Here T)
-    → AreWays later notes pending here → later2 ≡ take l later → notes2 ≡ take n notes → l ≤ length later → n ≤ length notes → IsWithin l n here.next here.noted → ArePending l n (reverse pending)
+pub cut : {T : Type 0} (later later2 : List (Later T)) (notes notes2 : List Noted) (l n : ℕ) (pending : List Pending) (here : Here)
+    → AreWays later notes pending here → later2 ≡ take l later → notes2 ≡ take n notes → l ≤ length later → n ≤ length notes → IsWithin l n here → ArePending l n (reverse pending)
     → AreWays later2 notes2 pending here × (ways_of later2 notes2 pending here ≡ ways_of later notes pending here)
 cut later later2 notes notes2 l n pending here are e f h k within put_aside =
     rw (e, f) ((
@@ -77,26 +77,25 @@ cut later later2 notes notes2 l n pending here are e f h k within put_aside =
 
 -- ---- what is to be done
 
-pub nothing_to_do : {T : Type 0} (later : List (Later T)) (notes : List Noted) (pending : List Pending) (here : Here T) (w : Ways T) → ways_of later notes pending here ≡ w
-    → ways_of later notes pending (record here { first = None; next = 0 }) ≡ record w { here = record w.here { todo = [] } }
+pub nothing_to_do : {T : Type 0} (later : List (Later T)) (notes : List Noted) (pending : List Pending) (here : Here) (w : Ways T) → ways_of later notes pending here ≡ w
+    → ways_of later notes pending (record here { next = 0 }) ≡ record w { here = record w.here { todo = [] } }
 nothing_to_do {T} later notes pending here w e =
     ap (λ es. ways (record { todo = map (λ e. e.item) es; way = (thread_of (reverse later) (reverse notes) here).way }) (ways_of later notes pending here).pending) (entries_from-none next_of (reverse later))
     ∙ ap (λ (v : Ways T). record v { here = record v.here { todo = [] } }) e
 
--- the thing beside the entries becomes one of them
-pub one_more_entry : {T : Type 0} (later later2 : List (Later T)) (notes : List Noted) (pending : List Pending) (here : Here T) (w : Ways T) (second : T) (first_now : Option T) (number : ℕ)
-    → AreWays later notes pending here → ways_of later notes pending here ≡ w → here.first ≡ Some second
-    → later2 ≡ later ++ record { item = second; next = here.next } ∷ [] → number ≡ length later2
-    → AreWays later2 notes pending (record here { first = first_now; next = number })
-    × (ways_of later2 notes pending (record here { first = first_now; next = number }) ≡ record w { here = record w.here { todo = option_to_list first_now ++ w.here.todo } })
-one_more_entry {T} later later2 notes pending here w second first_now number are e first f g =
-    let entry : Later T = record { item = second; next = here.next } in
+-- one more thing is an entry
+pub one_more_to_do : {T : Type 0} (later later2 : List (Later T)) (notes : List Noted) (pending : List Pending) (here : Here) (w : Ways T) (item : T) (number : ℕ)
+    → AreWays later notes pending here → ways_of later notes pending here ≡ w
+    → later2 ≡ later ++ record { item = item; next = here.next } ∷ [] → number ≡ length later2
+    → AreWays later2 notes pending (record here { next = number })
+    × (ways_of later2 notes pending (record here { next = number }) ≡ record w { here = record w.here { todo = item ∷ w.here.todo } })
+one_more_to_do {T} later later2 notes pending here w item number are e f g =
+    let entry : Later T = record { item = item; next = here.next } in
     let more : length (later ++ entry ∷ []) ≡ length later + 1 = length-append later (entry ∷ []) in
     let last : number ≡ length later + 1 = g ∙ ap length f ∙ more in
     let next = are.within.next in
-    let todo : option_to_list first_now ++ map (λ e. e.item) (entries_from next_of (reverse (later ++ entry ∷ [])) number) ≡ option_to_list first_now ++ (ways_of later notes pending here).here.todo =
-    ap (λ es. option_to_list first_now ++ map (λ e. e.item) es) (from-pushed next_of later entry number last)
-    ∙ ap (λ (o : Option T). option_to_list first_now ++ (option_to_list o ++ map (λ e. e.item) (entries_from next_of (reverse later) here.next))) (sym first) in
+    let todo : map (λ e. e.item) (entries_from next_of (reverse (later ++ entry ∷ [])) number) ≡ item ∷ (ways_of later notes pending here).here.todo =
+    ap (map (λ e. e.item)) (from-pushed next_of later entry number last) in
     let others = same_pending (reverse (later ++ entry ∷ [])) (reverse later) (reverse notes) (reverse notes) (length later) (length notes) (reverse pending)
     (λ k h. from-push next_of later entry k h) (λ k h. refl) are.put_aside in
     rw f ((
@@ -107,19 +106,19 @@ one_more_entry {T} later later2 notes pending here w second first_now number are
         within = record { next = omega arith; noted = are.within.noted };
         put_aside = ArePending-more (length later) (length notes) (length (later ++ entry ∷ [])) (length notes) (reverse pending) (omega arith) (omega arith) are.put_aside;
       },
-      ap (λ (t : List T). ways (record { todo = t; way = (ways_of later notes pending here).here.way }) (map (λ p. thread_of (reverse (later ++ entry ∷ [])) (reverse notes) (here_of p)) (reverse pending))) todo
-          ∙ ap (λ ts. ways (record { todo = option_to_list first_now ++ (ways_of later notes pending here).here.todo; way = (ways_of later notes pending here).here.way }) ts) others
-          ∙ ap (λ (v : Ways T). record v { here = record v.here { todo = option_to_list first_now ++ v.here.todo } }) e,
+      ap (λ (t : List T). ways (record { todo = t; way = (ways_of later notes pending here).here.way }) (map (λ p. thread_of (reverse (later ++ entry ∷ [])) (reverse notes) p.here) (reverse pending))) todo
+          ∙ ap (λ ts. ways (record { todo = item ∷ (ways_of later notes pending here).here.todo; way = (ways_of later notes pending here).here.way }) ts) others
+          ∙ ap (λ (v : Ways T). record v { here = record v.here { todo = item ∷ v.here.todo } }) e,
     ))
 
--- what is to be done first, where it is an entry
-pub first_entry : {T : Type 0} (later : List (Later T)) (notes : List Noted) (pending : List Pending) (here : Here T) (w : Ways T) (entry : Later T)
-    → AreWays later notes pending here → ways_of later notes pending here ≡ w → here.first ≡ None → 0 < here.next → entry ≡ get_or later (here.next - 1) entry
+-- what is to be done first
+pub first_entry : {T : Type 0} (later : List (Later T)) (notes : List Noted) (pending : List Pending) (here : Here) (w : Ways T) (entry : Later T)
+    → AreWays later notes pending here → ways_of later notes pending here ≡ w → 0 < here.next → entry ≡ get_or later (here.next - 1) entry
     → (entry.next + 1 ≤ here.next) × AreWays later notes pending (record here { next = entry.next })
     × (w.here.todo ≡ entry.item ∷ (ways_of later notes pending (record here { next = entry.next })).here.todo)
     × (w.here.way ≡ (ways_of later notes pending (record here { next = entry.next })).here.way)
     × (w.pending ≡ (ways_of later notes pending (record here { next = entry.next })).pending)
-first_entry {T} later notes pending here w entry are e none some read =
+first_entry {T} later notes pending here w entry are e some read =
     let within = are.within.next in
     let at = from-at next_of later (here.next - 1) entry (omega arith) are.linked in
     let low : entry.next ≤ here.next - 1 = rw read at.0 in
@@ -129,9 +128,7 @@ first_entry {T} later notes pending here w entry are e none some read =
       omega arith,
       record { linked = are.linked; chained = are.chained; numbered = are.numbered; within = record { next = omega arith; noted = are.within.noted }; put_aside = are.put_aside },
       ap (λ (v : Ways T). v.here.todo) (sym e)
-          ∙ ap (λ (o : Option T). option_to_list o ++ map (λ e. e.item) (entries_from next_of (reverse later) here.next)) none
-          ∙ ap (λ es. map (λ e. e.item) es) items
-          ∙ ap (λ (o : Option T). entry.item ∷ (option_to_list o ++ map (λ e. e.item) (entries_from next_of (reverse later) entry.next))) (sym none),
+          ∙ ap (λ es. map (λ e. e.item) es) items,
       ap (λ (v : Ways T). v.here.way) (sym e),
       ap (λ (v : Ways T). v.pending) (sym e),
     )
@@ -149,21 +146,21 @@ greater : (m n kept count : ℕ) → kept ≡ max m n → m ≤ count → n ≤ 
 greater m n kept count e h k = (omega arith, omega arith, omega arith)
 
 -- it may be forgotten then, with those above it that no pending way names
-pub first_entry_taken : {T : Type 0} (later later2 : List (Later T)) (notes : List Noted) (pending : List Pending) (here : Here T) (w : Ways T) (entry : Later T) (kept : ℕ)
-    → AreWays later notes pending here → ways_of later notes pending here ≡ w → here.first ≡ None → 0 < here.next → entry ≡ get_or later (here.next - 1) entry
+pub first_entry_taken : {T : Type 0} (later later2 : List (Later T)) (notes : List Noted) (pending : List Pending) (here : Here) (w : Ways T) (entry : Later T) (kept : ℕ)
+    → AreWays later notes pending here → ways_of later notes pending here ≡ w → 0 < here.next → entry ≡ get_or later (here.next - 1) entry
     → kept ≡ max (here.next - 1) (entries_named (reverse pending)) → later2 ≡ take kept later
     → AreWays later2 notes pending (record here { next = entry.next })
     × (w.here.todo ≡ entry.item ∷ (ways_of later2 notes pending (record here { next = entry.next })).here.todo)
     × (w.here.way ≡ (ways_of later2 notes pending (record here { next = entry.next })).here.way)
     × (w.pending ≡ (ways_of later2 notes pending (record here { next = entry.next })).pending)
-first_entry_taken {T} later later2 notes pending here w entry kept are e none some read greatest cut_to =
-    let taken = first_entry later notes pending here w entry are e none some read in
+first_entry_taken {T} later later2 notes pending here w entry kept are e some read greatest cut_to =
+    let taken = first_entry later notes pending here w entry are e some read in
     let low = taken.0 in
     let next = are.within.next in
     let enough = greater (here.next - 1) (entries_named (reverse pending)) kept (length later) greatest (omega arith) (named_within (length later) (length notes) (reverse pending) are.put_aside) in
     let above = enough.0 in
     let all : notes ≡ take (length notes) notes = sym (take_all (length notes) notes (omega arith)) in
-    let within : IsWithin kept (length notes) entry.next here.noted = record { next = omega arith; noted = are.within.noted } in
+    let within : IsWithin kept (length notes) (record here { next = entry.next }) = record { next = omega arith; noted = are.within.noted } in
     let done = cut later later2 notes notes kept (length notes) pending (record here { next = entry.next }) taken.1 cut_to all enough.2 (omega arith) within
     (ArePending-named (length later) (length notes) kept (reverse pending) enough.1 are.put_aside) in (
       done.0,
@@ -172,11 +169,10 @@ first_entry_taken {T} later later2 notes pending here w entry kept are e none so
       taken.4 ∙ ap (λ (v : Ways T). v.pending) (sym done.1),
     )
 
-pub nothing_left : {T : Type 0} (later : List (Later T)) (notes : List Noted) (pending : List Pending) (here : Here T) (w : Ways T)
-    → ways_of later notes pending here ≡ w → here.first ≡ None → here.next ≡ 0 → w.here.todo ≡ []
-nothing_left {T} later notes pending here w e none zero =
+pub nothing_left : {T : Type 0} (later : List (Later T)) (notes : List Noted) (pending : List Pending) (here : Here) (w : Ways T)
+    → ways_of later notes pending here ≡ w → here.next ≡ 0 → w.here.todo ≡ []
+nothing_left {T} later notes pending here w e zero =
     ap (λ (v : Ways T). v.here.todo) (sym e)
-    ∙ ap (λ (o : Option T). option_to_list o ++ map (λ e. e.item) (entries_from next_of (reverse later) here.next)) none
     ∙ ap (λ n. map (λ e. e.item) (entries_from next_of (reverse later) n)) zero
     ∙ ap (λ es. map (λ e. e.item) es) (entries_from-none next_of (reverse later))
 
@@ -188,7 +184,7 @@ noted_at w (External number from to) p = refl
 noted_at w (Start q) p = refl
 noted_at w (Stop q) p = refl
 
-pub one_more_note : {T : Type 0} (later : List (Later T)) (notes notes2 : List Noted) (pending : List Pending) (here : Here T) (w : Ways T) (note : Note) (number : ℕ)
+pub one_more_note : {T : Type 0} (later : List (Later T)) (notes notes2 : List Noted) (pending : List Pending) (here : Here) (w : Ways T) (note : Note) (number : ℕ)
     → AreWays later notes pending here → ways_of later notes pending here ≡ w → IsNumbered note
     → notes2 ≡ notes ++ record { note = note; before = here.noted } ∷ [] → number ≡ length notes2
     → AreWays later notes2 pending (record here { noted = number })
@@ -210,62 +206,19 @@ one_more_note {T} later notes notes2 pending here w note number are e numbered f
         within = record { next = are.within.next; noted = omega arith };
         put_aside = ArePending-more (length later) (length notes) (length later) (length (notes ++ entry ∷ [])) (reverse pending) (omega arith) (omega arith) are.put_aside;
       },
-      ap (λ (v : Way). ways (record { todo = (ways_of later notes pending here).here.todo; way = v }) (map (λ p. thread_of (reverse later) (reverse (notes ++ entry ∷ [])) (here_of p)) (reverse pending))) way
+      ap (λ (v : Way). ways (record { todo = (ways_of later notes pending here).here.todo; way = v }) (map (λ p. thread_of (reverse later) (reverse (notes ++ entry ∷ [])) p.here) (reverse pending))) way
           ∙ ap (λ ts. ways (record { todo = (ways_of later notes pending here).here.todo; way = with_note (ways_of later notes pending here).here.way note }) ts) others
           ∙ ap (λ (v : Ways T). record v { here = record v.here { way = with_note v.here.way note } }) e,
     ))
 
 -- ---- pending ways
 
--- what is to be done first may become one of the entries
-pub settled_ways : {T : Type 0} (later : List (Later T)) (notes : List Noted) (pending : List Pending) (here : Here T) (w : Ways T)
-    → AreWays later notes pending here → ways_of later notes pending here ≡ w
-    → AreWays (settled_later later here) notes pending (settled_here later here) × (ways_of (settled_later later here) notes pending (settled_here later here) ≡ w)
-settled_ways {T} later notes pending here w are e =
-    let later_of : Option T → List (Later T) = λ o. elim o [ None ↦ later | Some item ↦ later ++ record { item = item; next = here.next } ∷ [] ] in
-    let here_with : Option T → Here T = λ o. elim o [ None ↦ here | Some item ↦ record here { first = None; next = length later + 1 } ] in
-    elim here.first as (λ o. here.first ≡ o → AreWays (later_of o) notes pending (here_with o) × (ways_of (later_of o) notes pending (here_with o) ≡ w)) [
-      | None ↦ λ f. (are, e)
-      | Some item ↦ λ f.
-          let entry : Later T = record { item = item; next = here.next } in
-          one_more_entry later (later ++ entry ∷ []) notes pending here w item None (length later + 1) are e f refl (sym (length-append later (entry ∷ [])))
-    ] refl
-
-pub settled_first : {T : Type 0} (later : List (Later T)) (here : Here T) → (settled_here later here).first ≡ None
-settled_first {T} later here =
-    elim here.first as (λ o. here.first ≡ o → (elim o as (λ _. Here T) [ None ↦ here | Some item ↦ record here { first = None; next = length later + 1 } ]).first ≡ None) [
-      | None ↦ λ f. f
-      | Some item ↦ λ f. refl
-    ] refl
-
--- a copy of the present way is put aside
-pub one_aside : {T : Type 0} (later : List (Later T)) (notes : List Noted) (pending pending2 : List Pending) (here : Here T) (w : Ways T) (l n : ℕ)
-    → AreWays later notes pending here → ways_of later notes pending here ≡ w → here.first ≡ None → l ≡ length later → n ≡ length notes
-    → pending2 ≡ pending ++ record { at = here.at; next = here.next; noted = here.noted; later = l; notes = n } ∷ []
-    → AreWays later notes pending2 here × (ways_of later notes pending2 here ≡ record w { pending = w.here ∷ w.pending })
-one_aside {T} later notes pending pending2 here w l n are e none f g h =
-    let p : Pending = record { at = here.at; next = here.next; noted = here.noted; later = l; notes = n } in
-    let turned : reverse pending2 ≡ p ∷ reverse pending = ap reverse h ∙ reverse-push pending p in
-    let same : here_of p ≡ here = ap (λ (o : Option T). record here { first = o }) (sym none) in
-    let first : ArePending (length later) (length notes) (p ∷ reverse pending) = rw (f, g) ((omega arith, omega arith, are.within, are.put_aside)) in (
-      record {
-        linked = are.linked;
-        chained = are.chained;
-        numbered = are.numbered;
-        within = are.within;
-        put_aside = subst (ArePending (length later) (length notes)) (sym turned) first;
-      },
-      ap (λ ps. ways (thread_of (reverse later) (reverse notes) here) (map (λ p. thread_of (reverse later) (reverse notes) (here_of p)) ps)) turned
-          ∙ ap (λ t. ways (thread_of (reverse later) (reverse notes) here) (thread_of (reverse later) (reverse notes) t ∷ map (λ p. thread_of (reverse later) (reverse notes) (here_of p)) (reverse pending))) same
-          ∙ ap (λ (v : Ways T). record v { pending = v.here ∷ v.pending }) e,
-    )
-
 -- the next pending way in place of the present one
-pub taken_up : {T : Type 0} (later later2 : List (Later T)) (notes notes2 : List Noted) (pending pending2 : List Pending) (next : Pending) (here : Here T) (w : Ways T)
+pub taken_up : {T : Type 0} (later later2 : List (Later T)) (notes notes2 : List Noted) (pending pending2 : List Pending) (next : Pending) (here : Here) (w : Ways T)
     → AreWays later notes pending here → ways_of later notes pending here ≡ w
     → pending ≡ pending2 ++ next ∷ [] → later2 ≡ take next.later later → notes2 ≡ take next.notes notes
-    → AreWays later2 notes2 pending2 (here_of next)
-    × (w.pending ≡ (ways_of later2 notes2 pending2 (here_of next)).here ∷ (ways_of later2 notes2 pending2 (here_of next)).pending)
+    → AreWays later2 notes2 pending2 next.here
+    × (w.pending ≡ (ways_of later2 notes2 pending2 next.here).here ∷ (ways_of later2 notes2 pending2 next.here).pending)
 taken_up {T} later later2 notes notes2 pending pending2 next here w are e f g h =
     let turned : reverse pending ≡ next ∷ reverse pending2 = ap reverse f ∙ reverse-push pending2 next in
     let aside = subst (ArePending (length later) (length notes)) turned are.put_aside in
@@ -273,29 +226,29 @@ taken_up {T} later later2 notes notes2 pending pending2 next here w are e f g h 
     let named = aside.2 in
     let few = aside.0 in
     let few2 = aside.1 in
-    let up : AreWays later notes pending2 (here_of next) = record {
+    let up : AreWays later notes pending2 next.here = record {
       linked = are.linked;
       chained = are.chained;
       numbered = are.numbered;
       within = record { next = let low = named.next in omega arith; noted = let low = named.noted in omega arith };
       put_aside = rest;
     } in
-    let done = cut later later2 notes notes2 next.later next.notes pending2 (here_of next) up g h few few2 named aside.3 in (
+    let done = cut later later2 notes notes2 next.later next.notes pending2 next.here up g h few few2 named aside.3 in (
       done.0,
       ap (λ (v : Ways T). v.pending) (sym e)
-          ∙ ap (map (λ (p : Pending). thread_of (reverse later) (reverse notes) (here_of p))) turned
+          ∙ ap (map (λ (p : Pending). thread_of (reverse later) (reverse notes) p.here)) turned
           ∙ ap (λ (v : Ways T). v.here ∷ v.pending) (sym done.1),
     )
 
 -- what is to be done on the next pending way, with the notes of the present one
-pub gone_on : {T : Type 0} (later later2 : List (Later T)) (notes : List Noted) (pending pending2 : List Pending) (next : Pending) (here : Here T) (w : Ways T) (at : Place)
+pub gone_on : {T : Type 0} (later later2 : List (Later T)) (notes : List Noted) (pending pending2 : List Pending) (next : Pending) (here : Here) (w : Ways T) (at : Place)
     → AreWays later notes pending here → ways_of later notes pending here ≡ w
     → pending ≡ pending2 ++ next ∷ [] → later2 ≡ take next.later later
-    → AreWays later2 notes pending2 (record (here_of next) { at = at; noted = here.noted })
-    × (w.pending ≡ thread_of (reverse later) (reverse notes) (here_of next) ∷ (ways_of later2 notes pending2 (record (here_of next) { at = at; noted = here.noted })).pending)
-    × ((ways_of later2 notes pending2 (record (here_of next) { at = at; noted = here.noted })).here ≡ record { todo = (thread_of (reverse later) (reverse notes) (here_of next)).todo; way = record w.here.way { at = at } })
+    → AreWays later2 notes pending2 (record next.here { at = at; noted = here.noted })
+    × (w.pending ≡ thread_of (reverse later) (reverse notes) next.here ∷ (ways_of later2 notes pending2 (record next.here { at = at; noted = here.noted })).pending)
+    × ((ways_of later2 notes pending2 (record next.here { at = at; noted = here.noted })).here ≡ record { todo = (thread_of (reverse later) (reverse notes) next.here).todo; way = record w.here.way { at = at } })
 gone_on {T} later later2 notes pending pending2 next here w at are e f g =
-    let there : Here T = record (here_of next) { at = at; noted = here.noted } in
+    let there : Here = record next.here { at = at; noted = here.noted } in
     let turned : reverse pending ≡ next ∷ reverse pending2 = ap reverse f ∙ reverse-push pending2 next in
     let aside = subst (ArePending (length later) (length notes)) turned are.put_aside in
     let rest = ArePending-more next.later next.notes (length later) (length notes) (reverse pending2) aside.0 aside.1 aside.3 in
@@ -313,18 +266,18 @@ gone_on {T} later later2 notes pending pending2 next here w at are e f g =
     let done = cut later later2 notes notes next.later (length notes) pending2 there up g all few (omega arith) (record { next = named.next; noted = are.within.noted }) rest2 in (
       done.0,
       ap (λ (v : Ways T). v.pending) (sym e)
-          ∙ ap (map (λ (p : Pending). thread_of (reverse later) (reverse notes) (here_of p))) turned
-          ∙ ap (λ (v : Ways T). thread_of (reverse later) (reverse notes) (here_of next) ∷ v.pending) (sym done.1),
-      ap (λ (v : Ways T). v.here) done.1 ∙ ap (λ (v : Ways T). record { todo = (thread_of (reverse later) (reverse notes) (here_of next)).todo; way = record v.here.way { at = at } }) e,
+          ∙ ap (map (λ (p : Pending). thread_of (reverse later) (reverse notes) p.here)) turned
+          ∙ ap (λ (v : Ways T). thread_of (reverse later) (reverse notes) next.here ∷ v.pending) (sym done.1),
+      ap (λ (v : Ways T). v.here) done.1 ∙ ap (λ (v : Ways T). record { todo = (thread_of (reverse later) (reverse notes) next.here).todo; way = record v.here.way { at = at } }) e,
     )
 
 -- the pending ways but for those put aside last
-pub forgotten : {T : Type 0} (later : List (Later T)) (notes : List Noted) (pending pending2 : List Pending) (here : Here T) (w : Ways T) (count : ℕ)
+pub forgotten : {T : Type 0} (later : List (Later T)) (notes : List Noted) (pending pending2 : List Pending) (here : Here) (w : Ways T) (count : ℕ)
     → AreWays later notes pending here → ways_of later notes pending here ≡ w → count ≤ length w.pending → pending2 ≡ take count pending
     → AreWays later notes pending2 here
     × (ways_of later notes pending2 here ≡ record w { pending = drop (length w.pending - count) w.pending })
 forgotten {T} later notes pending pending2 here w count are e few f =
-    let turn : Pending → Thread T = λ p. thread_of (reverse later) (reverse notes) (here_of p) in
+    let turn : Pending → Thread T = λ p. thread_of (reverse later) (reverse notes) p.here in
     let dropped = reverse (drop count pending) in
     let kept = reverse (take count pending) in
     let parts : reverse pending ≡ dropped ++ kept = ap reverse (sym (take-append-drop count pending)) ∙ reverse-append (take count pending) (drop count pending) in
@@ -343,16 +296,3 @@ forgotten {T} later notes pending pending2 here w count are e few f =
       },
       ap (λ ts. ways (ways_of later notes pending here).here ts) (sym left) ∙ ap (λ (v : Ways T). ways v.here (drop (length w.pending - count) w.pending)) e,
     ))
-
--- a copy of the present way is put aside, with what is to be done first among the entries
-module _ {T : Type 0} (later later2 : List (Later T)) (notes : List Noted) (pending pending2 : List Pending) (here here2 : Here T) (w : Ways T)
-    (are : AreWays later notes pending here) (e : ways_of later notes pending here ≡ w) (h : here2 ≡ settled_here later here) (s : later2 ≡ settled_later later here) where
-  pub settled_alone : pending2 ≡ pending → AreWays later2 notes pending2 here2
-  settled_alone p = rw (h, s, p) ((settled_ways later notes pending here w are e).0)
-
-  pub put_aside_too : (l n : ℕ) → l ≡ length later2 → n ≡ length notes
-      → pending2 ≡ pending ++ record { at = here2.at; next = here2.next; noted = here2.noted; later = l; notes = n } ∷ []
-      → AreWays later2 notes pending2 here2 × (ways_of later2 notes pending2 here2 ≡ record w { pending = w.here ∷ w.pending })
-  put_aside_too l n f g p =
-      let both : AreWays later2 notes pending here2 × (ways_of later2 notes pending here2 ≡ w) = rw (h, s) (settled_ways later notes pending here w are e) in
-      one_aside later2 notes pending pending2 here2 w l n both.0 both.1 (ap (λ (x : Here T). x.first) h ∙ settled_first later here) f g p

@@ -1,6 +1,6 @@
 -- The ways of an attempt: the present one with what is still to be done on it, and the pending ones,
 -- the next first.
-use Rattle.std.specs.Prelude.{ℕ, ◌+◌, ◌≤◌, Bool, true, false, List, [], ◌∷◌, ◌++◌, length, map, reverse, All, Option, None, Some, option_to_list, ◌-◌, nat_eq, set, get_or, if◌then◌else◌}
+use Rattle.std.specs.Prelude.{ℕ, ◌≤◌, Bool, true, false, List, [], ◌∷◌, ◌++◌, length, map, reverse, All, Option, None, Some, ◌-◌, nat_eq, set, get_or, if◌then◌else◌}
 use Rattle.std.specs.Option.{option_or}
 use Rattle.syn_base.specs.declared.places.Place.{Place}
 use Rattle.match_rules.specs.Ways.{Way, Capture, way_from, place, with_capture}
@@ -29,9 +29,9 @@ next_of entry = entry.next
 abbrev pub before_of : Noted → ℕ
 before_of entry = entry.before
 
--- what is to be done: the one thing that is kept beside the entries, and those from an entry on
-abbrev pub items_from : {T : Type 0} → List (Later T) → Option T → ℕ → List T
-items_from later first number = option_to_list first ++ map (λ e. e.item) (entries_from next_of later number)
+-- what is to be done, from an entry on
+abbrev pub items_from : {T : Type 0} → List (Later T) → ℕ → List T
+items_from later number = map (λ e. e.item) (entries_from next_of later number)
 
 abbrev pub with_note : Way → Note → Way
 with_note w (Captured number from to) = record w { captures = with_capture w.captures number from to }
@@ -44,20 +44,16 @@ abbrev pub with_notes : List Noted → Way
 with_notes [] = way_from (place 0 0)
 with_notes (entry ∷ older) = with_note (with_notes older) entry.note
 
-abbrev pub thread_of : {T : Type 0} → List (Later T) → List Noted → Here T → Thread T
+abbrev pub thread_of : {T : Type 0} → List (Later T) → List Noted → Here → Thread T
 thread_of later notes here = record {
-  todo = items_from later here.first here.next;
+  todo = items_from later here.next;
   way = record (with_notes (entries_from before_of notes here.noted)) { at = here.at };
 }
 
--- a pending way has nothing beside the entries
-abbrev pub here_of : {T : Type 0} → Pending → Here T
-here_of p = record { at = p.at; first = None; next = p.next; noted = p.noted }
-
-abbrev pub ways_of : {T : Type 0} → List (Later T) → List Noted → List Pending → Here T → Ways T
+abbrev pub ways_of : {T : Type 0} → List (Later T) → List Noted → List Pending → Here → Ways T
 ways_of later notes pending here = record {
   here = thread_of (reverse later) (reverse notes) here;
-  pending = map (λ p. thread_of (reverse later) (reverse notes) (here_of p)) (reverse pending);
+  pending = map (λ p. thread_of (reverse later) (reverse notes) p.here) (reverse pending);
 }
 
 -- ---- what the entries keep
@@ -70,34 +66,27 @@ IsNumbered (Start p) = Unit {0}
 IsNumbered (Stop p) = Unit {0}
 
 -- a way names entries among the first ones alone
-pub record IsWithin (later notes entry note : ℕ) : Type 0 where
-  pub next : entry ≤ later
-  pub noted : note ≤ notes
+pub record IsWithin (later notes : ℕ) (here : Here) : Type 0 where
+  pub next : here.next ≤ later
+  pub noted : here.noted ≤ notes
 
 -- each pending way names entries that were there when it was put aside, the next one first
 abbrev pub ArePending : ℕ → ℕ → List Pending → Type 0
 ArePending later notes [] = Unit {0}
 ArePending later notes (p ∷ older) =
-    (p.later ≤ later) × (p.notes ≤ notes) × IsWithin p.later p.notes p.next p.noted × ArePending p.later p.notes older
+    (p.later ≤ later) × (p.notes ≤ notes) × IsWithin p.later p.notes p.here × ArePending p.later p.notes older
 
-pub record AreWays {T : Type 0} (later : List (Later T)) (notes : List Noted) (pending : List Pending) (here : Here T) : Type 0 where
+pub record AreWays {T : Type 0} (later : List (Later T)) (notes : List Noted) (pending : List Pending) (here : Here) : Type 0 where
   pub linked : AreLinked next_of (reverse later)
   pub chained : AreLinked before_of (reverse notes)
   pub numbered : All (λ e. IsNumbered e.note) notes
-  pub within : IsWithin (length later) (length notes) here.next here.noted
+  pub within : IsWithin (length later) (length notes) here
   pub put_aside : ArePending (length later) (length notes) (reverse pending)
 
 -- how many entries of what is to be done the pending ways name at most
 abbrev pub entries_named : List Pending → ℕ
 entries_named [] = 0
 entries_named (p ∷ older) = p.later
-
--- the present way and the entries, where what is to be done first has become one of them
-abbrev pub settled_later : {T : Type 0} → List (Later T) → Here T → List (Later T)
-settled_later later here = elim here.first [ None ↦ later | Some item ↦ later ++ record { item = item; next = here.next } ∷ [] ]
-
-abbrev pub settled_here : {T : Type 0} → List (Later T) → Here T → Here T
-settled_here later here = elim here.first [ None ↦ here | Some item ↦ record here { first = None; next = length later + 1 } ]
 
 -- ---- what calls answer
 

@@ -2,11 +2,11 @@
 //!
 //! Ways share what they have in common: what is still to be done, and what they noted, are kept as
 //! entries of two lists, each of which names the entry behind it. Entries are numbered from 1, and 0 is
-//! none. A way is a place, the one thing that is to be done first, and two such numbers. When a pending
-//! way is taken up, the entries that came after it are forgotten.
-ghost use Rattle.std.specs.Prelude.{◌≡◌, ◌≤◌, [], ◌∷◌, drop, length, reverse, ◌+◌, ◌-◌, ◌<◌, IfOk, OnOk, OnErr, MatchOption, ℕ, IsTrue, IsFalse, Some};
+//! none. A way is a place and two such numbers. When a pending way is taken up, the entries that came
+//! after it are forgotten.
+ghost use Rattle.std.specs.Prelude.{◌≡◌, ◌≤◌, [], ◌∷◌, drop, length, reverse, ◌+◌, ◌-◌, ◌<◌, IfOk, OnOk, MatchOption, ℕ, IsTrue, IsFalse, Some};
 ghost use Rattle.match_rules.specs.Ways.{way_from, with_capture, capture_of};
-ghost use Rattle.pattern_match.specs.Threads.{Thread, with_note, place_of, found_way, IsNumbered, entries_named, settled_here, settled_later, capture_in, with_earlier, with_earlier_capture};
+ghost use Rattle.pattern_match.specs.Threads.{Thread, with_note, place_of, found_way, IsNumbered, entries_named, capture_in, with_earlier, with_earlier_capture};
 
 use std::alloc::Global;
 use std::marker::Model;
@@ -35,24 +35,19 @@ struct Noted {
     before: usize,
 }
 
-/// Where a way stands, what is still to be done on it, and what it noted last. What is to be done
-/// first is kept in `first` once it was put there: so what is put first and taken at once needs no
-/// entry.
+/// Where a way stands, what is to be done first on it, and what it noted last.
 #[derive(Clone, Copy)]
-struct Here<T> {
+struct Here {
     at: Place,
-    first: Option<T>,
     next: usize,
     noted: usize,
 }
 
-/// A way that is still to be followed, and how many entries there were when it was put aside. All that
-/// is to be done on it is kept as entries, so that it is small.
+/// A way that is still to be followed, and how many entries there were when it was put aside. A greedy
+/// count keeps one for each turn, so it is small.
 #[derive(Clone, Copy)]
 struct Pending {
-    at: Place,
-    next: usize,
-    noted: usize,
+    here: Here,
     later: usize,
     notes: usize,
 }
@@ -62,7 +57,7 @@ const _: () = prove!(size_of::<Pending>() <= 64);
 /// The present way and the pending ones.
 #[derive(Drop)]
 pub(crate) struct Threads<T> {
-    here: Here<T>,
+    here: Here,
     later: Vec<Later<T>>,
     notes: Vec<Noted>,
     pending: Vec<Pending>,
@@ -86,7 +81,6 @@ impl<T: Copy> Threads<T> {
         Threads {
             here: Here {
                 at,
-                first: None,
                 next: 0,
                 noted: 0,
             },
@@ -114,16 +108,11 @@ impl<T: Copy> Threads<T> {
     pub(crate) fn put_first(&mut self, item: T) -> Result<(), Memory>
         ensures { OnOk result (self.new ≡ record self.old { here = record self.old.here { todo = item ∷ self.old.here.todo } }) }
     {
-        let Some(second) = self.here.first else {
-            self.here.first = Some(item);
-            return Ok(());
-        };
         self.later.push(Later {
-            item: second,
+            item,
             next: self.here.next,
         })?;
         self.here.next = self.later.len();
-        self.here.first = Some(item);
         Ok(())
     }
 
@@ -132,10 +121,6 @@ impl<T: Copy> Threads<T> {
         ensures { MatchOption result ((self.old.here.todo ≡ []) × (self.new ≡ self.old))
             (λ item. (self.old.here.todo ≡ item ∷ self.new.here.todo) × (self.new.here.way ≡ self.old.here.way) × (self.new.pending ≡ self.old.pending)) }
     {
-        if let Some(item) = self.here.first {
-            self.here.first = None;
-            return Some(item);
-        }
         if self.here.next == 0 {
             return None;
         }
@@ -152,12 +137,8 @@ impl<T: Copy> Threads<T> {
     pub(crate) fn put_aside(&mut self) -> Result<(), Memory>
         ensures { OnOk result (self.new ≡ record self.old { pending = self.old.here ∷ self.old.pending }) }
     {
-        let here = settle(&mut self.later, self.here)?;
-        self.here = here;
         self.pending.push(Pending {
-            at: here.at,
-            next: here.next,
-            noted: here.noted,
+            here: self.here,
             later: self.later.len(),
             notes: self.notes.len(),
         })?;
@@ -181,12 +162,7 @@ impl<T: Copy> Threads<T> {
         };
         self.later.truncate(next.later);
         self.notes.truncate(next.notes);
-        self.here = Here {
-            at: next.at,
-            first: None,
-            next: next.next,
-            noted: next.noted,
-        };
+        self.here = next.here;
         true
     }
 
@@ -209,9 +185,8 @@ impl<T: Copy> Threads<T> {
         };
         self.later.truncate(next.later);
         self.here = Here {
-            at: place_of(stay, self.here.at, next.at),
-            first: None,
-            next: next.next,
+            at: place_of(stay, self.here.at, next.here.at),
+            next: next.here.next,
             noted: self.here.noted,
         };
         true
@@ -221,7 +196,6 @@ impl<T: Copy> Threads<T> {
     pub(crate) fn drop_all(&mut self)
         ensures { self.new ≡ record self.old { here = record self.old.here { todo = [] } } }
     {
-        self.here.first = None;
         self.here.next = 0;
     }
 
@@ -311,27 +285,6 @@ impl<T: Copy> Threads<T> {
         }
         way
     }
-}
-
-/// The present way with what is to be done first on it among the entries.
-fn settle<T: Copy>(later: &mut Vec<Later<T>>, here: Here<T>) -> Result<Here<T>, Memory>
-    ensures here { IfOk result (λ settled. settled ≡ settled_here later.old.items here) }
-    ensures later { OnOk result (later.new.items ≡ settled_later later.old.items here) }
-    ensures unchanged { OnErr result (later.new.items ≡ later.old.items) }
-{
-    let Some(item) = here.first else {
-        return Ok(here);
-    };
-    later.push(Later {
-        item,
-        next: here.next,
-    })?;
-    Ok(Here {
-        at: here.at,
-        first: None,
-        next: later.len(),
-        noted: here.noted,
-    })
 }
 
 /// How many entries of what is to be done the pending ways may name.

@@ -1,6 +1,6 @@
 use Rattle.std.proofs.Common.{ap, ◌∙◌}
 use Rattle.std.specs.Prelude.{reverse}
-use Rattle.pattern_match.specs.Threads.{Thread, Ways, here_of, thread_of, place_of}
+use Rattle.pattern_match.specs.Threads.{Thread, Ways, thread_of, place_of}
 use Rattle.pattern_match.proofs.ThreadLaws.{gone_on}
 use Rattle.pattern_match.proofs.threads.Threads.go_on_with_pending.Goals as goal
 
@@ -15,10 +15,10 @@ returns-clause-next g c =
     let old = c.self.inside in
     let next = c.in-Some.next in
     let w = c.args.self.now in
-    let there : Thread g.row.T.Denot = thread_of (reverse old.later.items) (reverse old.notes.items) (here_of next) in
+    let there : Thread g.row.T.Denot = thread_of (reverse old.later.items) (reverse old.notes.items) next.here in
     let done = gone_on old.later.items c.truncate.new.self.items old.notes.items old.pending.items c.pop.new.self.items next old.here w c.place_of.result
     c.self.invariant c.self.view_is c.in-Some.ensures.items c.truncate.ensures.items in
-    let at = c.place_of.ensures ∙ ap (λ (v : Ways g.row.T.Denot). place_of c.args.stay v.here.way.at next.at) c.self.view_is in
+    let at = c.place_of.ensures ∙ ap (λ (v : Ways g.row.T.Denot). place_of c.args.stay v.here.way.at next.here.at) c.self.view_is in
     λ up. (
       there,
       done.1,

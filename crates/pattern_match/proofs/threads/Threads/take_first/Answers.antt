@@ -7,16 +7,16 @@ use Rattle.pattern_match.proofs.threads.Threads.take_first.Goals as goal
 pub returns-then-self-eq0 : goal.returns-then-self-eq0
 returns-then-self-eq0 g c =
     let old = c.self.inside in
-    (nothing_left old.later.items old.notes.items old.pending.items old.here c.args.self.now c.self.view_is c.in_default.is c.if-self-eq0.true, refl)
+    (nothing_left old.later.items old.notes.items old.pending.items old.here c.args.self.now c.self.view_is c.if-self-eq0.true, refl)
 
-pub invariant_of-self-2 : goal.invariant_of-self-2
-invariant_of-self-2 g c =
+pub invariant_of-self : goal.invariant_of-self
+invariant_of-self g c =
     let old = c.self.inside in
     let some : 0 < old.here.next = omega arith in
     let kept : c.max-kept.result ≡ max (old.here.next - 1) (entries_named (reverse old.pending.items)) =
     c.max-kept.ensures ∙ ap (max (old.here.next - 1)) (c.entries_named.ensures ∙ ap (λ ps. entries_named (reverse ps)) c.deref.ensures.value) in
     let taken = first_entry_taken old.later.items c.truncate.new.self.items old.notes.items old.pending.items old.here c.args.self.now c.index-entry.result.now c.max-kept.result
-    c.self.invariant c.self.view_is c.in_default.is some c.index-entry.ensures kept c.truncate.ensures.items in
+    c.self.invariant c.self.view_is some c.index-entry.ensures kept c.truncate.ensures.items in
     taken.0
 
 pub returns : goal.returns
@@ -26,5 +26,5 @@ returns g c =
     let kept : c.max-kept.result ≡ max (old.here.next - 1) (entries_named (reverse old.pending.items)) =
     c.max-kept.ensures ∙ ap (max (old.here.next - 1)) (c.entries_named.ensures ∙ ap (λ ps. entries_named (reverse ps)) c.deref.ensures.value) in
     let taken = first_entry_taken old.later.items c.truncate.new.self.items old.notes.items old.pending.items old.here c.args.self.now c.index-entry.result.now c.max-kept.result
-    c.self.invariant c.self.view_is c.in_default.is some c.index-entry.ensures kept c.truncate.ensures.items in
+    c.self.invariant c.self.view_is some c.index-entry.ensures kept c.truncate.ensures.items in
     (taken.1, sym taken.2, sym taken.3)
