@@ -5,6 +5,8 @@ use Rattle.std.specs.Str.{is_utf8, chars}
 use lib.Utf8.{encode}
 use Rattle.syn_base.specs.Outside.{FileMap}
 use Rattle.syn_base.specs.declared.places.GroupId.{GroupId}
+use Rattle.char_class.specs.OptionValue.{set_of}
+use Rattle.char_class.specs.Folds.{is_same, range_holds}
 use Rattle.pattern_items.specs.declared.cause.PatternCause.TheVariants as pattern
 use Rattle.hi_links.specs.FinalGroup.{final_group, followed}
 use Rattle.hi_links.specs.UsualGroups.{usual_groups, with_all_usual}
@@ -86,7 +88,7 @@ unfolding is_utf8 chars encode with_all_usual usual_groups
 first_fault_of_any_kind = refl
 
 bad_option_value : Refused (alone (codes "syn iskeyword z-a")) 1 cause.BadOptionValue
-unfolding is_utf8 chars encode with_all_usual usual_groups
+unfolding is_utf8 chars encode with_all_usual usual_groups set_of
 bad_option_value = refl
 
 replaced_list_is_made : Counts (alone (codes "syn match A /x/ contains=@B contains=@C")) 1 0 2
@@ -157,11 +159,11 @@ unfolding is_utf8 chars encode with_all_usual usual_groups
 a_group_stands_once = refl
 
 a_found_group_stands_once : contained_in (read (alone (codes "syn match A /x/ contains=Number,\\CT[oy].*,Number,Type,todo,\\CNumbe[r]"))) ≡ (codes "Number" ∷ codes "Type" ∷ codes "Typedef" ∷ codes "Todo" ∷ []) ∷ []
-unfolding is_utf8 chars encode with_all_usual usual_groups
+unfolding is_utf8 chars encode with_all_usual usual_groups is_same range_holds
 a_found_group_stands_once = refl
 
 a_pattern_doesnt_find_its_own_group : contained_in (read (alone (codes "syn match Zed /x/ contains=\\CZ.*\nsyn match Zoo /y/ contains=\\CZ.*"))) ≡ [] ∷ (codes "Zed" ∷ []) ∷ []
-unfolding is_utf8 chars encode with_all_usual usual_groups
+unfolding is_utf8 chars encode with_all_usual usual_groups is_same range_holds
 a_pattern_doesnt_find_its_own_group = refl
 
 the_last_list_counts : contained_in (read (alone (codes "syn match A /x/ contains=B contains=C,D"))) ≡ (codes "C" ∷ codes "D" ∷ []) ∷ []
