@@ -1,7 +1,7 @@
 -- What adding an item leaves.
 use Rattle.std.proofs.Common.{◌≡◌, ◌≤◌, ◌<◌, ℕ, List, [], ◌∷◌, ◌++◌, length, refl, ap, sym, subst, ◌∙◌, false, arith}
 use Rattle.std.proofs.lemmas.Bool.Decides.{nat_tests}
-use Rattle.std.specs.Prelude.{Bool, Result, Ok, Err, nat_eq, if◌then◌else◌}
+use Rattle.std.specs.Prelude.{Bool, Result, Ok, Err, IsErrOf, nat_eq, if◌then◌else◌}
 use Rattle.syn_base.specs.declared.places.ItemId.{ItemId}
 use Rattle.keyword_table.specs.declared.table.Definition.{Definition}
 use Rattle.syntax_set.specs.declared.item.Item.{Item}
@@ -15,7 +15,7 @@ use Rattle.syn_reader.specs.declared.refusal.Refusal.TheVariants.{Fault, Memory}
 use Rattle.syn_reader.specs.Answers.{◌>>=◌, Leaves}
 use Rattle.syn_reader.specs.Items.{item_numbered, live_item, with_added, with_definitions, item_added}
 
-pub ok_is_no_err : {A E : Type 0} (x : A) (e : E) → Ok {E = E} x ≡ Err e → ⊥
+pub ok_is_no_err : {A E : Type 0} (x : A) (e : E) → IsErrOf (Ok x) e → ⊥
 ok_is_no_err x e h = cc
 
 pub not_full : (n most : ℕ) → (n ≡ most → ⊥) → nat_eq n most ≡ false

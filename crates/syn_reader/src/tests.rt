@@ -81,6 +81,48 @@ fn names_are_found_by_patterns_and_files_are_included(rt: HostRuntime) -> Result
 }
 
 #[test]
+fn each_kind_of_command_is_carried_out(rt: HostRuntime) -> Result<(), Memory> {
+    let s = "syn iskeyword @,48-57\nsyn iskeyword clear\nsyn case ignore\n\
+        syn match A /a/lc=1,hs=s+1 contains=B,@C,b nextgroup=Comm.* cchar=x excludenl\n\
+        syn region R matchgroup=Q start=/(/ skip=/x/ matchgroup=NONE end=/)/ containedin=ALL\n\
+        syn cluster C contains=A,@D add=Str.* remove=A\n\
+        hi link A Comment\nhi def link R NONE\nhi Q guifg=#010203 gui=bold\n\
+        syn clear R @C Unknown @Unknown\n";
+    assert_eq!(rt; counts(rt.alloc(), s, "")?, Some((1, 0, 2)));
+    let cleared = "syn keyword K a[bc]\nsyn cluster C add=K\nsyn clear\n";
+    assert_eq!(rt; counts(rt.alloc(), cleared, "")?, Some((0, 0, 0)));
+    Ok(())
+}
+
+/// The line and the cause of the refusal of the file `s`.
+fn refusal(alloc: Global, s: &str) -> Result<Option<(usize, Cause)>, Memory> {
+    match read(alloc, s, "")? {
+        Err(ReadError::Refused { line, cause, .. }) => Ok(Some((line, cause))),
+        _ => Ok(None),
+    }
+}
+
+#[test]
+fn a_pattern_of_names_has_a_budget(rt: HostRuntime) -> Result<(), Memory> {
+    let long = "syn match aaaaaaaaaaaaaaaaaaaaaaaaaaaaaaaaaaaaaaaa /x/\n\
+        syn match B /x/ contains=\\(a\\+\\)\\+b\n";
+    assert!(rt; matches!(refusal(rt.alloc(), long)?, Some((2, Cause::CostlyNames))));
+    Ok(())
+}
+
+#[test]
+fn what_the_words_hold_is_refused_by_its_cause(rt: HostRuntime) -> Result<(), Memory> {
+    let alloc = rt.alloc();
+    let brackets = refusal(alloc, "syn keyword K a[b\n")?;
+    assert!(rt; matches!(brackets, Some((1, Cause::BadBrackets))));
+    let value = refusal(alloc, "syn iskeyword z-a\n")?;
+    assert!(rt; matches!(value, Some((1, Cause::BadOptionValue))));
+    let pattern = refusal(alloc, "syn match A contains=a\\) /\\(/\n")?;
+    assert!(rt; matches!(pattern, Some((1, Cause::Pattern { at: 1, .. }))));
+    Ok(())
+}
+
+#[test]
 fn a_refusal_names_file_line_and_cause(rt: HostRuntime) -> Result<(), Memory> {
     let Err(ReadError::Refused { file, line, cause }) = read(
         rt.alloc(),

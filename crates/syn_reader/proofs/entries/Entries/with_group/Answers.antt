@@ -15,7 +15,7 @@ invariant_of-result c =
     let more = old.entries ++ entry.Group c.args.group ∷ [] in
     let entries : c.if-branch.entries ≡ with_entry old.entries (entry.Group c.args.group) =
     elim c.if-branch.branch [
-        then-branch+in_ok-push w ↦ when_new known c.in_ok-insert.field-0 old.entries more c.if-branch.entries new w.if-branch.true (w.entries-is ∙ w.in_ok-push.ensures.ok)
-        | else-branch w ↦ when_known known c.in_ok-insert.field-0 old.entries more c.if-branch.entries new w.if-branch.false w.entries-is
+      | then-branch+in_ok-push w ↦ when_new known c.in_ok-insert.field-0 old.entries more c.if-branch.entries new w.if-branch.true (w.entries-is ∙ w.in_ok-push.ensures.ok)
+      | else-branch w ↦ when_known known c.in_ok-insert.field-0 old.entries more c.if-branch.entries new w.if-branch.false w.entries-is
     ] in
     group_kept old.entries c.if-branch.entries old.groups.keys old.clusters.keys c.insert.new.self.keys c.args.group c.self.invariant c.in_ok-insert.ensures.keys entries

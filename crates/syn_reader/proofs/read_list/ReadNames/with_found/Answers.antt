@@ -16,7 +16,7 @@ invariant_of-result c =
     let more = old.names ++ Found group ∷ [] in
     let names : c.if-branch.names ≡ with_found old.names group =
     elim c.if-branch.branch [
-        then-branch+in_ok-push w ↦ when_new known c.in_ok-insert.field-0 old.names more c.if-branch.names new w.if-branch.true (w.names-is ∙ w.in_ok-push.ensures.ok)
-        | else-branch w ↦ when_known known c.in_ok-insert.field-0 old.names more c.if-branch.names new w.if-branch.false w.names-is
+      | then-branch+in_ok-push w ↦ when_new known c.in_ok-insert.field-0 old.names more c.if-branch.names new w.if-branch.true (w.names-is ∙ w.in_ok-push.ensures.ok)
+      | else-branch w ↦ when_known known c.in_ok-insert.field-0 old.names more c.if-branch.names new w.if-branch.false w.names-is
     ] in
     found_kept old.names c.if-branch.names old.found.keys c.insert.new.self.keys group c.self.invariant c.in_ok-insert.ensures.keys names
