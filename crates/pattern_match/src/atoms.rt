@@ -30,6 +30,7 @@ pub(crate) struct Tried {
 }
 
 /// Tries an atom at the place of the present way.
+#[inline(always)]
 pub(crate) fn try_atom<T: Lines, I: Copy>(
     lines: &T,
     context: &Context,
@@ -71,6 +72,7 @@ pub(crate) fn try_atom<T: Lines, I: Copy>(
 }
 
 /// A line's number, as those that are looked at have it.
+#[inline(always)]
 fn numbered<T: Lines>(lines: &T, line: usize) -> i64
     requires { line ≤ length (T.lines lines.now) }
     ensures { result ≡ pos line }
@@ -80,6 +82,7 @@ fn numbered<T: Lines>(lines: &T, line: usize) -> i64
 }
 
 /// An atom that looked at its own line alone.
+#[inline(always)]
 fn in_line<T: Lines>(lines: &T, at: Place, place: Option<Place>) -> Tried
     requires { IsPlaceOf (T.lines lines.now) at }
     ensures place { result.place ≡ place }

@@ -7,6 +7,7 @@ use char_class::same;
 
 /// Whether `c` and `d` are one character (`/ignorecase`), with a short way for equal and for ASCII
 /// characters.
+#[inline(always)]
 pub(crate) fn is_one(c: char, d: char, ignore: bool) -> bool
     ensures { result ≡ is_same c d ignore }
 {

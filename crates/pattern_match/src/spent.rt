@@ -26,6 +26,7 @@ impl Spent {
     }
 
     /// Counts a tick that looked at these lines.
+    #[inline(always)]
     pub(crate) fn tick(&mut self, looked: Looked)
         requires { self.old.cost < self.old.budget }
         ensures { self.new ≡ spent_on self.old (Tick looked ∷ []) }

@@ -18,6 +18,7 @@ pub(crate) enum Standing {
 }
 
 /// What stands at a place.
+#[inline(always)]
 pub(crate) fn standing_at<T: Lines>(lines: &T, at: Place) -> Standing
     requires { IsPlaceOf (T.lines lines.now) at }
     ensures { Stands (T.lines lines.now) at result }
@@ -41,6 +42,7 @@ pub(crate) fn standing_at<T: Lines>(lines: &T, at: Place) -> Standing
 }
 
 /// The place, if it is one.
+#[inline(always)]
 pub(crate) fn only_if(fits: bool, place: Place) -> Option<Place>
     ensures { result ≡ only_if fits place }
 {
@@ -48,6 +50,7 @@ pub(crate) fn only_if(fits: bool, place: Place) -> Option<Place>
 }
 
 /// The place behind the character `c`, if it stands at a place.
+#[inline(always)]
 pub(crate) fn behind_character<T: Lines>(
     lines: &T,
     at: Place,

@@ -105,6 +105,7 @@ impl<T: Copy> Threads<T> {
     }
 
     /// One more thing to be done first on the present way.
+    #[inline(always)]
     pub(crate) fn put_first(&mut self, item: T) -> Result<(), Memory>
         ensures { OnOk result (self.new ≡ record self.old { here = record self.old.here { todo = item ∷ self.old.here.todo } }) }
     {
@@ -117,6 +118,7 @@ impl<T: Copy> Threads<T> {
     }
 
     /// Takes what is to be done first on the present way.
+    #[inline(always)]
     pub(crate) fn take_first(&mut self) -> Option<T>
         ensures { MatchOption result ((self.old.here.todo ≡ []) × (self.new ≡ self.old))
             (λ item. (self.old.here.todo ≡ item ∷ self.new.here.todo) × (self.new.here.way ≡ self.old.here.way) × (self.new.pending ≡ self.old.pending)) }
@@ -134,6 +136,7 @@ impl<T: Copy> Threads<T> {
     }
 
     /// Puts a copy of the present way aside, as the next pending one.
+    #[inline(always)]
     pub(crate) fn put_aside(&mut self) -> Result<(), Memory>
         ensures { OnOk result (self.new ≡ record self.old { pending = self.old.here ∷ self.old.pending }) }
     {

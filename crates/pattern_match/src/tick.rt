@@ -30,6 +30,7 @@ fn pass<'p>(ways: &mut Threads<Item<'p>>, test: &Test, place: Place) -> Result<(
 }
 
 /// Tries an atom, if the budget allows one more tick. It takes no memory but for notes.
+#[inline(always)]
 pub(crate) fn tick<'p, T: Lines>(
     lines: &T,
     context: &Context<'_>,

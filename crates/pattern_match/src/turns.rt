@@ -55,6 +55,7 @@ fn is_spent(most: Option<u32>) -> bool
 }
 
 /// Puts a copy of the present way aside, on which one more thing is to be done first.
+#[inline(always)]
 pub(crate) fn put_aside_with<'p>(ways: &mut Threads<Item<'p>>, item: Item<'p>) -> Result<(), Memory>
     ensures { OnOk result (ways.new ≡ record ways.old { pending = record ways.old.here { todo = item.entry ∷ ways.old.here.todo } ∷ ways.old.pending }) }
 {
