@@ -1,5 +1,5 @@
 //! The items of a syntax by number.
-ghost use Rattle.std.specs.Prelude.{◌≡◌, ◌<◌, ◌==◌, [], ◌∷◌, ◌++◌, length, map, count_by, slice_get, Some, option_map, IsErrOf, IfOk, OnOk, OnErr, ◌↔◌, true};
+ghost use Rattle.std.specs.Prelude.{◌≡◌, ◌≤◌, ◌<◌, ◌==◌, [], ◌∷◌, ◌++◌, length, map, count_by, slice_get, Some, option_map, IsErrOf, IfOk, OnOk, OnErr, ◌↔◌, true};
 ghost use Rattle.std.specs.Option.{ForSome};
 ghost use Rattle.syntax_set.specs.Allowed.{cleared, is_allowed, is_in_next};
 
@@ -90,7 +90,8 @@ impl ItemSet {
 
     /// How many items were ever added.
     pub fn added(&self) -> usize
-        ensures { result ≡ length self.now }
+        ensures number { result ≡ length self.now }
+        ensures most { result ≤ MOST_ITEMS }
     {
         self.added.len()
     }
