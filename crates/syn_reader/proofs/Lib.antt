@@ -8,3 +8,7 @@ pub mod ListLaws
 pub mod MatchingLaws
 pub mod ClusterLaws
 pub mod ItemLaws
+pub mod CommandRuns
+pub mod SyntaxRuns
+pub mod IncludeLaws
+mod IncludeRows

@@ -4,6 +4,7 @@ use Rattle.std.proofs.lemmas.Bool.Decides.{nat_tests}
 use Rattle.std.specs.Prelude.{Bool, Option, Result, IfSome, nat_eq, if◌then◌else◌}
 use Rattle.syn_base.specs.Causes.{Counted, FileCounts}
 use Rattle.syn_base.specs.Outside.{FileMap}
+use Rattle.syn_base.specs.declared.outside.Fetched.TheVariants.{Failed}
 use Rattle.syn_words.specs.declared.cause.Cause.{Cause}
 use Rattle.syn_reader.specs.declared.includes.Progress.{Progress}
 use Rattle.syn_reader.specs.declared.refusal.Refusal.{Refusal}
@@ -25,14 +26,14 @@ other_number n number less = grind (arith, nat_tests)
 pub failing_agrees : (files : FileMap) (last number : ℕ) → suc last ≤ number → Agrees files last (failing_at number (told_by files))
 failing_agrees files last number later n name within =
     let less : n < number = omega arith in
-    ap (λ b. if b then _ else told_by files n name) (other_number n number less)
+    ap (λ b. if b then Failed else told_by files n name) (other_number n number less)
 
 agrees_before : (files : FileMap) (first last : ℕ) (fetch : Fetching) → first ≤ last → Agrees files last fetch → Agrees files first fetch
 agrees_before files first last fetch less agrees n name within = agrees n name (omega arith)
 
-module _ {A B : Type 0} (files : FileMap) (first : ℕ) (one : Fetching → Answer) (two : Fetching → Progress → Answer) where
+module _ (files : FileMap) (first : ℕ) (one : Fetching → Answer) (two : Fetching → Progress → Answer) where
   -- a run behind one that went well
-  pub then_follows : (mid left : Progress) (x : A) (result : Result B ReadError) → Follows files first one mid (Ok x)
+  pub then_follows : (mid left : Progress) (x : Unit {0}) (result : Result (Unit {0}) ReadError) → Follows files first one mid (Ok x)
       → Follows files (suc mid.includes) (λ fetch. two fetch mid) left result → Follows files first (λ fetch. one fetch >>= two fetch) left result
   then_follows mid left x (Ok y) h k =
       (
@@ -46,29 +47,29 @@ module _ {A B : Type 0} (files : FileMap) (first : ℕ) (one : Fetching → Answ
   then_follows mid left x (Err (error.FileFault file line name)) h k =
       (
         k.0,
-        (let a = h.0 in let b = k.1.0 in omega arith),
-        ap (λ r. r >>= two (failing_at k.0 (told_by files))) (h.1 (failing_at k.0 (told_by files)) (failing_agrees files mid.includes k.0 k.1.0)) ∙ k.1.1,
+        (let a = h.0 in let b = k.1 in omega arith),
+        ap (λ r. r >>= two (failing_at k.0 (told_by files))) (h.1 (failing_at k.0 (told_by files)) (failing_agrees files mid.includes k.0 k.1)) ∙ k.2,
       )
   then_follows mid left x (Err error.Memory) h k = tt
 
   -- a run that ends with an error ends the whole
-  pub ends_follows : (left other : Progress) (e : ReadError) → Follows {A} files first one left (Err e)
-      → Follows {B} files first (λ fetch. one fetch >>= two fetch) other (Err e)
+  pub ends_follows : (left other : Progress) (e : ReadError) → Follows {A = Unit {0}} files first one left (Err e)
+      → Follows {A = Unit {0}} files first (λ fetch. one fetch >>= two fetch) other (Err e)
   ends_follows left other (error.Refused file line c) h = ap (λ r. r >>= two (told_by files)) h
   ends_follows left other (error.Missing file line name) h = ap (λ r. r >>= two (told_by files)) h
-  ends_follows left other (error.FileFault file line name) h = (h.0, h.1.0, ap (λ r. r >>= two (failing_at h.0 (told_by files))) h.1.1)
+  ends_follows left other (error.FileFault file line name) h = (h.0, h.1, ap (λ r. r >>= two (failing_at h.0 (told_by files))) h.2)
   ends_follows left other error.Memory h = tt
 
 -- the same where the files are told
 
-module _ {A B : Type 0} (first : ℕ) (one : Fetching → Answer) (two : Fetching → Progress → Answer) where
-  pub then_reads : (told : Option FileMap) (mid left : Progress) (x : A) (result : Result B ReadError) → Reads told first one mid (Ok x)
+module _ (first : ℕ) (one : Fetching → Answer) (two : Fetching → Progress → Answer) where
+  pub then_reads : (told : Option FileMap) (mid left : Progress) (x : Unit {0}) (result : Result (Unit {0}) ReadError) → Reads told first one mid (Ok x)
       → Reads told (suc mid.includes) (λ fetch. two fetch mid) left result → Reads told first (λ fetch. one fetch >>= two fetch) left result
   then_reads None mid left x result h k = tt
   then_reads (Some files) mid left x result h k = then_follows files first one two mid left x result h k
 
-  pub ends_reads : (told : Option FileMap) (left other : Progress) (e : ReadError) → Reads {A} told first one left (Err e)
-      → Reads {B} told first (λ fetch. one fetch >>= two fetch) other (Err e)
+  pub ends_reads : (told : Option FileMap) (left other : Progress) (e : ReadError) → Reads {A = Unit {0}} told first one left (Err e)
+      → Reads {A = Unit {0}} told first (λ fetch. one fetch >>= two fetch) other (Err e)
   ends_reads None left other e h = tt
   ends_reads (Some files) left other e h = ends_follows files first one two left other e h
 

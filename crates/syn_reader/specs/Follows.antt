@@ -15,28 +15,30 @@ use Rattle.syn_reader.specs.declared.syntax.ReadError.{ReadError}
 use Rattle.syn_reader.specs.declared.syntax.ReadError.TheVariants as error
 use Rattle.syn_reader.specs.SyntaxOf.{Answer, Fetching, told_by, failing_at, syntax_by, syntax_of}
 
--- which answer is the cause of which count
+-- which error is the cause of which count
 
-abbrev pub is_file_fault : {A : Type 0} → Result A ReadError → Bool
-is_file_fault (Err (error.FileFault file line name)) = true
+abbrev pub is_file_fault : ReadError → Bool
+is_file_fault (error.FileFault file line name) = true
 is_file_fault other = false
 
-abbrev pub is_missing : {A : Type 0} → Result A ReadError → Bool
-is_missing (Err (error.Missing file line name)) = true
+abbrev pub is_missing : ReadError → Bool
+is_missing (error.Missing file line name) = true
 is_missing other = false
 
-abbrev pub is_too_long : {A : Type 0} → Result A ReadError → Bool
-is_too_long (Err (error.Refused file line (cause.TooLongFile name))) = true
+abbrev pub is_too_long : ReadError → Bool
+is_too_long (error.Refused file line (cause.TooLongFile name)) = true
 is_too_long other = false
 
-abbrev pub failed : ReadError → Result (Unit {0}) ReadError
-failed e = Err e
+-- whether an error was answered that passes a test
+abbrev pub is_error : {A : Type 0} → (ReadError → Bool) → Result A ReadError → Bool
+is_error test (Ok x) = false
+is_error test (Err e) = test e
 
 -- each count rose where its cause is answered, and else it is as it was
 pub record Counts {A : Type 0} (result : Result A ReadError) (before now : FileCounts) : Type 0 where
-  pub faults : Counted (is_file_fault result) before.faults now.faults
-  pub misses : Counted (is_missing result) before.misses now.misses
-  pub longs : Counted (is_too_long result) before.longs now.longs
+  pub faults : Counted (is_error is_file_fault result) before.faults now.faults
+  pub misses : Counted (is_error is_missing result) before.misses now.misses
+  pub longs : Counted (is_error is_too_long result) before.longs now.longs
 
 -- the answers up to the fetch of this number are those of the files
 abbrev pub Agrees : FileMap → ℕ → Fetching → Type 0
@@ -80,7 +82,7 @@ IsSyntaxOf files name options (Err error.Memory) = Unit {0}
 
 -- an error whose cause is no count of the files
 abbrev pub HasOtherCause : ReadError → Type 0
-HasOtherCause e = (is_file_fault (failed e) ≡ false) × (is_missing (failed e) ≡ false) × (is_too_long (failed e) ≡ false)
+HasOtherCause e = (is_file_fault e ≡ false) × (is_missing e ≡ false) × (is_too_long e ≡ false)
 
 abbrev pub HasOtherCauses : {A : Type 0} → Result A ReadError → Type 0
 HasOtherCauses (Ok x) = Unit {0}

@@ -35,12 +35,12 @@ abbrev pub cluster_begun : Names → Option (List ℕ) → Result Names Cause
 cluster_begun known None = Ok known
 cluster_begun known (Some name) = cluster_made known name >>= λ made. Ok made.1
 
+abbrev pub cluster_named : Progress → Option (List ℕ) → Result Progress Cause
+cluster_named p cluster = cluster_begun p.reading.names cluster >>= λ known. Ok (with_reading p (with_names p.reading known))
+
 -- an include begins: its number is how many there were, itself among them
-abbrev pub include_begun : Progress → Option (List ℕ) → Result Progress Cause
-include_begun p cluster = do
-  known ← cluster_begun p.reading.names cluster
-  more ← counted (with_reading p (with_names p.reading known))
-  Ok (with_reading more (with_include more.reading more.includes))
+abbrev pub include_begun : Progress → Result Progress Cause
+include_begun p = counted p >>= λ more. Ok (with_reading more (with_include more.reading more.includes))
 
 -- a live item of this include that was written without `contained`
 abbrev pub is_open_in : ℕ → AddedItem → Bool

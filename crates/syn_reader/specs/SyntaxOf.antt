@@ -23,7 +23,7 @@ use Rattle.syn_reader.specs.declared.syntax.ReadError.TheVariants as error
 use Rattle.syn_reader.specs.declared.files.TheConstants.{FILE_LIMIT, MOST_OPEN}
 use Rattle.syn_reader.specs.Answers.{◌>>=◌, each}
 use Rattle.syn_reader.specs.UsualSets.{usual_sets}
-use Rattle.syn_reader.specs.Includes.{progress, with_reading, counted, include_begun, include_ended}
+use Rattle.syn_reader.specs.Includes.{progress, with_reading, counted, cluster_named, include_begun, include_ended}
 use Rattle.syn_reader.specs.Commands.{effect}
 
 -- What the outside answers to each fetch: its number, the first file's being 0, and the name in UTF-8 that is asked for.
@@ -33,9 +33,9 @@ Fetching = ℕ → List ℕ → Fetched
 abbrev pub Answer : Type 0
 Answer = Result Progress ReadError
 
--- How a file is read that a command asks for: the asking file, its line, and the name.
+-- How a file is read that a command asks for: the asking file, its line, the cluster of an include, and the name.
 abbrev pub Opening : Type 0
-Opening = List ℕ → ℕ → List ℕ → Progress → Answer
+Opening = List ℕ → ℕ → Option (List ℕ) → List ℕ → Progress → Answer
 
 abbrev pub in_line : {A : Type 0} → List ℕ → ℕ → Result A Cause → Result A ReadError
 in_line file line (Ok x) = Ok x
@@ -45,10 +45,10 @@ in_line file line (Err cause) = Err (error.Refused file line cause)
 abbrev pub path_of : ReadOptions → List ℕ → List ℕ
 path_of options name = encode_utf8_all (options.folder ++ 47 ∷ name)
 
-abbrev pub runtime_command : Opening → ReadOptions → List ℕ → ℕ → Progress → List ℕ → Answer
-runtime_command ask options file line p name = do
+abbrev pub runtime_command : Opening → List ℕ → ℕ → Progress → List ℕ → Answer
+runtime_command ask file line p path = do
   more ← in_line file line (counted p)
-  ask file line (path_of options name) more
+  ask file line None path more
 
 -- the commands that ask for no file
 abbrev pub effect_done : ReadOptions → List ℕ → ℕ → Progress → What → Answer
@@ -58,15 +58,15 @@ abbrev pub end_done : List ℕ → ℕ → ℕ → ℕ → Option (List ℕ) →
 end_done file line number around cluster p = in_line file line (include_ended p.reading number around cluster) >>= λ reading. Ok (with_reading p reading)
 
 -- Nested includes have numbers of their own. Case stays as the file leaves it.
-abbrev pub include_command : Opening → ReadOptions → List ℕ → ℕ → Progress → Option (List ℕ) → List ℕ → Answer
-include_command ask options file line p cluster name = do
-  begun ← in_line file line (include_begun p cluster)
-  read ← ask file line (path_of options name) begun
+abbrev pub include_command : Opening → List ℕ → ℕ → Progress → Option (List ℕ) → List ℕ → Answer
+include_command ask file line p cluster path = do
+  begun ← in_line file line (include_begun p)
+  read ← ask file line cluster path begun
   end_done file line begun.reading.include p.reading.include cluster read
 
 abbrev pub command_done : Opening → ReadOptions → List ℕ → ℕ → Progress → What → Answer
-command_done ask options file line p (what.Runtime name) = runtime_command ask options file line p name
-command_done ask options file line p (what.Include cluster name) = include_command ask options file line p cluster name
+command_done ask options file line p (what.Runtime name) = runtime_command ask file line p (path_of options name)
+command_done ask options file line p (what.Include cluster name) = include_command ask file line p cluster (path_of options name)
 command_done ask options file line p w = effect_done options file line p w
 
 abbrev pub with_command : Opening → ReadOptions → List ℕ → Progress → Command → Answer
@@ -90,13 +90,19 @@ by_fetched ask options file line name p fetched.TooLong = Err (error.Refused fil
 by_fetched ask options file line name p fetched.Failed = Err (error.FileFault file line name)
 by_fetched ask options file line name p fetched.Memory = Err error.Memory
 
+abbrev pub fetched_by : Opening → Fetching → ReadOptions → List ℕ → ℕ → List ℕ → Progress → Answer
+fetched_by inner fetch options file line name p = by_fetched inner options file line (chars name) p (fetch p.includes name)
+
 abbrev pub opened : Opening → Fetching → ReadOptions → Opening
-opened inner fetch options file line name p = by_fetched inner options file line (chars name) p (fetch p.includes name)
+opened inner fetch options file line cluster name p = do
+  named ← in_line file line (cluster_named p cluster)
+  fetched_by inner fetch options file line name named
 
 abbrev pub too_deep : Opening
-too_deep file line name p = Err (error.Refused file line TooDeepIncludes)
+too_deep file line cluster name p = Err (error.Refused file line TooDeepIncludes)
 
--- a file that is asked for where so many files may still be opened, each in the one before
+-- A file that is asked for where so many files may still be opened, each in the one before. All limits of the asking command
+-- come before the fetch: how many includes there were, how deep they are nested, and how many clusters there are.
 abbrev pub asked_within : ℕ → Fetching → ReadOptions → Opening
 asked_within zero fetch options = too_deep
 asked_within (suc room) fetch options = opened (asked_within room fetch options) fetch options
@@ -134,7 +140,7 @@ syntax_when (Err e) = Err e
 
 -- the first file is asked for by its own name
 abbrev pub first_read : Fetching → List ℕ → ReadOptions → Answer
-first_read fetch name options = asked_within MOST_OPEN fetch options (chars name) 0 name (progress nothing_read 0)
+first_read fetch name options = asked_within MOST_OPEN fetch options (chars name) 0 None name (progress nothing_read 0)
 
 abbrev pub syntax_by : Fetching → List ℕ → ReadOptions → Result Syntax ReadError
 syntax_by fetch name options = syntax_when (first_read fetch name options)

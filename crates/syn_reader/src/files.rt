@@ -4,7 +4,7 @@ ghost use Rattle.std.specs.String.{string_bytes};
 ghost use Rattle.syn_words.specs.declared.cause.Cause.TheVariants as cause;
 ghost use Rattle.syn_reader.specs.declared.syntax.ReadError.TheVariants as error;
 ghost use Rattle.syn_reader.specs.Follows.{counts, Counts, Does, HasOtherCause, HasOtherCauses, IsFaultOf, IsInLine, IsOrMemory, Reads};
-ghost use Rattle.syn_reader.specs.Includes.{counted, include_begun};
+ghost use Rattle.syn_reader.specs.Includes.{cluster_named, counted, include_begun};
 ghost use Rattle.syn_reader.specs.SyntaxOf as spec;
 
 use crate::includes::Progress;
@@ -53,7 +53,7 @@ fn path_of(alloc: Global, options: &ReadOptions, name: &[char]) -> Result<String
 
 /// Why a command is refused. That a file is too long is no such cause: it is told where it is fetched.
 fn refused(alloc: Global, asker: Asker<'_>, cause: Cause) -> ReadError
-    ensures told { IsOrMemory result (error.Refused asker.file.now asker.line cause) }
+    ensures told { IsOrMemory result (error.Refused asker.entry.file.now asker.entry.line cause) }
     ensures other { HasOtherCause result }
 {
     if let Cause::TooLongFile { name: _ } = cause {
@@ -69,6 +69,13 @@ fn refused(alloc: Global, asker: Asker<'_>, cause: Cause) -> ReadError
     }
 }
 
+/// A file that is wanted, and the cluster that the groups of an include's items join.
+#[derive(Clone, Copy)]
+pub(crate) struct Wanted<'a> {
+    pub cluster: &'a Option<List<char>>,
+    pub name: &'a str,
+}
+
 /// A file that is asked for. It is made before the fetch, so that what comes of it can be told.
 #[derive(Drop)]
 struct Asked {
@@ -78,7 +85,7 @@ struct Asked {
 }
 
 fn asked_for(alloc: Global, asker: Asker<'_>, name: &str) -> Result<Asked, Memory>
-    ensures { IfOk result (λ asked. asked ≡ record { file = asker.file.now; line = asker.line; name = chars name.now }) }
+    ensures { IfOk result (λ asked. asked ≡ record { file = asker.entry.file.now; line = asker.entry.line; name = chars name.now }) }
 {
     Ok(Asked {
         file: copied(alloc, asker.file)?,
@@ -125,7 +132,7 @@ fn in_line(
     asker: Asker<'_>,
     done: Result<(), Refusal>,
 ) -> Result<(), ReadError>
-    ensures { IsInLine asker.file.now asker.line done result }
+    ensures { IsInLine asker.entry.file.now asker.entry.line done result }
 {
     match done {
         Ok(()) => Ok(()),
@@ -158,7 +165,7 @@ fn do_effect(
     progress: &mut Progress,
     what: What,
 ) -> Result<(), ReadError>
-    ensures answer { Does result progress.new (spec.effect_done options.now asker.file.now asker.line progress.old what) }
+    ensures answer { Does result progress.new (spec.effect_done options.now asker.entry.file.now asker.entry.line progress.old what) }
     ensures causes { HasOtherCauses result }
     ensures includes { progress.new.includes ≡ progress.old.includes }
 {
@@ -175,22 +182,41 @@ pub(crate) fn ask<F: Files>(
     options: &ReadOptions,
     room: usize,
     asker: Asker<'_>,
+    wanted: Wanted<'_>,
+    progress: &mut Progress,
+) -> Result<(), ReadError>
+    ensures kept { F.told files.new ≡ F.told files.old }
+    ensures counts { Counts result (counts (F.faults files.old) (F.misses files.old) (F.longs files.old)) (counts (F.faults files.new) (F.misses files.new) (F.longs files.new)) }
+    ensures answer { Reads (F.told files.old) progress.old.includes (λ fetch. spec.asked_within room fetch options.now asker.entry.file.now asker.entry.line wanted.entry.cluster.now wanted.entry.name.now progress.old) progress.new result }
+{
+    if room == 0 {
+        return Err(refused(alloc, asker, Cause::TooDeepIncludes));
+    }
+    name_cluster(alloc, asker, progress, wanted.cluster)?;
+    read_file(alloc, files, options, room - 1, asker, wanted.name, progress)
+}
+
+/// Fetches a file and carries out its commands.
+#[cycle(files)]
+fn read_file<F: Files>(
+    alloc: Global,
+    files: &mut F,
+    options: &ReadOptions,
+    room: usize,
+    asker: Asker<'_>,
     name: &str,
     progress: &mut Progress,
 ) -> Result<(), ReadError>
     ensures kept { F.told files.new ≡ F.told files.old }
     ensures counts { Counts result (counts (F.faults files.old) (F.misses files.old) (F.longs files.old)) (counts (F.faults files.new) (F.misses files.new) (F.longs files.new)) }
-    ensures answer { Reads (F.told files.old) progress.old.includes (λ fetch. spec.asked_within room fetch options.now asker.file.now asker.line name.now progress.old) progress.new result }
+    ensures answer { Reads (F.told files.old) progress.old.includes (λ fetch. spec.fetched_by (spec.asked_within room fetch options.now) fetch options.now asker.entry.file.now asker.entry.line name.now progress.old) progress.new result }
 {
-    if room == 0 {
-        return Err(refused(alloc, asker, Cause::TooDeepIncludes));
-    }
     let asked = asked_for(alloc, asker, name)?;
     match files.fetch(alloc, name, FILE_LIMIT) {
         Fetched::Whole(bytes) => {
             let found = commands(alloc, bytes.as_slice())?;
             let file = asked.name;
-            carry_out_all(alloc, files, options, room - 1, file.as_slice(), progress, found)
+            carry_out_all(alloc, files, options, room, file.as_slice(), progress, found)
         }
         Fetched::Missing => Err(asked.missing()),
         Fetched::TooLong => Err(asked.too_long()),
@@ -240,11 +266,16 @@ fn carry_out<F: Files>(
     let asker = Asker { file, line };
     match what {
         What::Runtime(name) => {
-            runtime(alloc, files, options, room, asker, progress, name.as_slice())
+            let path = path_of(alloc, options, name.as_slice())?;
+            runtime(alloc, files, options, room, asker, progress, path.as_str())
         }
         What::Include { cluster, name } => {
-            let wanted = Wanted { cluster, name };
-            include(alloc, files, options, room, asker, progress, &wanted)
+            let path = path_of(alloc, options, name.as_slice())?;
+            let wanted = Wanted {
+                cluster: &cluster,
+                name: path.as_str(),
+            };
+            include(alloc, files, options, room, asker, progress, wanted)
         }
         what => do_effect(alloc, options, asker, progress, what),
     }
@@ -259,22 +290,19 @@ fn runtime<F: Files>(
     room: usize,
     asker: Asker<'_>,
     progress: &mut Progress,
-    name: &[char],
+    name: &str,
 ) -> Result<(), ReadError>
     ensures kept { F.told files.new ≡ F.told files.old }
     ensures counts { Counts result (counts (F.faults files.old) (F.misses files.old) (F.longs files.old)) (counts (F.faults files.new) (F.misses files.new) (F.longs files.new)) }
-    ensures answer { Reads (F.told files.old) (suc progress.old.includes) (λ fetch. spec.runtime_command (spec.asked_within room fetch options.now) options.now asker.file.now asker.line progress.old name.now) progress.new result }
+    ensures answer { Reads (F.told files.old) (suc progress.old.includes) (λ fetch. spec.runtime_command (spec.asked_within room fetch options.now) asker.entry.file.now asker.entry.line progress.old name.now) progress.new result }
 {
     count_include(alloc, asker, progress)?;
-    let path = path_of(alloc, options, name)?;
-    ask(alloc, files, options, room, asker, path.as_str(), progress)
-}
-
-/// The file of an include, and the cluster that its groups join.
-#[derive(Drop)]
-struct Wanted {
-    cluster: Option<List<char>>,
-    name: List<char>,
+    let cluster = None;
+    let wanted = Wanted {
+        cluster: &cluster,
+        name,
+    };
+    ask(alloc, files, options, room, asker, wanted, progress)
 }
 
 /// `:syn-include`.
@@ -286,19 +314,18 @@ fn include<F: Files>(
     room: usize,
     asker: Asker<'_>,
     progress: &mut Progress,
-    wanted: &Wanted,
+    wanted: Wanted<'_>,
 ) -> Result<(), ReadError>
     ensures kept { F.told files.new ≡ F.told files.old }
     ensures counts { Counts result (counts (F.faults files.old) (F.misses files.old) (F.longs files.old)) (counts (F.faults files.new) (F.misses files.new) (F.longs files.new)) }
-    ensures answer { Reads (F.told files.old) (suc progress.old.includes) (λ fetch. spec.include_command (spec.asked_within room fetch options.now) options.now asker.file.now asker.line progress.old wanted.now.cluster wanted.now.name) progress.new result }
+    ensures answer { Reads (F.told files.old) (suc progress.old.includes) (λ fetch. spec.include_command (spec.asked_within room fetch options.now) asker.entry.file.now asker.entry.line progress.old wanted.entry.cluster.now wanted.entry.name.now) progress.new result }
 {
     let around = progress.reading.include;
-    begin_include(alloc, asker, progress, &wanted.cluster)?;
+    begin_include(alloc, asker, progress)?;
     let number = progress.reading.include;
-    let path = path_of(alloc, options, wanted.name.as_slice())?;
-    ask(alloc, files, options, room, asker, path.as_str(), progress)?;
+    ask(alloc, files, options, room, asker, wanted, progress)?;
     let numbers = Numbers { number, around };
-    end_include(alloc, asker, progress, numbers, &wanted.cluster)
+    end_include(alloc, asker, progress, numbers, wanted.cluster)
 }
 
 /// The number of an include, and that of the one around it.
@@ -310,7 +337,7 @@ struct Numbers {
 
 /// Counts one include more.
 fn count_include(alloc: Global, asker: Asker<'_>, progress: &mut Progress) -> Result<(), ReadError>
-    ensures answer { Does result progress.new (spec.in_line asker.file.now asker.line (counted progress.old)) }
+    ensures answer { Does result progress.new (spec.in_line asker.entry.file.now asker.entry.line (counted progress.old)) }
     ensures causes { HasOtherCauses result }
     ensures more { OnOk result (progress.new.includes ≡ suc progress.old.includes) }
 {
@@ -319,17 +346,27 @@ fn count_include(alloc: Global, asker: Asker<'_>, progress: &mut Progress) -> Re
 }
 
 /// Begins an include.
-fn begin_include(
+fn begin_include(alloc: Global, asker: Asker<'_>, progress: &mut Progress) -> Result<(), ReadError>
+    ensures answer { Does result progress.new (spec.in_line asker.entry.file.now asker.entry.line (include_begun progress.old)) }
+    ensures causes { HasOtherCauses result }
+    ensures more { OnOk result (progress.new.includes ≡ suc progress.old.includes) }
+{
+    let done = progress.begin_include();
+    in_line(alloc, asker, done)
+}
+
+/// Names the cluster of an include.
+fn name_cluster(
     alloc: Global,
     asker: Asker<'_>,
     progress: &mut Progress,
     cluster: &Option<List<char>>,
 ) -> Result<(), ReadError>
-    ensures answer { Does result progress.new (spec.in_line asker.file.now asker.line (include_begun progress.old cluster.now)) }
+    ensures answer { Does result progress.new (spec.in_line asker.entry.file.now asker.entry.line (cluster_named progress.old cluster.now)) }
     ensures causes { HasOtherCauses result }
-    ensures more { OnOk result (progress.new.includes ≡ suc progress.old.includes) }
+    ensures includes { progress.new.includes ≡ progress.old.includes }
 {
-    let done = progress.begin_include(alloc, cluster);
+    let done = progress.name_cluster(alloc, cluster);
     in_line(alloc, asker, done)
 }
 
@@ -341,7 +378,7 @@ fn end_include(
     numbers: Numbers,
     cluster: &Option<List<char>>,
 ) -> Result<(), ReadError>
-    ensures answer { Does result progress.new (spec.end_done asker.file.now asker.line numbers.number numbers.around cluster.now progress.old) }
+    ensures answer { Does result progress.new (spec.end_done asker.entry.file.now asker.entry.line numbers.number numbers.around cluster.now progress.old) }
     ensures causes { HasOtherCauses result }
     ensures includes { progress.new.includes ≡ progress.old.includes }
 {

@@ -37,7 +37,7 @@ fn open_groups(alloc: Global, items: &ItemSet, number: u32) -> Result<List<Entry
     Ok(entries)
 }
 
-/// Names the cluster of an include.
+/// Makes the cluster of an include, if there is none of its name.
 fn begin_cluster(
     alloc: Global,
     names: &mut Names,
@@ -74,17 +74,24 @@ impl Progress {
     }
 
     /// An include begins.
-    pub(crate) fn begin_include(
+    pub(crate) fn begin_include(&mut self) -> Result<(), Refusal>
+        ensures { Leaves result self.new (spec.include_begun self.old) }
+    {
+        self.count_include()?;
+        self.reading.include = self.includes;
+        Ok(())
+    }
+
+    /// Names the cluster of an include.
+    pub(crate) fn name_cluster(
         &mut self,
         alloc: Global,
         cluster: &Option<List<char>>,
     ) -> Result<(), Refusal>
-        ensures { Leaves result self.new (spec.include_begun self.old cluster.now) }
+        ensures named { Leaves result self.new (spec.cluster_named self.old cluster.now) }
+        ensures includes { self.new.includes ≡ self.old.includes }
     {
-        begin_cluster(alloc, &mut self.reading.names, cluster)?;
-        self.count_include()?;
-        self.reading.include = self.includes;
-        Ok(())
+        begin_cluster(alloc, &mut self.reading.names, cluster)
     }
 }
 

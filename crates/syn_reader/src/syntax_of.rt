@@ -4,7 +4,7 @@ ghost use Rattle.hi_links.specs.UsualGroups.{groups_and_links};
 ghost use Rattle.syn_reader.specs.Follows.{counts, Counts, IsSyntaxOf};
 ghost use Rattle.syn_reader.specs.SyntaxOf as spec;
 
-use crate::files::{Asker, MOST_OPEN, ask, characters_of};
+use crate::files::{Asker, MOST_OPEN, Wanted, ask, characters_of};
 use crate::includes::Progress;
 use crate::names::Names;
 use crate::names_pattern::usual_sets;
@@ -74,6 +74,11 @@ pub fn read_syntax<F: Files>(
         file: own.as_slice(),
         line: 0,
     };
-    ask(alloc, files, options, MOST_OPEN, asker, name, &mut progress)?;
+    let cluster = None;
+    let wanted = Wanted {
+        cluster: &cluster,
+        name,
+    };
+    ask(alloc, files, options, MOST_OPEN, asker, wanted, &mut progress)?;
     Ok(syntax_from(progress.reading))
 }
