@@ -1,15 +1,13 @@
 -- The clusters that lists and commands leave.
 use Rattle.std.proofs.Common.{◌≡◌, ◌≤◌, ◌<◌, ℕ, List, [], ◌∷◌, ◌++◌, length, refl, ap, sym, ◌∙◌, arith, Some, true, false, length-append}
-use Rattle.std.proofs.lemmas.List.{length-set}
 use Rattle.std.proofs.lemmas.List.Quantifiers.{position-Some}
 use Rattle.std.specs.Prelude.{Bool, Result, Ok, Err, is_some, if◌then◌else◌, encode_utf8_all}
 use Rattle.syn_base.specs.declared.places.GroupId.{GroupId}
-use Rattle.syntax_set.specs.declared.clusters.Change.{Change}
 use Rattle.syntax_set.specs.declared.item.Entry.{Entry}
 use Rattle.syntax_set.specs.declared.item.GroupList.{GroupList}
 use Rattle.syntax_set.specs.Groups.{is_same_name, with_group}
 use Rattle.syntax_set.specs.ClusterTable.{ClusterTable, no_list}
-use Rattle.syntax_set.specs.ClusterLists.{cluster_of, with_cluster, with_change, list_at, changed}
+use Rattle.syntax_set.specs.ClusterLists.{cluster_of}
 use Rattle.syn_words.specs.declared.cause.Cause.{Cause}
 use Rattle.syn_words.specs.declared.cause.Cause.TheVariants.{TooManyGroups}
 use Rattle.syn_reader.specs.declared.names.Names.{Names}
@@ -26,14 +24,6 @@ pub named_within : (table : ClusterTable) (name : List ℕ) (n count : ℕ) → 
 named_within table name n count found lists names =
     let place = position-Some (is_same_name name) table.names n [] found in
     let within = place.0 in
-    omega arith
-
--- a change of one list leaves their number
-pub changed_within : (table more : ClusterTable) (cluster n : ℕ) (how : Change) (entries : List Entry) → more ≡ with_change table cluster how entries
-    → n < length table.lists → n < length more.lists
-changed_within table more cluster n how entries e within =
-    let same = ap (λ (t : ClusterTable). length t.lists) e in
-    let kept = length-set table.lists cluster (changed how (list_at table.lists cluster) entries) in
     omega arith
 
 -- No name that is made takes a cluster away.

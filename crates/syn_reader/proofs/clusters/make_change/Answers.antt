@@ -1,4 +1,7 @@
-use Rattle.syn_reader.proofs.ClusterLaws.{changed_within, list_within}
+use Rattle.std.proofs.Common.{length, ap, arith}
+use Rattle.std.proofs.lemmas.List.{length-set}
+use Rattle.syntax_set.specs.ClusterTable.{ClusterTable}
+use Rattle.syn_reader.proofs.ClusterLaws.{list_within}
 use Rattle.syn_reader.proofs.clusters.make_change.Goals as goal
 
 pub cluster_change-requires : goal.cluster_change-requires
@@ -7,6 +10,6 @@ cluster_change-requires c =
 
 pub returns-clause-within : goal.returns-clause-within
 returns-clause-within c =
-    changed_within c.list_made.new.names.clusters c.cluster_change.new.self c.args.cluster c.args.cluster c.args.change.now.how c.in_ok-list.list.entries
-    c.in_ok-cluster_change.ensures.changed
-    (list_within c.args.names.now c.list_made.new.names c.args.change.now.list c.in_ok-list.list c.args.cluster c.in_ok-list.ensures c.requires)
+    let within = list_within c.args.names.now c.list_made.new.names c.args.change.now.list c.in_ok-list.list c.args.cluster c.in_ok-list.ensures c.requires in
+    let same = simp length-set at (ap (λ (table : ClusterTable). length table.lists) c.in_ok-cluster_change.ensures.changed) in
+    omega arith
