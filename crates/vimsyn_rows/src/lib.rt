@@ -3,8 +3,18 @@
 #![tactic(auto)]
 
 #[cfg(test)]
+mod check_causes;
+#[cfg(test)]
+mod check_files;
+#[cfg(test)]
+mod check_limits;
+#[cfg(test)]
 mod outside;
 #[cfg(test)]
 mod rows;
 #[cfg(test)]
 mod session;
+#[cfg(test)]
+mod table;
+#[cfg(test)]
+mod words;

@@ -1,17 +1,13 @@
 //! The worked rows: what a run is given, and what comes of it.
 
 use crate::session::{Case, Outcome, Sinks, outcome_of};
-use std::alloc::{AllocError, Global};
+use crate::table::AMPLE;
+use std::alloc::Global;
 use std::process::Abort;
 use std::test::Fail;
 use vimsyn_cli::Status;
 
 const SPANS: &[&str] = &["spans", "s", "t"];
-
-const AMPLE: Sinks = Sinks {
-    most: 4096,
-    failing: 0,
-};
 
 const NUM: &[u8] = b"syn match Num /12/";
 
@@ -102,22 +98,7 @@ const ENDED: &[(&[&str], &[(&str, &[u8])], &str, Status)] = &[
         "s: not built yet\n",
         Status::Refused,
     ),
-    // Words that aren't in the table.
-    (&["spans", "s"], &[("s", NUM)], USAGE, Status::Usage),
-    (&[], &[], USAGE, Status::Usage),
-    (&["--help"], &[], USAGE, Status::Usage),
-    (&["check", "s"], &[("s", NUM)], USAGE, Status::Usage),
-    (&["spans", "-s", "t"], &[("s", NUM)], USAGE, Status::Usage),
-    (&["spans", "s", ""], &[("s", NUM)], USAGE, Status::Usage),
-    (
-        &["spans", "s", "t", "u"],
-        &[("s", NUM)],
-        USAGE,
-        Status::Usage,
-    ),
 ];
-
-const USAGE: &str = "usage: vimsyn check|spans|html|edit|large [options] names\n";
 
 #[test]
 fn painted_rows_print_their_spans(rt: HostRuntime) -> Result<(), Fail> {
