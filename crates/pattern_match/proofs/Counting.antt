@@ -11,7 +11,7 @@ use Rattle.match_rules.proofs.MarkLaws.{followed-append}
 use Rattle.match_rules.proofs.TurnLaws.{turns-spent, turns-free, turns-forced, after_turn-took, after_turn-empty, after_turn-dropped}
 use Rattle.match_rules.proofs.Kept.{visits-kept}
 use Rattle.pattern_match.specs.declared.item.Item.{Item}
-use Rattle.pattern_match.specs.declared.item.Item.TheVariants.{Visit, Count, Turn, AfterTurn}
+use Rattle.pattern_match.specs.declared.item.Item.TheVariants.{Count, Turn, AfterTurn}
 use Rattle.pattern_match.specs.declared.item.Turns.{Turns}
 use Rattle.pattern_match.specs.declared.item.Next.TheVariants as at_once
 use Rattle.pattern_match.specs.declared.item.Went.{Went}

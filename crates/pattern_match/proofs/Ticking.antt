@@ -1,6 +1,6 @@
 -- A tick, and then a step from there: two parts, and the turns of a count of an atom.
 use Rattle.std.proofs.Common.{◌≡◌, ℕ, ◌+◌, ◌-◌, ◌<◌, ◌≤◌, true, false, List, [], ◌∷◌, ◌++◌, refl, sym, ap, ◌∙◌, arith}
-use Rattle.std.specs.Prelude.{Option, max}
+use Rattle.std.specs.Prelude.{Option}
 use Rattle.std.specs.Borrow.{Bor}
 use Rattle.syn_base.specs.declared.looked.Looked.{Looked}
 use Rattle.syn_base.specs.declared.places.Place.{Place}
@@ -27,7 +27,7 @@ use Rattle.pattern_match.specs.Spending.{spent_on}
 use Rattle.pattern_match.specs.Threads.{Ways}
 use Rattle.pattern_match.specs.Machine.{item_marks, marks_with}
 use Rattle.pattern_match.specs.Heights.{height}
-use Rattle.pattern_match.specs.Search.{Leads, Goes, IsOver, IsStep, marks_first, IsTick}
+use Rattle.pattern_match.specs.Search.{Goes, IsOver, IsStep, marks_first, IsTick}
 use Rattle.pattern_match.proofs.Leading.{silent, leads_do}
 use Rattle.pattern_match.proofs.Counting.{count_spent, count_greedy, turn_dropped}
 use Rattle.pattern_match.proofs.Stepping.{way_behind-kept, behind, over, failed, turn_marks, turn_taken, turn_over}

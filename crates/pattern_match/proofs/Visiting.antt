@@ -22,7 +22,7 @@ use Rattle.match_rules.proofs.MarkLaws.{followed-assoc, AllWays}
 use Rattle.match_rules.proofs.TurnLaws.{IsWayOf}
 use Rattle.match_rules.proofs.Kept.{visits-kept}
 use Rattle.pattern_match.specs.declared.item.Item.{Item}
-use Rattle.pattern_match.specs.declared.item.Item.TheVariants.{Visit, Count, Close, CloseExternal}
+use Rattle.pattern_match.specs.declared.item.Item.TheVariants.{Visit, Close, CloseExternal}
 use Rattle.pattern_match.specs.declared.item.Turns.{Turns}
 use Rattle.pattern_match.specs.declared.item.Next.TheVariants as at_once
 use Rattle.pattern_match.specs.declared.item.Went.{Went}

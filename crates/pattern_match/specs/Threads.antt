@@ -1,6 +1,6 @@
 -- The ways of an attempt: the present one with what is still to be done on it, and the pending ones,
 -- the next first.
-use Rattle.std.specs.Prelude.{ℕ, ◌≤◌, Bool, true, false, List, [], ◌∷◌, ◌++◌, length, map, reverse, All, Option, None, Some, ◌-◌, nat_eq, set, get_or, if◌then◌else◌}
+use Rattle.std.specs.Prelude.{ℕ, ◌≤◌, Bool, true, false, List, [], ◌∷◌, length, map, reverse, All, None, Some, ◌-◌, nat_eq, set, get_or, if◌then◌else◌}
 use Rattle.std.specs.Option.{option_or}
 use Rattle.syn_base.specs.declared.places.Place.{Place}
 use Rattle.match_rules.specs.Ways.{Way, Capture, way_from, place, with_capture}

@@ -2,7 +2,7 @@ use Rattle.std.proofs.Common.{◌≡◌, ◌≢◌, ◌<◌, length, true, false
 use Rattle.std.specs.Prelude.{Some, None}
 use Rattle.std.proofs.lemmas.Result.{IfOk-weaker}
 use Rattle.vim_pattern.specs.Shape.{and}
-use Rattle.match_rules.specs.Ways.{Context as AnyContext, with_capture}
+use Rattle.match_rules.specs.Ways.{Context as AnyContext}
 use Rattle.match_rules.specs.Looks.{ending_at}
 use Rattle.match_rules.specs.Visits.{visits}
 use Rattle.match_rules.specs.Attempt.{answer_from}
@@ -14,7 +14,7 @@ use Rattle.pattern_match.specs.Heights.{height}
 use Rattle.pattern_match.specs.Starts.{starts_left}
 use Rattle.pattern_match.specs.Threads.{Ways}
 use Rattle.pattern_match.specs.Search.{IsSearch, HasEnded, part_marks, wanted_marks, is_wanted, item_of}
-use Rattle.pattern_match.proofs.Leading.{silent, led, leads_on}
+use Rattle.pattern_match.proofs.Leading.{led}
 use Rattle.pattern_match.proofs.Looping.{Running, stepped, at_once_done, taken, passed, one_pending, next_one, started}
 use Rattle.pattern_match.proofs.Stepping.{atom_step}
 use Rattle.pattern_match.proofs.Visiting.{follow_empty, follow_group, follow_external, follow_repeat, look_goes, look_over, part-kept, higher, and_step}

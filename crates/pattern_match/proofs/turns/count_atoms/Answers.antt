@@ -1,4 +1,4 @@
-use Rattle.std.proofs.Common.{rules, ◌≡◌, sym, ◌∙◌, refl, false, true}
+use Rattle.std.proofs.Common.{rules, ◌≡◌, ◌∙◌, refl, false, true}
 use Rattle.match_rules.specs.Ways.{Context as AnyContext, is_after}
 use Rattle.match_rules.specs.Counts.{is_spent}
 use Rattle.pattern_match.specs.Contexts.{context_in}
