@@ -1,7 +1,7 @@
 -- How long the words of a keyword are.
-use Rattle.std.proofs.Common.{◌≡◌, ◌<◌, ◌≤◌, ◌+◌, ℕ, List, [], ◌∷◌, ◌++◌, length, take, arith, ap, ◌∙◌, true, Some, None, length-append}
+use Rattle.std.proofs.Common.{◌≡◌, ◌<◌, ◌+◌, ℕ, List, [], ◌∷◌, ◌++◌, length, take, arith, ap, ◌∙◌, true, Some, None, length-append}
 use Rattle.std.proofs.lemmas.List.{length-take-le}
-use Rattle.std.specs.Prelude.{Bool, Option, option_map, not, ◌&&◌, ◌==◌, if◌then◌else◌}
+use Rattle.std.specs.Prelude.{Option, option_map, not, ◌&&◌, ◌==◌, if◌then◌else◌}
 use Rattle.keyword_table.specs.Abbreviation.{words, closed}
 use Rattle.syn_reader.specs.Abbreviations.{longest}
 

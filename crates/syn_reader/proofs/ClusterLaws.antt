@@ -1,11 +1,10 @@
 -- The clusters that lists and commands leave.
-use Rattle.std.proofs.Common.{◌≡◌, ◌≤◌, ◌<◌, ℕ, List, [], ◌∷◌, ◌++◌, length, refl, ap, sym, ◌∙◌, arith, Some, true, false, length-append}
+use Rattle.std.proofs.Common.{◌≡◌, ◌≤◌, ◌<◌, ℕ, List, [], ◌∷◌, ◌++◌, length, refl, ap, arith, Some, true, false, length-append}
 use Rattle.std.proofs.lemmas.List.Quantifiers.{position-Some}
 use Rattle.std.specs.Prelude.{Bool, Result, Ok, Err, is_some, if◌then◌else◌, encode_utf8_all}
 use Rattle.syn_base.specs.declared.places.GroupId.{GroupId}
-use Rattle.syntax_set.specs.declared.item.Entry.{Entry}
 use Rattle.syntax_set.specs.declared.item.GroupList.{GroupList}
-use Rattle.syntax_set.specs.Groups.{is_same_name, with_group}
+use Rattle.syntax_set.specs.Groups.{is_same_name}
 use Rattle.syntax_set.specs.ClusterTable.{ClusterTable, no_list}
 use Rattle.syntax_set.specs.ClusterLists.{cluster_of}
 use Rattle.syn_words.specs.declared.cause.Cause.{Cause}
@@ -15,7 +14,7 @@ use Rattle.syn_reader.specs.declared.read_list.ReadName.{ReadName}
 use Rattle.syn_reader.specs.declared.read_list.ReadName.TheVariants.{Group, Cluster, Found}
 use Rattle.syn_reader.specs.declared.read_list.ReadList.{ReadList}
 use Rattle.syn_reader.specs.Answers.{◌>>=◌, each}
-use Rattle.syn_reader.specs.Names.{is_full, number_in, with_groups, with_clusters, group_made, cluster_made}
+use Rattle.syn_reader.specs.Names.{is_full, group_made, cluster_made}
 use Rattle.syn_reader.specs.NamedLists.{Entries, with_entry_made, list_made}
 
 -- the cluster of a name is one of those that are there

@@ -1,20 +1,19 @@
 -- Runs of the commands of a file.
-use Rattle.std.proofs.Common.{◌≡◌, ◌≢◌, ◌≤◌, ◌+◌, ℕ, suc, List, [], ◌∷◌, ◌++◌, refl, ap, sym, subst, ◌∙◌, arith, length, Some, None, Ok, Err}
+use Rattle.std.proofs.Common.{◌≡◌, ◌≢◌, ◌+◌, ℕ, suc, List, [], ◌∷◌, ◌++◌, refl, ap, sym, subst, ◌∙◌, arith, length, Some, None, Ok, Err}
 use Rattle.std.proofs.lemmas.List.{append-nil}
 use Rattle.std.specs.Prelude.{Option, Result}
 use Rattle.syn_base.specs.Outside.{FileMap}
 use Rattle.syn_words.specs.declared.what.What.{What}
 use Rattle.syn_words.specs.declared.what.What.TheVariants as what
 use Rattle.syn_words.specs.declared.what.Command.{Command}
-use Rattle.syn_words.specs.declared.what.Commands.{Commands}
 use Rattle.syn_words.specs.declared.what.WordFault.{WordFault}
 use Rattle.syn_reader.specs.declared.includes.Progress.{Progress}
 use Rattle.syn_reader.specs.declared.syntax.ReadOptions.{ReadOptions}
 use Rattle.syn_reader.specs.declared.syntax.ReadError.{ReadError}
 use Rattle.syn_reader.specs.declared.syntax.ReadError.TheVariants as error
 use Rattle.syn_reader.specs.Answers.{◌>>=◌, each}
-use Rattle.syn_reader.specs.SyntaxOf.{Answer, Fetching, Opening, told_by, failing_at, with_command, with_commands, unless_fault, command_done, effect_done}
-use Rattle.syn_reader.specs.Follows.{Agrees, Does, Follows, Reads, IsFaultOf, HasOtherCause, HasOtherCauses}
+use Rattle.syn_reader.specs.SyntaxOf.{Answer, Fetching, Opening, told_by, failing_at, unless_fault, command_done, effect_done}
+use Rattle.syn_reader.specs.Follows.{Does, Follows, Reads, IsFaultOf, HasOtherCauses}
 use Rattle.syn_reader.proofs.Runs.{then_reads, ends_reads, each_push, each_append}
 use Rattle.syn_reader.proofs.Fetches.{error_reads, does_follows}
 

@@ -1,27 +1,23 @@
 -- Runs that begin with a command's own work or with a fetch.
-use Rattle.std.proofs.Common.{◌≡◌, ◌≤◌, ◌<◌, ◌-◌, ℕ, zero, suc, List, [], ◌∷◌, length, refl, ap, sym, subst, ◌∙◌, arith, Some, None, Ok, Err, true, false}
+use Rattle.std.proofs.Common.{◌≡◌, ◌≤◌, ◌<◌, ◌-◌, ℕ, zero, suc, List, length, refl, ap, sym, subst, ◌∙◌, arith, Some, None, Ok, Err, true, false}
 use Rattle.std.proofs.lemmas.Bool.Decides.{nat_tests}
-use Rattle.std.specs.Prelude.{Bool, Option, Result, IfSome, IsSomeAnd, nat_eq, nat_lt, chars, if◌then◌else◌}
+use Rattle.std.specs.Prelude.{Option, Result, nat_lt, chars, if◌then◌else◌}
 use Rattle.syn_base.specs.Causes.{Counted, FileCounts}
-use Rattle.syn_base.specs.Outside.{FileMap, Fetches, file_named}
+use Rattle.syn_base.specs.Outside.{FileMap, Fetches}
 use Rattle.syn_base.specs.declared.outside.Fetched.{Fetched}
 use Rattle.syn_base.specs.declared.outside.Fetched.TheVariants as fetched
-use Rattle.syn_words.specs.declared.cause.Cause.{Cause}
-use Rattle.syn_words.specs.declared.cause.Cause.TheVariants as cause
 use Rattle.syn_words.specs.declared.what.Commands.{Commands}
 use Rattle.syn_words.specs.FileCommands.{commands_of}
 use Rattle.syn_reader.specs.declared.includes.Progress.{Progress}
-use Rattle.syn_reader.specs.declared.refusal.Refusal.{Refusal}
-use Rattle.syn_reader.specs.declared.refusal.Refusal.TheVariants.{Fault, Memory}
 use Rattle.syn_reader.specs.declared.files.TheConstants.{FILE_LIMIT}
 use Rattle.syn_reader.specs.declared.syntax.ReadOptions.{ReadOptions}
 use Rattle.syn_reader.specs.declared.syntax.ReadError.{ReadError}
 use Rattle.syn_reader.specs.declared.syntax.ReadError.TheVariants as error
-use Rattle.syn_reader.specs.Answers.{◌>>=◌, Leaves}
-use Rattle.syn_reader.specs.SyntaxOf.{Answer, Fetching, Opening, told_by, by_bytes, failing_at, in_line, by_fetched, fetched_by, opened, with_commands, asked_within}
-use Rattle.syn_reader.specs.Follows.{Agrees, Follows, Reads, Counts, Does, HasOtherCause, HasOtherCauses, IsInLine, IsOrMemory}
+use Rattle.syn_reader.specs.Answers.{◌>>=◌}
+use Rattle.syn_reader.specs.SyntaxOf.{Answer, Fetching, Opening, told_by, by_bytes, failing_at, in_line, by_fetched, fetched_by, with_commands, asked_within}
+use Rattle.syn_reader.specs.Follows.{Follows, Reads, Counts, Does, HasOtherCause, HasOtherCauses, IsOrMemory}
 use Rattle.syn_reader.specs.Includes.{cluster_named}
-use Rattle.syn_reader.proofs.Runs.{told_agrees, failing_agrees, ends_reads}
+use Rattle.syn_reader.proofs.Runs.{failing_agrees, ends_reads}
 
 -- an error of a command's own work
 pub does_follows : (files : FileMap) (first : ℕ) (rules : Answer) (left other : Progress) (e : ReadError) → Does {A = Unit {0}} (Err e) left rules → HasOtherCause e
@@ -66,19 +62,17 @@ Asked = Fetching → Fetched → Answer
 whole_follows : (files : FileMap) (number : ℕ) (name : List ℕ) (rules : Asked) (found : Fetched) (left : Progress) (result : Result (Unit {0}) ReadError)
     → told_by files number name ≡ found → Follows files (suc number) (λ fetch. rules fetch found) left result
     → Follows files number (λ fetch. rules fetch (fetch number name)) left result
-whole_follows files number name rules found left (Ok x) e h =
-    (
-      (let a = h.0 in omega arith),
-      λ fetch agrees. ap (rules fetch) (agrees number name (let a = h.0 in omega arith) ∙ e) ∙ h.1 fetch agrees,
-    )
+whole_follows files number name rules found left (Ok x) e h = (
+  (let a = h.0 in omega arith),
+  λ fetch agrees. ap (rules fetch) (agrees number name (let a = h.0 in omega arith) ∙ e) ∙ h.1 fetch agrees,
+)
 whole_follows files number name rules found left (Err (error.Refused file line c)) e h = ap (rules (told_by files)) e ∙ h
 whole_follows files number name rules found left (Err (error.Missing file line n)) e h = ap (rules (told_by files)) e ∙ h
-whole_follows files number name rules found left (Err (error.FileFault file line n)) e h =
-    (
-      h.0,
-      (let a = h.1 in omega arith),
-      ap (rules (failing_at h.0 (told_by files))) (failing_agrees files number h.0 h.1 number name (omega arith) ∙ e) ∙ h.2,
-    )
+whole_follows files number name rules found left (Err (error.FileFault file line n)) e h = (
+  h.0,
+  (let a = h.1 in omega arith),
+  ap (rules (failing_at h.0 (told_by files))) (failing_agrees files number h.0 h.1 number name (omega arith) ∙ e) ∙ h.2,
+)
 whole_follows files number name rules found left (Err error.Memory) e h = tt
 
 within : (n limit : ℕ) → n ≤ limit → nat_lt limit n ≡ false

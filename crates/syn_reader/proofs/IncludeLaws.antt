@@ -1,7 +1,7 @@
 -- The open groups of an include, item by item.
 use Rattle.std.proofs.Common.{◌≡◌, ◌<◌, ◌+◌, ℕ, zero, suc, List, cond, [], ◌∷◌, ◌++◌, length, drop, get_or, refl, ap, sym, ◌∙◌, arith, append_assoc, add-one, true, false, Some, None}
 use Rattle.std.proofs.Math.Seq.{drop-cons}
-use Rattle.std.proofs.lemmas.Option.{slice_get_within, get_or_from_slice_get, slice_get-get_or}
+use Rattle.std.proofs.lemmas.Option.{slice_get_within, get_or_from_slice_get}
 use Rattle.std.specs.Prelude.{Bool, Option, not, ◌&&◌, nat_eq, slice_get, map, filter}
 use Rattle.std.specs.Option.{option_map}
 use Rattle.syntax_set.specs.declared.added_item.AddedItem.{AddedItem}

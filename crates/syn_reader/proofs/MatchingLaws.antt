@@ -1,8 +1,8 @@
 -- What one attempt at a name says of the rule for patterns of names.
-use Rattle.std.proofs.Common.{◌≡◌, ◌<◌, ℕ, suc, List, [], ◌∷◌, length, drop, ap, sym, ◌∙◌}
+use Rattle.std.proofs.Common.{◌≡◌, ◌<◌, ℕ, suc, List, [], length, drop, ap, sym, ◌∙◌}
 use Rattle.std.proofs.Math.Seq.{drop-cons}
 use Rattle.std.proofs.lemmas.Option.{unwrap_or-slice_get}
-use Rattle.std.specs.Prelude.{Result, Ok, Err}
+use Rattle.std.specs.Prelude.{Result, Ok}
 use Rattle.syn_base.specs.declared.places.GroupId.{GroupId}
 use Rattle.pattern_items.specs.declared.item.PatternUse.TheVariants.{Names}
 use Rattle.vim_pattern.specs.Tree.{PatternTree}

@@ -1,7 +1,7 @@
 -- What numbering a name says of the rule for names.
 use Rattle.std.proofs.Common.{◌≡◌, ◌≤◌, ◌<◌, ℕ, List, [], ◌∷◌, ◌++◌, length, refl, ap, sym, subst, ◌∙◌, arith, Some, None, true, false, length-append}
 use Rattle.std.proofs.lemmas.Bool.Decides.{nat_tests}
-use Rattle.std.specs.Prelude.{Bool, Option, Result, Ok, Err, not, ◌&&◌, nat_eq, is_some, position, unwrap_or, if◌then◌else◌}
+use Rattle.std.specs.Prelude.{Bool, Option, Ok, Err, not, ◌&&◌, nat_eq, is_some, position, unwrap_or, if◌then◌else◌}
 use Rattle.std.specs.Option.{option_map}
 use Rattle.syn_base.specs.declared.places.GroupId.{GroupId}
 use Rattle.syntax_set.specs.declared.groups.TheConstants.{MOST_GROUPS}
@@ -10,11 +10,8 @@ use Rattle.syntax_set.specs.declared.set_error.SetError.TheVariants as set_error
 use Rattle.syntax_set.specs.ClusterTable.{ClusterTable}
 use Rattle.syntax_set.specs.ClusterLists.{cluster_of, with_cluster}
 use Rattle.syntax_set.specs.Groups.{group_of, group_numbered, is_same_name, with_group, IsRefusedGroup}
-use Rattle.syn_words.specs.declared.cause.Cause.{Cause}
 use Rattle.syn_words.specs.declared.cause.Cause.TheVariants as cause
 use Rattle.syn_reader.specs.declared.names.Names.{Names}
-use Rattle.syn_reader.specs.declared.refusal.Refusal.{Refusal}
-use Rattle.syn_reader.specs.declared.refusal.Refusal.TheVariants.{Fault, Memory}
 use Rattle.syn_reader.specs.Answers.{FailsAs, refusal_of}
 use Rattle.syn_reader.specs.Names.{is_full, number_in, with_groups, with_clusters, group_named, cluster_named}
 

@@ -11,7 +11,6 @@ use Rattle.pattern_items.specs.declared.cause.PatternCause.TheVariants as patter
 use Rattle.hi_links.specs.FinalGroup.{final_group, followed}
 use Rattle.hi_links.specs.UsualGroups.{usual_groups, with_all_usual}
 use Rattle.syntax_set.specs.Groups.{group_of, name_of, group_numbered}
-use Rattle.syntax_set.specs.ClusterTable.{ClusterList}
 use Rattle.syntax_set.specs.declared.item.Entry.{Entry}
 use Rattle.syntax_set.specs.declared.item.Entry.TheVariants as entry
 use Rattle.syntax_set.specs.declared.item.GroupList.{GroupList}

@@ -1,19 +1,15 @@
 -- Runs over files, one after the other.
-use Rattle.std.proofs.Common.{◌≡◌, ◌≤◌, ◌<◌, ℕ, suc, List, [], ◌∷◌, ◌++◌, refl, ap, sym, ◌∙◌, arith, Some, None, Ok, Err, true, false}
+use Rattle.std.proofs.Common.{◌≡◌, ◌≤◌, ◌<◌, ℕ, suc, List, [], ◌∷◌, ◌++◌, refl, ap, ◌∙◌, arith, Some, None, Ok, Err, false}
 use Rattle.std.proofs.lemmas.Bool.Decides.{nat_tests}
-use Rattle.std.specs.Prelude.{Bool, Option, Result, IfSome, nat_eq, if◌then◌else◌}
-use Rattle.syn_base.specs.Causes.{Counted, FileCounts}
+use Rattle.std.specs.Prelude.{Option, Result, nat_eq, if◌then◌else◌}
 use Rattle.syn_base.specs.Outside.{FileMap}
 use Rattle.syn_base.specs.declared.outside.Fetched.TheVariants.{Failed}
-use Rattle.syn_words.specs.declared.cause.Cause.{Cause}
 use Rattle.syn_reader.specs.declared.includes.Progress.{Progress}
-use Rattle.syn_reader.specs.declared.refusal.Refusal.{Refusal}
-use Rattle.syn_reader.specs.declared.refusal.Refusal.TheVariants.{Fault, Memory}
 use Rattle.syn_reader.specs.declared.syntax.ReadError.{ReadError}
 use Rattle.syn_reader.specs.declared.syntax.ReadError.TheVariants as error
 use Rattle.syn_reader.specs.Answers.{◌>>=◌, each}
 use Rattle.syn_reader.specs.SyntaxOf.{Answer, Fetching, told_by, failing_at}
-use Rattle.syn_reader.specs.Follows.{Agrees, Follows, Reads, Counts, HasOtherCause, IsOrMemory}
+use Rattle.syn_reader.specs.Follows.{Agrees, Follows, Reads}
 
 -- the answers of the files agree with themselves
 pub told_agrees : (files : FileMap) (last : ℕ) → Agrees files last (told_by files)
@@ -35,21 +31,19 @@ module _ (files : FileMap) (first : ℕ) (one : Fetching → Answer) (two : Fetc
   -- a run behind one that went well
   pub then_follows : (mid left : Progress) (x : Unit {0}) (result : Result (Unit {0}) ReadError) → Follows files first one mid (Ok x)
       → Follows files (suc mid.includes) (λ fetch. two fetch mid) left result → Follows files first (λ fetch. one fetch >>= two fetch) left result
-  then_follows mid left x (Ok y) h k =
-      (
-        (let a = h.0 in let b = k.0 in omega arith),
-        λ fetch agrees.
-          ap (λ r. r >>= two fetch) (h.1 fetch (agrees_before files mid.includes left.includes fetch (let b = k.0 in omega arith) agrees))
-          ∙ k.1 fetch agrees,
-      )
+  then_follows mid left x (Ok y) h k = (
+    (let a = h.0 in let b = k.0 in omega arith),
+    λ fetch agrees.
+        ap (λ r. r >>= two fetch) (h.1 fetch (agrees_before files mid.includes left.includes fetch (let b = k.0 in omega arith) agrees))
+        ∙ k.1 fetch agrees,
+  )
   then_follows mid left x (Err (error.Refused file line c)) h k = ap (λ r. r >>= two (told_by files)) (h.1 (told_by files) (told_agrees files mid.includes)) ∙ k
   then_follows mid left x (Err (error.Missing file line name)) h k = ap (λ r. r >>= two (told_by files)) (h.1 (told_by files) (told_agrees files mid.includes)) ∙ k
-  then_follows mid left x (Err (error.FileFault file line name)) h k =
-      (
-        k.0,
-        (let a = h.0 in let b = k.1 in omega arith),
-        ap (λ r. r >>= two (failing_at k.0 (told_by files))) (h.1 (failing_at k.0 (told_by files)) (failing_agrees files mid.includes k.0 k.1)) ∙ k.2,
-      )
+  then_follows mid left x (Err (error.FileFault file line name)) h k = (
+    k.0,
+    (let a = h.0 in let b = k.1 in omega arith),
+    ap (λ r. r >>= two (failing_at k.0 (told_by files))) (h.1 (failing_at k.0 (told_by files)) (failing_agrees files mid.includes k.0 k.1)) ∙ k.2,
+  )
   then_follows mid left x (Err error.Memory) h k = tt
 
   -- a run that ends with an error ends the whole

@@ -1,5 +1,5 @@
 -- The syntax of a run over all files.
-use Rattle.std.proofs.Common.{◌≡◌, ℕ, List, refl, ap, sym, subst, ◌∙◌, Some, None, Ok, Err}
+use Rattle.std.proofs.Common.{◌≡◌, ℕ, List, ap, sym, subst, ◌∙◌, Some, None, Ok, Err}
 use Rattle.std.specs.Prelude.{Option, Result, IfSome, chars}
 use Rattle.syn_base.specs.Causes.{FileCounts}
 use Rattle.syn_base.specs.Outside.{FileMap}
@@ -11,8 +11,8 @@ use Rattle.syn_reader.specs.declared.syntax.ReadError.{ReadError}
 use Rattle.syn_reader.specs.declared.syntax.ReadError.TheVariants as error
 use Rattle.syn_reader.specs.declared.syntax.Syntax.{Syntax}
 use Rattle.syn_reader.specs.Includes.{progress}
-use Rattle.syn_reader.specs.SyntaxOf.{Answer, Fetching, told_by, asked_within, first_read, nothing_read, syntax_when, syntax_from}
-use Rattle.syn_reader.specs.Follows.{Counts, Follows, Reads, IsSyntaxOf}
+use Rattle.syn_reader.specs.SyntaxOf.{told_by, asked_within, first_read, nothing_read, syntax_when, syntax_from}
+use Rattle.syn_reader.specs.Follows.{Counts, Reads, IsSyntaxOf}
 use Rattle.syn_reader.proofs.Runs.{told_agrees}
 
 -- the counts of an error, whatever else was asked for

@@ -1,7 +1,7 @@
 -- The tree that the grammar gives a text is the one that reading gives it.
-use Rattle.std.proofs.Common.{◌≡◌, ◌≤◌, ◌<◌, ℕ, List, length, refl, ap, sym, subst, ◌∙◌, arith, ◌⊎◌, inl, inr, true, false}
+use Rattle.std.proofs.Common.{◌≡◌, ◌≤◌, ◌<◌, ℕ, List, length, ap, sym, ◌∙◌, arith, inl, inr, true, false}
 use Rattle.std.proofs.lemmas.Bool.Decides.{nat_tests}
-use Rattle.std.specs.Prelude.{Bool, Result, Ok, Err, IfOk, IfErr, nat_lt, if◌then◌else◌}
+use Rattle.std.specs.Prelude.{Result, Ok, Err, nat_lt, if◌then◌else◌}
 use Rattle.pattern_items.specs.declared.cause.PatternCause.{PatternCause}
 use Rattle.pattern_items.specs.declared.cause.PatternCause.TheVariants.{TooLong}
 use Rattle.pattern_items.specs.declared.item.PatternUse.{PatternUse}

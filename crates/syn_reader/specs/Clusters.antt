@@ -1,5 +1,5 @@
 -- Clusters (Vim's help, :syn-cluster), and what is cleared (:syn-clear).
-use Rattle.std.specs.Prelude.{ℕ, false, List, [], ◌∷◌, ◌++◌, map, fold, position, Option, Some, None, Result, Ok, Err, encode_utf8_all}
+use Rattle.std.specs.Prelude.{ℕ, false, List, [], ◌∷◌, ◌++◌, map, fold, Option, Some, None, Result, Ok, encode_utf8_all}
 use Rattle.syn_base.specs.declared.places.GroupId.{GroupId}
 use Rattle.syntax_set.specs.declared.clusters.Change.{Change}
 use Rattle.syntax_set.specs.declared.clusters.Change.TheVariants.{Set}

@@ -3,7 +3,6 @@
 use Rattle.std.specs.Prelude.{◌≡◌, ◌≤◌, ℕ, suc, Bool, true, false, List, Option, None, Some, IfSome, Result, Ok, Err}
 use Rattle.syn_base.specs.Causes.{Counted, FileCounts}
 use Rattle.syn_base.specs.Outside.{FileMap}
-use Rattle.syn_words.specs.declared.cause.Cause.{Cause}
 use Rattle.syn_words.specs.declared.cause.Cause.TheVariants as cause
 use Rattle.syn_words.specs.declared.what.WordFault.{WordFault}
 use Rattle.syn_reader.specs.declared.refusal.Refusal.{Refusal}

@@ -1,5 +1,5 @@
 -- Links and styles (Vim's help, :hi-link and :highlight-args).
-use Rattle.std.specs.Prelude.{ℕ, Bool, List, fold, Option, Some, None, Result, Ok, Err}
+use Rattle.std.specs.Prelude.{ℕ, Bool, List, fold, Option, Some, None, Result, Ok}
 use Rattle.syn_base.specs.declared.places.GroupId.{GroupId}
 use Rattle.hi_links.specs.declared.highlight.Highlight.{Highlight}
 use Rattle.hi_links.specs.declared.highlight.Style.{Style}

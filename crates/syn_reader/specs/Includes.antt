@@ -1,6 +1,6 @@
 -- Includes (Vim's help, :syn-include): the items of each have a number of their own, and in the end the groups of those that
 -- were written without `contained` join the include's cluster.
-use Rattle.std.specs.Prelude.{ℕ, ◌+◌, nat_eq, nat_lt, not, ◌&&◌, Bool, false, List, [], ◌∷◌, ◌++◌, map, filter, Option, Some, None, if◌then◌else◌, Result, Ok, Err}
+use Rattle.std.specs.Prelude.{ℕ, ◌+◌, nat_eq, nat_lt, not, ◌&&◌, Bool, false, List, map, filter, Option, Some, None, if◌then◌else◌, Result, Ok, Err}
 use Rattle.syntax_set.specs.declared.added_item.AddedItem.{AddedItem}
 use Rattle.syntax_set.specs.declared.clusters.Change.TheVariants.{Add}
 use Rattle.syntax_set.specs.declared.item.Entry.{Entry}

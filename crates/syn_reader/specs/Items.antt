@@ -1,5 +1,5 @@
 -- Items (Vim's help, :syn-keyword, :syn-match, :syn-region): the pieces of a command are put together in the order written.
-use Rattle.std.specs.Prelude.{ℕ, nat_eq, nat_lt, ◌||◌, Bool, true, false, List, [], ◌∷◌, ◌++◌, length, map, Option, Some, None, if◌then◌else◌, Result, Ok, Err}
+use Rattle.std.specs.Prelude.{ℕ, nat_eq, nat_lt, Bool, true, false, List, [], ◌∷◌, ◌++◌, length, Option, Some, None, if◌then◌else◌, Result, Ok, Err}
 use Rattle.syn_base.specs.declared.places.GroupId.{GroupId}
 use Rattle.syn_base.specs.declared.places.ItemId.{ItemId}
 use Rattle.syntax_set.specs.declared.item.Item.{Item}
@@ -32,7 +32,7 @@ use Rattle.syn_reader.specs.declared.reading.Reading.{Reading}
 use Rattle.syn_reader.specs.Answers.{◌>>=◌, each}
 use Rattle.syn_reader.specs.Names.{group_made}
 use Rattle.syn_reader.specs.NamedLists.{list_made}
-use Rattle.syn_reader.specs.Contents.{Contents, contents_of}
+use Rattle.syn_reader.specs.Contents.{contents_of}
 
 -- an item of which nothing is said yet but its group, the case and the include that hold
 abbrev pub new_item : GroupId → Bool → ℕ → Item

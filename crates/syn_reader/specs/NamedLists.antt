@@ -1,6 +1,6 @@
 -- Lists of groups (Vim's help, :syn-contains). First each pattern of names is read: it stands for groups that were named
 -- before the command. Only then the list's new names are made. A list has each group and each cluster once, at its first place.
-use Rattle.std.specs.Prelude.{ℕ, Bool, List, [], ◌∷◌, ◌++◌, fold, if◌then◌else◌, Result, Ok, Err}
+use Rattle.std.specs.Prelude.{ℕ, Bool, List, [], ◌∷◌, ◌++◌, fold, if◌then◌else◌, Result, Ok}
 use Rattle.syn_base.specs.declared.places.GroupId.{GroupId}
 use Rattle.syntax_set.specs.Numbers.{has_number}
 use Rattle.syntax_set.specs.declared.item.Entry.{Entry}

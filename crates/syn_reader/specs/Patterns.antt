@@ -1,7 +1,6 @@
 -- The patterns of items (Vim's help, :syn-pattern), each with its tree, or with the fault of its text.
 use Rattle.std.specs.Prelude.{ℕ, nat_eq, nat_lt, min, List, [], ◌∷◌, ◌++◌, length, count_by, Option, Some, None, false, if◌then◌else◌, Result, Ok, Err, pos}
 use Rattle.std.specs.List.{list_any}
-use Rattle.syn_base.specs.declared.places.PatternId.{PatternId}
 use Rattle.pattern_items.specs.declared.item.PatternUse.{PatternUse}
 use Rattle.pattern_items.specs.declared.item.PatternUse.TheVariants as usage
 use Rattle.pattern_items.specs.declared.cause.PatternCause.TheVariants.{TooLong}

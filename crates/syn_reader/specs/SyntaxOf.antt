@@ -1,6 +1,6 @@
 -- The syntax of files: the commands of the first file are carried out one after the other, and those of a file that a command
 -- asks for in that command's place. The first command that is refused, or that asks for a file that can't be had, ends it.
-use Rattle.std.specs.Prelude.{ℕ, zero, suc, nat_eq, nat_lt, Bool, false, List, [], ◌∷◌, ◌++◌, length, codes, chars, encode_utf8_all, Option, Some, None, if◌then◌else◌, Result, Ok, Err}
+use Rattle.std.specs.Prelude.{ℕ, zero, suc, nat_eq, nat_lt, false, List, [], ◌∷◌, ◌++◌, length, chars, encode_utf8_all, Option, Some, None, if◌then◌else◌, Result, Ok, Err}
 use Rattle.syn_base.specs.declared.outside.Fetched.{Fetched}
 use Rattle.syn_base.specs.declared.outside.Fetched.TheVariants as fetched
 use Rattle.syn_base.specs.Outside.{FileMap, file_named}

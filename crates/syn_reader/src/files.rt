@@ -127,11 +127,7 @@ impl Asked {
 }
 
 /// What carrying out a command answers, told with its file and line.
-fn in_line(
-    alloc: Global,
-    asker: Asker<'_>,
-    done: Result<(), Refusal>,
-) -> Result<(), ReadError>
+fn in_line(alloc: Global, asker: Asker<'_>, done: Result<(), Refusal>) -> Result<(), ReadError>
     ensures { IsInLine asker.entry.file.now asker.entry.line done result }
 {
     match done {
@@ -193,7 +189,15 @@ pub(crate) fn ask<F: Files>(
         return Err(refused(alloc, asker, Cause::TooDeepIncludes));
     }
     name_cluster(alloc, asker, progress, wanted.cluster)?;
-    read_file(alloc, files, options, room - 1, asker, wanted.name, progress)
+    read_file(
+        alloc,
+        files,
+        options,
+        room - 1,
+        asker,
+        wanted.name,
+        progress,
+    )
 }
 
 /// Fetches a file and carries out its commands.
@@ -216,7 +220,15 @@ fn read_file<F: Files>(
         Fetched::Whole(bytes) => {
             let found = commands(alloc, bytes.as_slice())?;
             let file = asked.name;
-            carry_out_all(alloc, files, options, room, file.as_slice(), progress, found)
+            carry_out_all(
+                alloc,
+                files,
+                options,
+                room,
+                file.as_slice(),
+                progress,
+                found,
+            )
         }
         Fetched::Missing => Err(asked.missing()),
         Fetched::TooLong => Err(asked.too_long()),

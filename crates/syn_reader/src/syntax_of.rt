@@ -79,6 +79,14 @@ pub fn read_syntax<F: Files>(
         cluster: &cluster,
         name,
     };
-    ask(alloc, files, options, MOST_OPEN, asker, wanted, &mut progress)?;
+    ask(
+        alloc,
+        files,
+        options,
+        MOST_OPEN,
+        asker,
+        wanted,
+        &mut progress,
+    )?;
     Ok(syntax_from(progress.reading))
 }

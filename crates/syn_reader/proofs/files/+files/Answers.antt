@@ -1,16 +1,12 @@
-use Rattle.std.proofs.Common.{◌≡◌, suc, ℕ, List, [], ◌∷◌, ◌++◌, arith, refl, sym, ap, subst, ◌∙◌, append_assoc, Ok, Err}
-use Rattle.std.specs.Prelude.{Result, chars}
+use Rattle.std.proofs.Common.{◌≡◌, suc, [], ◌∷◌, ◌++◌, arith, sym, ap, subst, ◌∙◌, append_assoc, Ok, Err}
 use Rattle.std.proofs.lemmas.Result.{err_from_is_err_and}
 use Rattle.std.specs.Vec.Iter.{into_iter_items, into_iter_len}
 use Rattle.syn_words.specs.FileCommands.{commands_of}
 use Rattle.syn_reader.specs.declared.files.Asked.{Asked}
-use Rattle.syn_reader.specs.declared.includes.Progress.{Progress}
-use Rattle.syn_reader.specs.declared.syntax.ReadError.{ReadError}
-use Rattle.syn_reader.specs.Answers.{each}
-use Rattle.syn_reader.specs.Follows.{counts, Counts, Reads, IsFaultOf}
+use Rattle.syn_reader.specs.Follows.{counts, Reads, IsFaultOf}
 use Rattle.syn_reader.specs.SyntaxOf as spec
 use Rattle.syn_reader.specs.SyntaxOf.{Fetching}
-use Rattle.syn_reader.proofs.Fetches.{unnamed_reads, named_reads, whole_reads, does_reads, does_counts}
+use Rattle.syn_reader.proofs.Fetches.{unnamed_reads, named_reads, whole_reads, does_counts}
 use Rattle.syn_reader.proofs.CommandRuns.{more_reads, ends_in_reads, all_reads, all_ran, one_fewer, plain_reads}
 use Rattle.syn_reader.proofs.files.+files.Goals as goal
 
@@ -30,23 +26,23 @@ ask-returns-clause-answer g t c =
 pub carry_out-returns-in_ok-path-in-Runtime-clause-answer : goal.carry_out-returns-in_ok-path-in-Runtime-clause-answer
 carry_out-returns-in_ok-path-in-Runtime-clause-answer g t c =
     let e : c.as_str.result.now ≡ spec.path_of c.args.options.now c.in-Runtime.name =
-      c.as_str.ensures.value ∙ c.in_ok-path-in-Runtime.ensures ∙ ap (spec.path_of c.args.options.now) c.as_slice.ensures in
+    c.as_str.ensures.value ∙ c.in_ok-path-in-Runtime.ensures ∙ ap (spec.path_of c.args.options.now) c.as_slice.ensures in
     subst (λ w. Reads (g.F.Files.told c.args.files.now) (suc c.args.progress.now.includes)
-      (λ fetch. spec.command_done (spec.asked_within c.args.room fetch c.args.options.now) c.args.options.now c.args.file.now c.args.command.line c.args.progress.now w) c.runtime.new.progress c.runtime.result)
+    (λ fetch. spec.command_done (spec.asked_within c.args.room fetch c.args.options.now) c.args.options.now c.args.file.now c.args.command.line c.args.progress.now w) c.runtime.new.progress c.runtime.result)
     (sym c.in-Runtime.is)
     (subst (λ path. Reads (g.F.Files.told c.args.files.now) (suc c.args.progress.now.includes)
-      (λ fetch. spec.runtime_command (spec.asked_within c.args.room fetch c.args.options.now) c.args.file.now c.args.command.line c.args.progress.now path) c.runtime.new.progress c.runtime.result)
+    (λ fetch. spec.runtime_command (spec.asked_within c.args.room fetch c.args.options.now) c.args.file.now c.args.command.line c.args.progress.now path) c.runtime.new.progress c.runtime.result)
     e c.runtime.ensures.answer)
 
 pub carry_out-returns-in_ok-path-in-Include-clause-answer : goal.carry_out-returns-in_ok-path-in-Include-clause-answer
 carry_out-returns-in_ok-path-in-Include-clause-answer g t c =
     let e : c.as_str-in-Include.result.now ≡ spec.path_of c.args.options.now c.in-Include.name =
-      c.as_str-in-Include.ensures.value ∙ c.in_ok-path-in-Include.ensures ∙ ap (spec.path_of c.args.options.now) c.as_slice-in-Include.ensures in
+    c.as_str-in-Include.ensures.value ∙ c.in_ok-path-in-Include.ensures ∙ ap (spec.path_of c.args.options.now) c.as_slice-in-Include.ensures in
     subst (λ w. Reads (g.F.Files.told c.args.files.now) (suc c.args.progress.now.includes)
-      (λ fetch. spec.command_done (spec.asked_within c.args.room fetch c.args.options.now) c.args.options.now c.args.file.now c.args.command.line c.args.progress.now w) c.include.new.progress c.include.result)
+    (λ fetch. spec.command_done (spec.asked_within c.args.room fetch c.args.options.now) c.args.options.now c.args.file.now c.args.command.line c.args.progress.now w) c.include.new.progress c.include.result)
     (sym c.in-Include.is)
     (subst (λ path. Reads (g.F.Files.told c.args.files.now) (suc c.args.progress.now.includes)
-      (λ fetch. spec.include_command (spec.asked_within c.args.room fetch c.args.options.now) c.args.file.now c.args.command.line c.args.progress.now c.in-Include.cluster path) c.include.new.progress c.include.result)
+    (λ fetch. spec.include_command (spec.asked_within c.args.room fetch c.args.options.now) c.args.file.now c.args.command.line c.args.progress.now c.in-Include.cluster path) c.include.new.progress c.include.result)
     e c.include.ensures.answer)
 
 pub carry_out-returns-in_default-clause-counts : goal.carry_out-returns-in_default-clause-counts
@@ -63,7 +59,7 @@ carry_out_all-loop-command-preserved g t c =
     let step = λ (fetch : Fetching). spec.with_command (spec.asked_within c.args.room fetch c.args.options.now) c.args.options.now c.args.file.now in
     let steps = c.in-Some.ensures.steps in
     let next : Reads told (suc c.loop-command.progress.includes) (λ fetch. step fetch c.loop-command.progress c.in-Some.command) c.carry_out.new.progress (Ok (tt {0})) =
-      subst (λ files. Reads files (suc c.loop-command.progress.includes) (λ fetch. step fetch c.loop-command.progress c.in-Some.command) c.carry_out.new.progress (Ok (tt {0}))) c.loop-command.invariant.told c.in_ok-carry_out.ensures.answer in
+    subst (λ files. Reads files (suc c.loop-command.progress.includes) (λ fetch. step fetch c.loop-command.progress c.in-Some.command) c.carry_out.new.progress (Ok (tt {0}))) c.loop-command.invariant.told c.in_ok-carry_out.ensures.answer in
     record {
       told = c.in_ok-carry_out.ensures.kept ∙ c.loop-command.invariant.told;
       faults = c.in_ok-carry_out.ensures.counts.faults ∙ c.loop-command.invariant.faults;

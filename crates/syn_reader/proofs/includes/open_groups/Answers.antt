@@ -1,4 +1,4 @@
-use Rattle.std.proofs.Common.{◌≡◌, refl, sym, ap, ◌∙◌, arith}
+use Rattle.std.proofs.Common.{sym, ◌∙◌, arith}
 use Rattle.syn_reader.proofs.IncludeLaws.{open_further, closed_further}
 use Rattle.syn_reader.proofs.includes.open_groups.Goals as goal
 use Rattle.syn_reader.proofs.includes.open_groups.Goals.{then-is_open_in+in_ok-push, else-is_open_in}

@@ -1,4 +1,4 @@
-use Rattle.std.proofs.Common.{◌≡◌, sym, subst, ◌∙◌, Ok, Err}
+use Rattle.std.proofs.Common.{sym, subst, ◌∙◌, Err}
 use Rattle.std.specs.Prelude.{IfSome}
 use Rattle.std.proofs.lemmas.Result.{err_from_is_err_and}
 use Rattle.syn_reader.specs.declared.syntax.ReadError.{ReadError}

@@ -1,4 +1,4 @@
-use Rattle.std.proofs.Common.{◌≡◌, ◌++◌}
+use Rattle.std.proofs.Common.{◌≡◌}
 use Rattle.std.specs.Vec.Iter.{into_iter_items}
 use Rattle.syn_reader.specs.Items.{with_words}
 use Rattle.syn_reader.proofs.draft.Draft.push_words.Given as goal
