@@ -1,3 +1,4 @@
+pub mod LastPartLaws
 pub mod EntryLaws
 pub mod ThreadLaws
 pub mod Leading

@@ -1,5 +1,6 @@
 pub mod Contexts
 pub mod Steps
+pub mod LastParts
 pub mod Entries
 pub mod Threads
 pub mod Machine
