@@ -40,18 +40,21 @@ fn nothing_read(alloc: Global) -> Result<Reading, Memory>
     })
 }
 
-fn syntax_from(reading: Reading) -> Syntax
-    ensures { result ≡ spec.syntax_from reading }
+/// The syntax of all that was read, with its clusters settled.
+fn syntax_from(reading: Reading) -> Result<Syntax, Memory>
+    ensures { IfOk result (λ syntax. syntax ≡ spec.syntax_from reading) }
 {
-    Syntax {
+    let mut clusters = reading.names.clusters;
+    clusters.settle()?;
+    Ok(Syntax {
         items: reading.items,
-        clusters: reading.names.clusters,
+        clusters,
         groups: reading.names.groups,
         programs: reading.patterns.into_programs(),
         keywords: reading.keywords,
         links: reading.links,
         sets: reading.sets,
-    }
+    })
 }
 
 /// The syntax of a file and of the files that it asks for (`:syntax`, `:syn-include`).
@@ -88,5 +91,5 @@ pub fn read_syntax<F: Files>(
         wanted,
         &mut progress,
     )?;
-    Ok(syntax_from(progress.reading))
+    Ok(syntax_from(progress.reading)?)
 }

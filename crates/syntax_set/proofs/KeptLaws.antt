@@ -1,9 +1,7 @@
 -- What is kept of clusters, and what it tells.
-use Rattle.std.proofs.Common.{◌≡◌, ℕ, zero, suc, ◌+◌, ◌<◌, ◌≤◌, false, ◌||◌, List, [], ◌∷◌, ◌++◌, length, get_or, refl, sym, ◌∙◌, ap, subst, inl, inr, ◌⊎◌, arith, length-append, cond, Option, Some, None, position, is_some}
+use Rattle.std.proofs.Common.{◌≡◌, ℕ, zero, suc, ◌+◌, ◌<◌, ◌≤◌, false, ◌||◌, List, [], ◌∷◌, ◌++◌, length, get_or, refl, sym, ◌∙◌, ap, subst, arith, length-append, cond, Option, Some, None, position, is_some}
 use Rattle.std.specs.Option.{option_map}
 use Rattle.syntax_set.specs.Groups.{is_same_name, group_numbered, with_group}
-use Rattle.std.proofs.Math.ListN.{get_or-append}
-use Rattle.std.proofs.Math.Seq.{get_or-append_seam}
 use Rattle.std.specs.Prelude.{nat_eq}
 use Rattle.std.specs.List.{list_any}
 use Rattle.syntax_set.specs.declared.groups.TheConstants.{MOST_GROUPS}
@@ -11,7 +9,7 @@ use Rattle.syntax_set.specs.Numbers.{has_number}
 use Rattle.syntax_set.specs.ClusterTable.{ClusterList, no_list}
 use Rattle.syntax_set.specs.ClusterLists.{list_at}
 use Rattle.syntax_set.specs.Membership.{cluster_has}
-use Rattle.syntax_set.specs.Reached.{leads_to, AreReached, AreAllReached, HoldsReached, any_names}
+use Rattle.syntax_set.specs.Reached.{leads_to, AreAllReached, HoldsReached, any_names}
 use Rattle.syntax_set.proofs.Passing.{list_any-same}
 use Rattle.syntax_set.proofs.ListAt.{list_at-past, list_at-push}
 use Rattle.syntax_set.proofs.ReachedLaws.{any_names-reached}
@@ -24,11 +22,25 @@ cluster_has-past lists (suc levels) group cluster past =
     let P : ClusterList → Type 0 = λ l. (has_number l.groups group || list_any (cluster_has lists levels group) l.clusters) ≡ false in
     subst P (sym (list_at-past lists cluster past)) refl
 
+-- on one level more a cluster has the groups that it names, and those that the clusters have that it names
+pub cluster_has-further : (lists : List ClusterList) (levels fewer group cluster : ℕ) (list : ClusterList) → levels ≡ suc fewer → list_at lists cluster ≡ list → cluster_has lists levels group cluster ≡ (has_number list.groups group || list_any (cluster_has lists fewer group) list.clusters)
+unfolding cluster_has
+cluster_has-further lists levels fewer group cluster list more e =
+    let P : ℕ → Type 0 = λ n. cluster_has lists n group cluster ≡ (has_number list.groups group || list_any (cluster_has lists fewer group) list.clusters) in
+    let here = ap (λ (l : ClusterList). has_number l.groups group || list_any (cluster_has lists fewer group) l.clusters) e in
+    subst P (sym more) here
+
+-- on no level it has nothing
+pub cluster_has-none : (lists : List ClusterList) (levels group cluster : ℕ) → levels ≡ 0 → cluster_has lists levels group cluster ≡ false
+unfolding cluster_has
+cluster_has-none lists levels group cluster none =
+    let P : ℕ → Type 0 = λ n. cluster_has lists n group cluster ≡ false in
+    subst P (sym none) refl
+
 -- what is kept for a cluster tells what it has
 pub any_names-kept : (lists : List ClusterList) (rows : List (List ℕ)) (group cluster : ℕ) (row : List ℕ) → AreAllReached lists rows → cluster < length rows → row ≡ get_or rows cluster [] → any_names lists group row ≡ cluster_has lists 30 group cluster
 any_names-kept lists rows group cluster row all within e =
-    let there : cluster < length lists = omega (arith, all.as_many) in
-    ap (any_names lists group) e ∙ any_names-reached lists 30 group cluster (get_or rows cluster []) (all.each cluster there)
+    ap (any_names lists group) e ∙ any_names-reached lists 30 group cluster (get_or rows cluster []) (all cluster within)
 
 -- where all clusters name the same clusters, they lead to the same
 pub leads_to-same : (lists others : List ClusterList) → ((cluster : ℕ) → (list_at others cluster).clusters ≡ (list_at lists cluster).clusters) → (levels target cluster : ℕ) → leads_to others levels target cluster ≡ leads_to lists levels target cluster
@@ -39,49 +51,17 @@ leads_to-same lists others same (suc levels) target cluster =
     ∙ ap (λ b. nat_eq target cluster || b)
     (list_any-same (leads_to others levels target) (leads_to lists levels target) (leads_to-same lists others same levels target) (list_at lists cluster).clusters)
 
--- a cluster that names none leads to itself alone
-pub leads_to-alone : (lists : List ClusterList) (levels target cluster : ℕ) → (list_at lists cluster).clusters ≡ [] → leads_to lists (suc levels) target cluster ≡ has_number (cluster ∷ []) target
-unfolding leads_to
-leads_to-alone lists levels target cluster none = ap (λ l. nat_eq target cluster || list_any (leads_to lists levels target) l) none
-
-module _ (names : List (List ℕ)) (lists : List ClusterList) (rows : List (List ℕ)) (holds : HoldsReached names lists rows) where
-  each : (cluster : ℕ) → cluster < length (lists ++ no_list ∷ []) → AreReached (lists ++ no_list ∷ []) 30 cluster (get_or (rows ++ (length lists ∷ []) ∷ []) cluster [])
-  each cluster within = by (split cluster (length lists) (omega (arith, length-append lists (no_list ∷ []))))
-    where
-      split : (a b : ℕ) → a < b + 1 → (a < b) ⊎ (b ≡ a)
-      split a b h = grind arith
-
-      by : (cluster < length lists) ⊎ (length lists ≡ cluster) → AreReached (lists ++ no_list ∷ []) 30 cluster (get_or (rows ++ (length lists ∷ []) ∷ []) cluster [])
-      by (inl old) =
-          let in_rows : cluster < length rows = omega (arith, holds.reached_all.as_many) in
-          record {
-            same = λ target.
-                ap (λ l. has_number l target) (get_or-append rows ((length lists ∷ []) ∷ []) [] cluster in_rows)
-                ∙ (holds.reached_all.each cluster old).same target
-                ∙ sym (leads_to-same lists (lists ++ no_list ∷ []) (λ k. ap (λ (l : ClusterList). l.clusters) (list_at-push lists k)) 30 target cluster);
-          }
-      by (inr new) =
-          let P : ℕ → Type 0 = λ k. AreReached (lists ++ no_list ∷ []) 30 k (get_or (rows ++ (length lists ∷ []) ∷ []) k []) in
-          let Q : ℕ → Type 0 = λ k. get_or (rows ++ (length lists ∷ []) ∷ []) k [] ≡ length lists ∷ [] in
-          let row = subst Q holds.reached_all.as_many (get_or-append_seam rows (length lists ∷ []) [] []) in
-          let past : length lists ≤ length lists = omega arith in
-          let none = ap (λ (l : ClusterList). l.clusters) (list_at-push lists (length lists) ∙ list_at-past lists (length lists) past) in
-          subst P new (record {
-            same = λ target.
-                ap (λ l. has_number l target) row
-                ∙ sym (leads_to-alone (lists ++ no_list ∷ []) 29 target (length lists) none);
-          })
-
-  -- a new cluster without entries
-  pub holds-push : (name : List ℕ) → length (names ++ name ∷ []) ≤ MOST_GROUPS → HoldsReached (names ++ name ∷ []) (lists ++ no_list ∷ []) (rows ++ (length lists ∷ []) ∷ [])
-  holds-push name few = record {
-    as_many_names = length-append names (name ∷ []) ∙ ap (λ n. n + 1) holds.as_many_names ∙ sym (length-append lists (no_list ∷ []));
-    few = omega (arith, few, length-append names (name ∷ []), length-append lists (no_list ∷ []), holds.as_many_names);
-    reached_all = record {
-      as_many = length-append rows ((length lists ∷ []) ∷ []) ∙ ap (λ n. n + 1) holds.reached_all.as_many ∙ sym (length-append lists (no_list ∷ []));
-      each = each;
-    };
-  }
+-- a new cluster without entries leaves what is kept right
+pub holds-push : (names : List (List ℕ)) (lists : List ClusterList) (rows : List (List ℕ)) (name : List ℕ) → HoldsReached names lists rows → length (names ++ name ∷ []) ≤ MOST_GROUPS → HoldsReached (names ++ name ∷ []) (lists ++ no_list ∷ []) rows
+holds-push names lists rows name holds few = record {
+  as_many_names = length-append names (name ∷ []) ∙ ap (λ n. n + 1) holds.as_many_names ∙ sym (length-append lists (no_list ∷ []));
+  few = omega (arith, few, length-append names (name ∷ []), length-append lists (no_list ∷ []), holds.as_many_names);
+  reached_all = λ cluster within. record {
+    same = λ target.
+        (holds.reached_all cluster within).same target
+        ∙ sym (leads_to-same lists (lists ++ no_list ∷ []) (λ k. ap (λ (l : ClusterList). l.clusters) (list_at-push lists k)) 30 target cluster);
+  };
+}
 
 -- a name that is new comes last
 with_group-new : (names : List (List ℕ)) (name : List ℕ) → ((n : ℕ) → position (is_same_name name) names ≡ Some n → ⊥) → with_group names name ≡ names ++ name ∷ []
@@ -92,11 +72,10 @@ with_group-new names name absent = by (position (is_same_name name) names) refl
     by (Some n) e = absurd (absent n e)
 
 -- what is kept after a new name
-pub holds-number : (names more_names : List (List ℕ)) (lists more_lists : List ClusterList) (rows more_rows : List (List ℕ)) (name : List ℕ) → HoldsReached names lists rows → ((n : ℕ) → position (is_same_name name) names ≡ Some n → ⊥) → more_names ≡ with_group names name → length more_names ≤ MOST_GROUPS → more_lists ≡ lists ++ no_list ∷ [] → more_rows ≡ rows ++ (length lists ∷ []) ∷ [] → HoldsReached more_names more_lists more_rows
-holds-number names more_names lists more_lists rows more_rows name holds absent e few f g =
+pub holds-number : (names more_names : List (List ℕ)) (lists more_lists : List ClusterList) (rows : List (List ℕ)) (name : List ℕ) → HoldsReached names lists rows → ((n : ℕ) → position (is_same_name name) names ≡ Some n → ⊥) → more_names ≡ with_group names name → length more_names ≤ MOST_GROUPS → more_lists ≡ lists ++ no_list ∷ [] → HoldsReached more_names more_lists rows
+holds-number names more_names lists more_lists rows name holds absent e few f =
     let named = e ∙ with_group-new names name absent in
     let F : List (List ℕ) → Type 0 = λ l. length l ≤ MOST_GROUPS in
-    let P : List (List ℕ) → Type 0 = λ l. HoldsReached l (lists ++ no_list ∷ []) (rows ++ (length lists ∷ []) ∷ []) in
-    let Q : List ClusterList → Type 0 = λ l. HoldsReached more_names l (rows ++ (length lists ∷ []) ∷ []) in
-    let R : List (List ℕ) → Type 0 = λ l. HoldsReached more_names more_lists l in
-    subst R (sym g) (subst Q (sym f) (subst P (sym named) (holds-push names lists rows holds name (subst F named few))))
+    let P : List (List ℕ) → Type 0 = λ l. HoldsReached l (lists ++ no_list ∷ []) rows in
+    let Q : List ClusterList → Type 0 = λ l. HoldsReached more_names l rows in
+    subst Q (sym f) (subst P (sym named) (holds-push names lists rows name holds (subst F named few)))

@@ -6,3 +6,4 @@ pub mod ListAt
 pub mod ReachedLaws
 pub mod KeptLaws
 mod KnownLists
+pub mod EntryLaws

@@ -1,6 +1,7 @@
 -- Lemmas on lists of numbers, each once.
-use Rattle.std.proofs.Common.{◌≡◌, ℕ, Bool, true, false, cond, ◌||◌, List, [], ◌∷◌, ◌++◌, append_assoc, refl, sym, ◌∙◌, ap, subst, inl, inr}
-use Rattle.std.proofs.lemmas.List.{append-nil}
+use Rattle.std.proofs.Common.{◌≡◌, ℕ, ◌+◌, ◌≤◌, arith, Bool, true, false, cond, ◌||◌, List, [], ◌∷◌, ◌++◌, length, take, drop, length-append, append_assoc, refl, sym, ◌∙◌, ap, subst, inl, inr}
+use Rattle.std.proofs.lemmas.List.{append-nil, take-append-drop}
+use Rattle.std.proofs.Math.Seq.{take-append_seam}
 use Rattle.std.proofs.lemmas.List.Sums.{fold-append}
 use Rattle.std.proofs.lemmas.Bool.{eqb-true}
 use Rattle.std.proofs.lemmas.List.Folds.{list_any-append}
@@ -71,6 +72,36 @@ with_all_named-extends lists found [] = record { rest = []; whole = sym (append-
 with_all_named-extends lists found (m ∷ clusters) =
     extends_further found (with_named lists found m) (with_all_named lists (with_named lists found m) clusters)
     (with_numbers-extends found (list_at lists m).clusters) (with_all_named-extends lists (with_named lists found m) clusters)
+
+-- a list begins with its front
+pub takes_front : (front list : List ℕ) → Extends front list → take (length front) list ≡ front
+takes_front front list e = ap (take (length front)) e.whole ∙ take-append_seam front e.rest
+
+length-with_number : (ns : List ℕ) (n : ℕ) → length (with_number ns n) ≤ length ns + 1
+length-with_number ns n = by (has_number ns n)
+  where
+    by : (b : Bool) → length (cond b ns (ns ++ n ∷ [])) ≤ length ns + 1
+    by true = omega arith
+    by false = omega (arith, length-append ns (n ∷ []))
+
+length-with_numbers : (ns more : List ℕ) → length (with_numbers ns more) ≤ length ns + length more
+length-with_numbers ns [] = omega arith
+length-with_numbers ns (n ∷ more) = omega (arith, length-with_numbers (with_number ns n) more, length-with_number ns n)
+
+-- the first of numbers that stand once each stand once each
+pub each_once-take : (ns : List ℕ) (k : ℕ) → with_numbers [] ns ≡ ns → with_numbers [] (take k ns) ≡ take k ns
+each_once-take ns k once =
+    let front = take k ns in
+    let kept = with_numbers [] front in
+    let parts : front ++ drop k ns ≡ ns = take-append-drop k ns in
+    let joined : with_numbers kept (drop k ns) ≡ ns = sym (fold-append with_number [] front (drop k ns)) ∙ ap (with_numbers []) parts ∙ once in
+    let as_long : length kept ≡ length front =
+    omega (arith, length-with_numbers [] front, length-with_numbers kept (drop k ns), ap length joined, ap length parts, length-append front (drop k ns)) in
+    sym (takes_front kept (with_numbers kept (drop k ns)) (with_numbers-extends kept (drop k ns)))
+    ∙ ap (take (length kept)) joined
+    ∙ ap (λ n. take n ns) as_long
+    ∙ ap (take (length front)) (sym parts)
+    ∙ take-append_seam front (drop k ns)
 
 -- numbers that stand once each stay so with one more
 pub each_once-with_number : (ns : List ℕ) (n : ℕ) → with_numbers [] ns ≡ ns → with_numbers [] (with_number ns n) ≡ with_number ns n

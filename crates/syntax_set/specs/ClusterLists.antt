@@ -1,7 +1,7 @@
 -- What a cluster has (Vim's help, :syn-cluster): groups and other clusters, each once, in the order in
 -- which they were first named. `contains` of a cluster command gives it a new list, `add` adds to what it
 -- has, and `remove` takes from it.
-use Rattle.std.specs.Prelude.{ℕ, List, [], ◌∷◌, ◌++◌, fold, Option, if◌then◌else◌, position, is_some, slice_get, slice_set, unwrap_or}
+use Rattle.std.specs.Prelude.{◌≡◌, ℕ, List, [], ◌∷◌, ◌++◌, length, take, fold, Option, if◌then◌else◌, position, is_some, slice_get, slice_set, unwrap_or}
 use Rattle.syntax_set.specs.declared.clusters.Change.{Change}
 use Rattle.syntax_set.specs.declared.clusters.Change.TheVariants.{Set, Add, Remove}
 use Rattle.syntax_set.specs.declared.item.Entry.{Entry}
@@ -17,6 +17,11 @@ with_entry list (Cluster cluster) = record { groups = list.groups; clusters = wi
 
 abbrev pub with_entries : ClusterList → List Entry → ClusterList
 with_entries list entries = fold with_entry list entries
+
+-- a list that begins with another
+pub record BeginsWith (list front : ClusterList) : Type 0 where
+  pub groups : take (length front.groups) list.groups ≡ front.groups
+  pub clusters : take (length front.clusters) list.clusters ≡ front.clusters
 
 -- a list without what another has
 abbrev pub less : ClusterList → ClusterList → ClusterList

@@ -23,10 +23,9 @@ with_all_named lists found clusters = fold (with_named lists) found clusters
 pub record AreReached (lists : List ClusterList) (levels cluster : ℕ) (numbers : List ℕ) : Type 0 where
   pub same : (target : ℕ) → has_number numbers target ≡ leads_to lists levels target cluster
 
--- the numbers kept for each cluster are right
-pub record AreAllReached (lists : List ClusterList) (reached : List (List ℕ)) : Type 0 where
-  pub as_many : length reached ≡ length lists
-  pub each : (cluster : ℕ) → cluster < length lists → AreReached lists 30 cluster (slice_index_or reached cluster [])
+-- the numbers that are kept, for each of the first clusters, are right
+abbrev pub AreAllReached : List ClusterList → List (List ℕ) → Type 0
+AreAllReached lists reached = (cluster : ℕ) → cluster < length reached → AreReached lists 30 cluster (slice_index_or reached cluster [])
 
 -- whether a cluster itself names a group
 abbrev pub names_group : List ClusterList → ℕ → ℕ → Bool

@@ -1,8 +1,7 @@
 //! What one cluster has.
 ghost use Rattle.std.specs.Prelude.{◌≡◌, IfOk, OnOk, OnErr};
-ghost use Rattle.syntax_set.specs.ClusterLists.{changed, less, with_entries, with_entry};
+ghost use Rattle.syntax_set.specs.ClusterLists.{changed, less, with_entries, with_entry, BeginsWith};
 ghost use Rattle.syntax_set.specs.ClusterTable.{no_list};
-ghost use Rattle.syntax_set.specs.Numbers.{without};
 
 use crate::number_set::NumberSet;
 use crate::{Change, Entry};
@@ -48,48 +47,70 @@ impl ClusterList {
         self.clusters.as_slice()
     }
 
-    /// What the list becomes by one part of a cluster command.
-    pub(crate) fn changed(
-        &self,
+    /// Carries out one part of a cluster command.
+    pub(crate) fn change(
+        &mut self,
         alloc: Global,
         how: Change,
         entries: &List<Entry>,
-    ) -> Result<ClusterList, Memory>
-        ensures { IfOk result (λ list. list ≡ changed how self.now entries.now) }
+    ) -> Result<(), Memory>
+        ensures ok { OnOk result (self.new ≡ changed how self.old entries.now) }
+        ensures err { OnErr result (self.new ≡ self.old) }
     {
         match how {
-            Change::Set => ClusterList::new(alloc).with_entries(entries),
-            Change::Add => self.copy(alloc)?.with_entries(entries),
+            Change::Set => *self = ClusterList::of(alloc, entries)?,
+            Change::Add => self.add(entries)?,
             Change::Remove => {
-                let other = ClusterList::new(alloc).with_entries(entries)?;
-                self.less(alloc, &other)
+                let other = ClusterList::of(alloc, entries)?;
+                *self = self.less(alloc, &other)?;
             }
         }
+        Ok(())
     }
 
-    /// The list with more entries.
-    fn with_entries(self, entries: &List<Entry>) -> Result<ClusterList, Memory>
-        ensures { IfOk result (λ list. list ≡ with_entries self entries.now) }
+    /// The list of these entries.
+    fn of(alloc: Global, entries: &List<Entry>) -> Result<ClusterList, Memory>
+        ensures { IfOk result (λ list. list ≡ with_entries no_list entries.now) }
     {
-        let mut list = self;
-        for entry in entries.as_slice() {
-            list = list.with_entry(*entry)?;
-        }
+        let mut list = ClusterList::new(alloc);
+        list.insert_all(entries)?;
         Ok(list)
     }
 
-    fn with_entry(self, entry: Entry) -> Result<ClusterList, Memory>
-        ensures { IfOk result (λ list. list ≡ with_entry self entry) }
+    /// Puts the entries at the end, or none of them.
+    fn add(&mut self, entries: &List<Entry>) -> Result<(), Memory>
+        ensures ok { OnOk result (self.new ≡ with_entries self.old entries.now) }
+        ensures err { OnErr result (self.new ≡ self.old) }
     {
-        let ClusterList {
-            mut groups,
-            mut clusters,
-        } = self;
-        match entry {
-            Entry::Group(group) => groups.insert(group.0)?,
-            Entry::Cluster(cluster) => clusters.insert(cluster)?,
+        let groups = self.groups.len();
+        let clusters = self.clusters.len();
+        let added = self.insert_all(entries);
+        if added.is_err() {
+            self.groups.truncate(groups);
+            self.clusters.truncate(clusters);
         }
-        Ok(ClusterList { groups, clusters })
+        added
+    }
+
+    /// Puts the entries at the end, perhaps not all of them where memory is wanting.
+    fn insert_all(&mut self, entries: &List<Entry>) -> Result<(), Memory>
+        ensures ok { OnOk result (self.new ≡ with_entries self.old entries.now) }
+        ensures err { OnErr result (BeginsWith self.new self.old) }
+    {
+        for entry in entries.as_slice() {
+            self.insert(*entry)?;
+        }
+        Ok(())
+    }
+
+    fn insert(&mut self, entry: Entry) -> Result<(), Memory>
+        ensures ok { OnOk result (self.new ≡ with_entry self.old entry) }
+        ensures err { OnErr result (self.new ≡ self.old) }
+    {
+        match entry {
+            Entry::Group(group) => self.groups.insert(group.0),
+            Entry::Cluster(cluster) => self.clusters.insert(cluster),
+        }
     }
 
     /// The list without what another has.
@@ -98,14 +119,6 @@ impl ClusterList {
     {
         let groups = self.groups.without(alloc, &other.groups)?;
         let clusters = self.clusters.without(alloc, &other.clusters)?;
-        Ok(ClusterList { groups, clusters })
-    }
-
-    fn copy(&self, alloc: Global) -> Result<ClusterList, Memory>
-        ensures { IfOk result (λ list. list ≡ self.now) }
-    {
-        let groups = self.groups.copy(alloc)?;
-        let clusters = self.clusters.copy(alloc)?;
         Ok(ClusterList { groups, clusters })
     }
 }

@@ -6,7 +6,7 @@ ghost use Rattle.syntax_set.specs.Groups.{IsRefusedGroup};
 ghost use Rattle.syntax_set.specs.Membership.{cluster_has, entry_has};
 ghost use Rattle.syntax_set.specs.Reached.{any_names, names_group};
 
-use crate::cluster_graph::ClusterGraph;
+use crate::cluster_graph::{MOST_LEVELS, all_reached, has_within};
 use crate::cluster_list::ClusterList;
 use crate::number_set::NumberSet;
 use crate::{Entry, GroupList, Groups, MOST_GROUPS, SetError};
@@ -33,7 +33,7 @@ pub struct Clusters {
     // clusters are numbered, limited and named as groups are
     names: Groups,
     lists: Vec<ClusterList>,
-    // for each cluster those that it leads to, itself among them
+    // for the first clusters those that each leads to, itself among them
     reached: Vec<NumberSet>,
 }
 
@@ -100,19 +100,14 @@ impl Clusters {
             return Ok(cluster);
         }
         let cluster = self.lists.len() as u32;
-        let mut reached = NumberSet::new(self.alloc);
-        reached.insert(cluster)?;
         self.lists.reserve(1)?;
-        self.reached.reserve(1)?;
         self.names.number(name)?;
         self.lists.push(ClusterList::new(self.alloc)).unwrap();
-        self.reached.push(reached).unwrap();
         Ok(cluster)
     }
 
     /// Carries out one part of a cluster command (`:syn-cluster`). Of the list its entries alone
-    /// count. What the clusters lead to is found anew, in the time of a walk from each cluster over
-    /// all those that it leads to.
+    /// count. What was settled is so no longer.
     pub fn cluster_change(
         &mut self,
         cluster: u32,
@@ -123,16 +118,18 @@ impl Clusters {
         ensures changed { OnOk result (self.new ≡ with_change self.old cluster how list.entries) }
         ensures unchanged { OnErr result (self.new ≡ self.old) }
     {
-        let place = cluster as usize;
-        let changed = self.lists[place].changed(self.alloc, how, &list.entries)?;
-        let graph = ClusterGraph {
-            lists: &self.lists,
-            changed: cluster,
-            list: &changed,
-        };
-        let reached = graph.all_reached(self.alloc)?;
-        self.lists[place] = changed;
-        self.reached = reached;
+        self.lists[cluster as usize].change(self.alloc, how, &list.entries)?;
+        self.reached.clear();
+        Ok(())
+    }
+
+    /// Finds where the clusters lead, so that a question looks up the clusters that one leads to and
+    /// follows nothing. Without it, or after a change, a question follows the lists themselves, which
+    /// takes long where each of many levels names several clusters of the next.
+    pub fn settle(&mut self) -> Result<(), Memory>
+        ensures { self.new ≡ self.old }
+    {
+        self.reached = all_reached(self.alloc, &self.lists)?;
         Ok(())
     }
 
@@ -151,7 +148,7 @@ impl Clusters {
     {
         match self.reached.get(cluster as usize) {
             Some(reached) => self.any_names(reached.as_slice(), group),
-            None => false,
+            None => has_within(&self.lists, MOST_LEVELS, cluster, group),
         }
     }
 

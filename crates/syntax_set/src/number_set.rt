@@ -1,5 +1,5 @@
 //! Numbers of groups or clusters, each once, in the order in which they came.
-ghost use Rattle.std.specs.Prelude.{◌≡◌, [], drop, length, IfOk, OnOk, OnErr};
+ghost use Rattle.std.specs.Prelude.{◌≡◌, [], drop, length, take, IfOk, OnOk, OnErr};
 ghost use Rattle.syntax_set.specs.Numbers.{has_number, with_number, with_numbers, without};
 
 use indexmap::IndexSet;
@@ -98,11 +98,10 @@ impl NumberSet {
         Ok(news)
     }
 
-    pub(crate) fn copy(&self, alloc: Global) -> Result<NumberSet, Memory>
-        ensures { IfOk result (λ copy. copy ≡ self.now) }
+    /// Takes away the numbers from a place on.
+    pub(crate) fn truncate(&mut self, place: usize)
+        ensures { self.new ≡ take place self.old }
     {
-        let mut copy = NumberSet::new(alloc);
-        copy.insert_all(self.numbers.as_slice())?;
-        Ok(copy)
+        self.numbers.truncate(place);
     }
 }

@@ -70,6 +70,8 @@ fn a_cluster_is_followed(rt: HostRuntime) -> Result<(), Memory> {
     assert!(rt; items.added() == 2);
     assert!(rt; items.item(ItemId(1)).group == GroupId(1));
     assert!(rt; items.allowed(&clusters, ItemId(1), Some(ItemId(0))));
+    clusters.settle()?;
+    assert!(rt; items.allowed(&clusters, ItemId(1), Some(ItemId(0))));
     let next = list_of(alloc, 1)?;
     assert!(rt; items.in_next(&clusters, ItemId(1), &next));
     items.clear(Some(GroupId(1)));

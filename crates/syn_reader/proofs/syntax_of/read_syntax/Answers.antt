@@ -23,5 +23,5 @@ returns-in_err-ask-clause-answer g c =
 
 pub returns-clause-answer : goal.returns-clause-answer
 returns-clause-answer g c =
-    run_goes_well (g.F.Files.told c.args.files.now) c.args.name.now c.as_slice.result.now c.args.options.now c.in_ok-nothing_read.field-0 c.ask.new.progress c.in_ok-ask.field-0 c.syntax_from.result
-    (c.as_slice.ensures ∙ c.in_ok-own.ensures) c.in_ok-nothing_read.ensures c.syntax_from.ensures c.in_ok-ask.ensures.answer
+    run_goes_well (g.F.Files.told c.args.files.now) c.args.name.now c.as_slice.result.now c.args.options.now c.in_ok-nothing_read.field-0 c.ask.new.progress c.in_ok-ask.field-0 c.in_ok-syntax_from.field-0
+    (c.as_slice.ensures ∙ c.in_ok-own.ensures) c.in_ok-nothing_read.ensures c.in_ok-syntax_from.ensures c.in_ok-ask.ensures.answer

@@ -1,5 +1,4 @@
-use Rattle.std.proofs.Common.{◌≡◌, ◌≤◌, List, [], ◌∷◌, ◌++◌, length, ap, sym, ◌∙◌, Some, cond, Result, Ok, is_ok, rules, arith}
-use Rattle.syntax_set.specs.Numbers.{with_number}
+use Rattle.std.proofs.Common.{◌≡◌, ◌≤◌, List, [], ◌∷◌, ◌++◌, length, ap, sym, ◌∙◌, Some, cond, Result, Ok, is_ok}
 use Rattle.syntax_set.specs.declared.groups.TheConstants.{MOST_GROUPS}
 use Rattle.syntax_set.specs.ClusterTable.{ClusterTable, no_list}
 use Rattle.syntax_set.specs.ClusterLists.{cluster_of}
@@ -21,14 +20,9 @@ invariant_of-self-2 c =
     let lists : c.push.new.self.items ≡ old.lists.items ++ no_list ∷ [] =
     pushed old.lists.items c.reserve.new.self.items c.push.new.self.items c.new.result no_list c.push.result c.unwrap.result
     c.push.ensures.items c.unwrap.ensures c.in_ok-reserve.ensures.items c.new.ensures in
-    let count : c.len-cluster.result ≡ length old.lists.items = first_of (search rules, omega arith) in
-    let rows : c.push-2.new.self.items ≡ old.reached.items ++ (length old.lists.items ∷ []) ∷ [] =
-    pushed old.reached.items c.reserve-2.new.self.items c.push-2.new.self.items c.insert.new.self (length old.lists.items ∷ []) c.push-2.result c.unwrap-2.result
-    c.push-2.ensures.items c.unwrap-2.ensures c.in_ok-reserve-2.ensures.items
-    (c.in_ok-insert.ensures.ok ∙ ap (λ l. with_number l c.len-cluster.result) c.new-reached.ensures ∙ ap (λ n. n ∷ []) count) in
-    holds-number old.names c.number.new.self old.lists.items c.push.new.self.items old.reached.items c.push-2.new.self.items name
+    holds-number old.names c.number.new.self old.lists.items c.push.new.self.items old.reached.items name
     c.self.invariant
     (λ n e.
     let there : cluster_of c.args.self.now name ≡ Some n = sym (ap (λ (t : ClusterTable). cluster_of t name) c.self.view_is) ∙ e in
     c.in_default.not-Some n (c.in_ok-cluster.ensures ∙ there))
-    names few lists rows
+    names few lists

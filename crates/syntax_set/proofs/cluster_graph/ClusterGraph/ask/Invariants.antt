@@ -1,8 +1,0 @@
-use Rattle.std.proofs.Common.{◌≡◌, take, set}
-use Rattle.syntax_set.specs.Reached.{with_all_named}
-use Rattle.syntax_set.proofs.cluster_graph.ClusterGraph.ask.Given as goal
-
--- the clusters up to here were asked
-abbrev pub invariant-loop-cluster : goal.invariant-loop-cluster
-invariant-loop-cluster l =
-    l.found ≡ with_all_named (set l.self.lists.now l.self.changed l.self.list.now) l.initial.found (take l.cluster-index l.cluster-items)

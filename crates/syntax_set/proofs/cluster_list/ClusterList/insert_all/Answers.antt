@@ -1,0 +1,14 @@
+use Rattle.std.proofs.Common.{◌∙◌, rules, sym, subst, take}
+use Rattle.syntax_set.specs.ClusterTable.{ClusterList}
+use Rattle.syntax_set.specs.ClusterLists.{BeginsWith}
+use Rattle.syntax_set.proofs.EntryLaws.{with_entries-begins}
+use Rattle.syntax_set.proofs.cluster_list.ClusterList.insert_all.Goals as goal
+
+-- the entries before the refused one stand behind the list
+pub returns-in_err-insert-clause-err : goal.returns-in_err-insert-clause-err
+returns-in_err-insert-clause-err c =
+    let list = c.args.self.now in
+    let P : ClusterList → Type 0 = λ l. BeginsWith l list in
+    let front = take c.loop-entry.entry-index c.args.entries.now in
+    let begins : BeginsWith c.insert.new.self list = subst P (sym (c.in_err-insert.ensures.err ∙ c.loop-entry.invariant)) (with_entries-begins list front) in
+    search (rules, begins)
