@@ -134,6 +134,9 @@ level_without_collections = refl
 optional_list_hides_nothing : Refused (codes "syn match A /r\\%[a/]x/" ∷ []) 1 cause.BadOffset
 optional_list_hides_nothing = refl
 
+mark_hides_nothing : accepted (codes "syn match A /\\%'[/ contains=a].*" ∷ codes "syn match A /\\%<'[/ contains=a].*" ∷ codes "syn match A /\\v%>'[/ contains=a].*" ∷ [])
+mark_hides_nothing = refl
+
 sign_needs_digits : Refused (codes "syn match A /a/ms=s+" ∷ []) 1 cause.BadOffset
 sign_needs_digits = refl
 

@@ -41,6 +41,21 @@ pub all_of : (sink : SinkChange) (bytes : List ℕ) (planned answer : Status) �
 all_of sink bytes planned answer (inl all) sound = all
 all_of sink bytes planned answer (inr some) sound = absurd (sound some.failed)
 
+-- a sink failed only where that is the answer
+pub unfailed_of : (sink : SinkChange) (bytes : List ℕ) (planned answer : Status) → Writes sink bytes planned answer → answer ≢ WriteFault → sink.faults_after ≡ sink.faults
+unfailed_of sink bytes planned answer (inl all) other = all.unfailed
+unfailed_of sink bytes planned answer (inr some) other = absurd (other some.status)
+
+pub out_unfailed : (result : Result (List ℕ) Stop) (out err : SinkChange) (answer : Status) → Delivers result out err answer → answer ≢ WriteFault → out.faults_after ≡ out.faults
+out_unfailed (Ok bytes) out err answer delivered other = unfailed_of out bytes Done answer delivered.1 other
+out_unfailed (Err (stop.Fault fault)) out err answer delivered other = delivered.0.1
+out_unfailed (Err stop.Memory) out err answer delivered other = delivered.0.1
+
+pub err_unfailed : (result : Result (List ℕ) Stop) (out err : SinkChange) (answer : Status) → Delivers result out err answer → answer ≢ WriteFault → err.faults_after ≡ err.faults
+err_unfailed (Ok bytes) out err answer delivered other = delivered.0.1
+err_unfailed (Err (stop.Fault fault)) out err answer delivered other = unfailed_of err fault.line (cause_status fault.cause) answer delivered.1 other
+err_unfailed (Err stop.Memory) out err answer delivered other = delivered.1.1
+
 -- the faulty words
 pub usage_gives : (told : Option FileMap) (words : List (List ℕ)) (out err : SinkChange) (faults faults_after : ℕ) (answer : Status) → asked_of words ≡ None → IsUntouched out → Writes err usage_line Usage answer → IfSome told (λ known. ¬ Rose faults faults_after → ¬ Rose out.faults out.faults_after → ¬ Rose err.faults err.faults_after → answer ≢ Memory → Gives (session words known) out.before out.after err.before err.after answer)
 usage_gives None words out err faults faults_after answer faulty same written = tt

@@ -71,8 +71,8 @@ pub fn run<F: Files, I: Source, O: Sink, E: Sink, L: Ledger>(
 
     // What stays as it was.
     ensures files_unfailed { is_unfailed result ≡ true → F.faults files.new ≡ F.faults files.old }
-    ensures out_unfailed { is_unfailed result ≡ true → O.faults out.new ≡ O.faults out.old }
-    ensures err_unfailed { is_unfailed result ≡ true → E.faults err.new ≡ E.faults err.old }
+    ensures out_unfailed { result ≢ Status.WriteFault → O.faults out.new ≡ O.faults out.old }
+    ensures err_unfailed { result ≢ Status.WriteFault → E.faults err.new ≡ E.faults err.old }
     ensures done_misses { result ≡ Status.Done → F.misses files.new ≡ F.misses files.old }
     ensures done_longs { result ≡ Status.Done → F.longs files.new ≡ F.longs files.old }
     ensures files_kept { F.told files.new ≡ F.told files.old }

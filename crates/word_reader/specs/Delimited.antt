@@ -6,7 +6,7 @@ use Rattle.pattern_items.specs.declared.item.Level.{Level}
 use Rattle.pattern_items.specs.declared.item.Level.TheVariants.{VeryNo, No, Usual, Very}
 use Rattle.pattern_items.specs.Collection.{collection_end}
 use Rattle.word_reader.specs.declared.delimited.Next.{Next}
-use Rattle.word_reader.specs.declared.delimited.Next.TheVariants.{Free, Escaped, ClassLetter, ListBracket, Inside}
+use Rattle.word_reader.specs.declared.delimited.Next.TheVariants.{Free, Escaped, ClassLetter, Percent, Mark, Inside}
 use Rattle.word_reader.specs.declared.delimited.Scan.{Scan}
 use Rattle.word_reader.specs.Words.{is_blank, is_letter, is_digit}
 
@@ -28,11 +28,13 @@ abbrev pub level_after : Level → ℕ → Level
 level_after level c =
     if nat_eq c 118 then Very else if nat_eq c 109 then Usual else if nat_eq c 77 then No else if nat_eq c 86 then VeryNo else level
 
--- whether a bracket opens a collection: behind `\_` always, behind a percent sign never, and else by the level
+-- whether a bracket opens a collection: behind `\_` always, behind a percent sign that is an item never, nor as
+-- the name of a mark, and else by the level
 abbrev pub bracket_opens : Level → Next → Bool
 bracket_opens level Escaped = opens_escaped level
 bracket_opens level ClassLetter = true
-bracket_opens level ListBracket = false
+bracket_opens level Percent = false
+bracket_opens level Mark = false
 bracket_opens level (Inside n) = false
 bracket_opens level Free = not (opens_escaped level)
 
@@ -47,11 +49,24 @@ inside (Some n) = Inside n
 abbrev pub behind_inside : ℕ → Next
 behind_inside n = if nat_le n 1 then Free else Inside (n - 1)
 
+-- how the character behind this one is read, where nothing before it changes what it is
+abbrev pub plainly_next : Level → ℕ → Next
+plainly_next level c = if nat_eq c 92 then Escaped else if nat_eq c 37 && is_very level then Percent else Free
+
+-- behind a percent sign that is an item a quote begins a mark, also behind a sign of comparison
+abbrev pub behind_percent : Level → ℕ → Next
+behind_percent level c = if nat_eq c 39 then Mark else if nat_eq c 60 || nat_eq c 62 then Percent else plainly_next level c
+
+-- behind a backslash
+abbrev pub behind_backslash : Level → ℕ → Next
+behind_backslash level c = if nat_eq c 95 then ClassLetter else if nat_eq c 37 && not (is_very level) then Percent else Free
+
 -- how the character behind this one is read, where this one opens no collection
 abbrev pub next_by : Level → Next → ℕ → Next
-next_by level Escaped c = if nat_eq c 95 then ClassLetter else if nat_eq c 37 && not (is_very level) then ListBracket else Free
+next_by level Escaped c = behind_backslash level c
+next_by level Percent c = behind_percent level c
 next_by level (Inside n) c = behind_inside n
-next_by level next c = if nat_eq c 92 then Escaped else if nat_eq c 37 && is_very level then ListBracket else Free
+next_by level next c = plainly_next level c
 
 abbrev pub level_by : Level → Next → ℕ → Level
 level_by level Escaped c = level_after level c

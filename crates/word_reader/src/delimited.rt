@@ -17,8 +17,11 @@ pub(crate) enum Next {
     Escaped,
     /// `\_` stands before it: a bracket opens a collection at every level.
     ClassLetter,
-    /// A percent sign stands before it: a bracket opens no collection (`/\%[]`).
-    ListBracket,
+    /// A percent sign stands before it, perhaps with a sign of comparison: a bracket opens no collection
+    /// (`/\%[]`), and a quote begins a mark (`/\%'m`).
+    Percent,
+    /// The quote of a mark stands before it: a bracket is its name.
+    Mark,
     /// It is one of so many characters up to the end of a collection, with its closing bracket.
     Inside(usize),
 }
@@ -81,7 +84,7 @@ fn bracket_opens(level: Level, next: Next) -> bool
     match next {
         Next::Escaped => opens_escaped(level),
         Next::ClassLetter => true,
-        Next::ListBracket => false,
+        Next::Percent | Next::Mark => false,
         Next::Inside(_) => false,
         Next::Free => !opens_escaped(level),
     }
@@ -112,29 +115,47 @@ fn behind_inside(more: usize) -> Next
     }
 }
 
+/// How the next character is read where nothing before this one changes what it is.
+fn plainly_next(level: Level, c: char) -> Next
+    ensures { result ≡ spec.plainly_next level c }
+{
+    match c {
+        '\\' => Next::Escaped,
+        '%' if is_very(level) => Next::Percent,
+        _ => Next::Free,
+    }
+}
+
+/// The same behind a percent sign.
+fn behind_percent(level: Level, c: char) -> Next
+    ensures { result ≡ spec.behind_percent level c }
+{
+    match c {
+        '\'' => Next::Mark,
+        '<' | '>' => Next::Percent,
+        _ => plainly_next(level, c),
+    }
+}
+
+/// The same behind a backslash.
+fn behind_backslash(level: Level, c: char) -> Next
+    ensures { result ≡ spec.behind_backslash level c }
+{
+    match c {
+        '_' => Next::ClassLetter,
+        '%' if !is_very(level) => Next::Percent,
+        _ => Next::Free,
+    }
+}
+
 fn next_by(level: Level, next: Next, c: char) -> Next
     ensures { result ≡ spec.next_by level next c }
 {
     match next {
-        Next::Escaped => {
-            if c == '_' {
-                Next::ClassLetter
-            } else if c == '%' && !is_very(level) {
-                Next::ListBracket
-            } else {
-                Next::Free
-            }
-        }
+        Next::Escaped => behind_backslash(level, c),
+        Next::Percent => behind_percent(level, c),
         Next::Inside(more) => behind_inside(more),
-        _ => {
-            if c == '\\' {
-                Next::Escaped
-            } else if c == '%' && is_very(level) {
-                Next::ListBracket
-            } else {
-                Next::Free
-            }
-        }
+        Next::Free | Next::ClassLetter | Next::Mark => plainly_next(level, c),
     }
 }
 

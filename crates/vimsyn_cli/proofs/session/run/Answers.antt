@@ -1,6 +1,8 @@
 use Rattle.std.proofs.Common.{refl, sym, ◌∙◌}
 use Rattle.program_words.specs.Words.{texts_of}
-use Rattle.vimsyn_cli.proofs.RunLaws.{session_err_or_unread, session_err_part, session_gives, session_out_part, session_read_fault, session_tells, usage_gives, usage_part, usage_part_or}
+use Rattle.vimsyn_cli.specs.declared.status.Status.TheVariants.{Usage}
+use Rattle.vimsyn_cli.specs.Report.{usage_line}
+use Rattle.vimsyn_cli.proofs.RunLaws.{session_err_or_unread, session_err_part, session_gives, session_out_part, session_read_fault, session_tells, err_unfailed, out_unfailed, unfailed_of, usage_gives, usage_part, usage_part_or}
 use Rattle.vimsyn_cli.proofs.session.run.Goals as goal
 
 pub returns-in_default-clause-session : goal.returns-in_default-clause-session
@@ -58,3 +60,14 @@ returns-clause-read_fault_line g c is =
     session_tells (texts_of c.args.words.now) c.in-Some.asked c.carry_out-answer.result _ _ (g.F.Files.longs c.args.files.now) (g.F.Files.longs c.carry_out-answer.new.files) c.deliver.result
     (sym c.read.ensures ∙ c.in-Some.is) c.carry_out-answer.ensures.told c.deliver.ensures c.carry_out-answer.ensures.longs
     (λ other. absurd (cc (is, other))) (λ other. absurd (cc (is, other))) (λ other. absurd (cc (is, other)))
+
+pub returns-in_default-clause-err_unfailed : goal.returns-in_default-clause-err_unfailed
+returns-in_default-clause-err_unfailed g c =
+    unfailed_of (record { before = g.E.Sink.written c.args.err.now; after = g.E.Sink.written c.finish.new.sink; faults = g.E.Sink.faults c.args.err.now; faults_after = g.E.Sink.faults c.finish.new.sink })
+    usage_line Usage c.finish.result c.finish.ensures
+
+pub returns-clause-out_unfailed : goal.returns-clause-out_unfailed
+returns-clause-out_unfailed g c = out_unfailed c.carry_out-answer.result _ _ c.deliver.result c.deliver.ensures
+
+pub returns-clause-err_unfailed : goal.returns-clause-err_unfailed
+returns-clause-err_unfailed g c = err_unfailed c.carry_out-answer.result _ _ c.deliver.result c.deliver.ensures
