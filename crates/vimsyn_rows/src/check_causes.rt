@@ -1,6 +1,6 @@
 //! `check`: each cause for which a syntax file is refused, and each way in which a file can't be had.
 
-use crate::table::{CHECK, Row, compare, differing, refused};
+use crate::table::{CHECK, Row, compare, differing, refused, refused_included};
 use std::test::Fail;
 use vimsyn_cli::Status;
 
@@ -254,7 +254,10 @@ const ROWS: &[Row<'static>] = &[
     ),
     (
         CHECK,
-        &[("s", b"syn include @Sub syntax/sub.vim")],
+        &[(
+            "s",
+            b"syn include @Sub syntax/sub.vim\nsyn region R start=\"<\" end=\">\" contains=@Sub",
+        )],
         "",
         "s:1: ./syntax/sub.vim: no such file\n",
         Status::ReadFault,
@@ -282,6 +285,20 @@ fn each_cause_is_told_at_its_line(rt: HostRuntime) -> Result<(), Fail> {
 #[test]
 fn each_cause_of_a_pattern_is_told_at_its_character(rt: HostRuntime) -> Result<(), Fail> {
     let report = refused(rt.alloc(), PATTERN_CAUSES)?;
+    assert_eq!(rt; report.as_str(), "");
+    Ok(())
+}
+
+#[test]
+fn each_cause_is_told_at_its_line_of_an_included_file(rt: HostRuntime) -> Result<(), Fail> {
+    let report = refused_included(rt.alloc(), CAUSES)?;
+    assert_eq!(rt; report.as_str(), "");
+    Ok(())
+}
+
+#[test]
+fn each_cause_of_a_pattern_is_told_in_an_included_file(rt: HostRuntime) -> Result<(), Fail> {
+    let report = refused_included(rt.alloc(), PATTERN_CAUSES)?;
     assert_eq!(rt; report.as_str(), "");
     Ok(())
 }

@@ -1,6 +1,6 @@
 //! `check`: the limits of syntax files, from both sides.
 
-use crate::table::{CHECK, compare, refused};
+use crate::table::{CHECK, compare, including, refused};
 use itoa::Buffer;
 use std::alloc::{AllocError, Global};
 use std::test::Fail;
@@ -50,6 +50,14 @@ const LIMITS: &[Limit<'static>] = &[
         "",
         "s:1: keyword too long\n",
     ),
+    (
+        "\" c\n\nsyn keyword K ",
+        "a",
+        81,
+        "\nfoo bar",
+        "",
+        "s:3: keyword too long\n",
+    ),
     // 200 characters of a group's name.
     ("syn keyword ", "a", 200, " k", ONE_WORD, ""),
     ("syn keyword ", "a", 201, " k", "", "s:1: bad group name\n"),
@@ -79,6 +87,14 @@ const LIMITS: &[Limit<'static>] = &[
         "",
         "s:1: pattern: pattern too long at 4001\n",
     ),
+    (
+        "\" c\nsyn match M ;",
+        "a",
+        4001,
+        ";\nfoo bar",
+        "",
+        "s:2: pattern: pattern too long at 4001\n",
+    ),
     // Nine groups.
     ("syn match M ;", "\\(a\\)", 9, ";", ONE_ITEM, ""),
     (
@@ -88,6 +104,31 @@ const LIMITS: &[Limit<'static>] = &[
         ";",
         "",
         "s:1: pattern: more than nine groups at 46\n",
+    ),
+    // Nine externals, beside as many groups.
+    (
+        "syn region R start=;",
+        "\\z(a\\)",
+        9,
+        "; end=;b;",
+        ONE_ITEM,
+        "",
+    ),
+    (
+        "syn region R start=;",
+        "\\z(a\\)",
+        10,
+        "; end=;b;",
+        "",
+        "s:1: pattern: more than nine groups at 55\n",
+    ),
+    (
+        "syn region R start=;",
+        "\\(a\\)\\z(a\\)",
+        9,
+        "; end=;b;",
+        ONE_ITEM,
+        "",
     ),
     // 999 includes.
     (
@@ -138,9 +179,64 @@ fn limits_are_met_from_both_sides(rt: HostRuntime) -> Result<(), Fail> {
     Ok(())
 }
 
-/// A pattern of so many levels, each in the one before.
-fn levels(alloc: Global, count: usize) -> Result<String, AllocError> {
-    let mut text = repeated(alloc, "syn match M ;", "\\%(", count, "a")?;
+/// A front, a piece so many times and an end of an included file; the line on `err`.
+const INCLUDED_LIMITS: &[(&str, &str, usize, &str, &str)] = &[
+    (
+        "\n\nsyn keyword K ",
+        "a",
+        81,
+        "\nfoo bar",
+        "./f:3: keyword too long\n",
+    ),
+    (
+        "\nsyn match M ;",
+        "a",
+        4001,
+        ";\nfoo bar",
+        "./f:2: pattern: pattern too long at 4001\n",
+    ),
+    // The file that asks is itself included.
+    (
+        "",
+        "syn include g\n",
+        999,
+        "",
+        "./f:999: too many includes\n",
+    ),
+    (
+        "",
+        "syn keyword A b\n",
+        32_001,
+        "",
+        "./f:32001: too many items\n",
+    ),
+];
+
+#[test]
+fn limits_are_told_at_the_lines_of_an_included_file(rt: HostRuntime) -> Result<(), Fail> {
+    let mut report = String::new(rt.alloc());
+    for (front, piece, count, end, err) in INCLUDED_LIMITS {
+        let text = repeated(rt.alloc(), front, piece, *count, end)?;
+        let files = [
+            ("s", b"\nsyn include f".as_slice()),
+            ("./f", text.as_bytes()),
+            ("./g", b"".as_slice()),
+        ];
+        compare(
+            rt.alloc(),
+            &mut report,
+            (CHECK, &files, "", err, Status::Refused),
+            0,
+        )?;
+    }
+    assert_eq!(rt; report.as_str(), "");
+    Ok(())
+}
+
+/// Behind a front, a pattern of so many levels, each in the one before.
+fn levels(alloc: Global, front: &str, count: usize) -> Result<String, AllocError> {
+    let mut text = String::from_str(alloc, front)?;
+    text.push_str(repeated(alloc, "syn match M ;", "\\%(", count, "a")?.as_str())?;
     for _ in 0..count {
         text.push_str("\\)")?;
     }
@@ -151,16 +247,24 @@ fn levels(alloc: Global, count: usize) -> Result<String, AllocError> {
 #[test]
 fn patterns_have_a_hundred_levels(rt: HostRuntime) -> Result<(), Fail> {
     let mut report = String::new(rt.alloc());
-    for (count, out, err, status) in [
-        (100, ONE_ITEM, "", Status::Done),
+    for (front, count, out, err, status) in [
+        ("", 100, ONE_ITEM, "", Status::Done),
         (
+            "",
             101,
             "",
             "s:1: pattern: nested too deep at 301\n",
             Status::Refused,
         ),
+        (
+            "\" c\n\nsyn case match\n",
+            101,
+            "",
+            "s:4: pattern: nested too deep at 301\n",
+            Status::Refused,
+        ),
     ] {
-        let text = levels(rt.alloc(), count)?;
+        let text = levels(rt.alloc(), front, count)?;
         let files = [("s", text.as_bytes())];
         compare(
             rt.alloc(),
@@ -169,6 +273,22 @@ fn patterns_have_a_hundred_levels(rt: HostRuntime) -> Result<(), Fail> {
             0,
         )?;
     }
+    assert_eq!(rt; report.as_str(), "");
+    Ok(())
+}
+
+#[test]
+fn too_many_levels_are_told_in_an_included_file(rt: HostRuntime) -> Result<(), Fail> {
+    let mut report = String::new(rt.alloc());
+    let text = levels(rt.alloc(), "\n", 101)?;
+    let files = including(text.as_bytes());
+    let err = "./f:2: pattern: nested too deep at 301\n";
+    compare(
+        rt.alloc(),
+        &mut report,
+        (CHECK, &files, "", err, Status::Refused),
+        0,
+    )?;
     assert_eq!(rt; report.as_str(), "");
     Ok(())
 }
@@ -282,12 +402,40 @@ fn files_have_at_most_eight_mebibytes(rt: HostRuntime) -> Result<(), Fail> {
         (CHECK, &files, "", err, Status::Refused),
         0,
     )?;
+    let files = [
+        ("s", b"runtime f".as_slice()),
+        ("./f", b"\n\nsyn include @C g".as_slice()),
+        ("./g", long.as_slice()),
+    ];
+    let err = "./f:3: ./g: file too long\n";
+    compare(
+        rt.alloc(),
+        &mut report,
+        (CHECK, &files, "", err, Status::Refused),
+        0,
+    )?;
     let files = [("s", long.as_slice())];
     let err = "s: file too long\n";
     compare(
         rt.alloc(),
         &mut report,
         (CHECK, &files, "", err, Status::Refused),
+        0,
+    )?;
+    assert_eq!(rt; report.as_str(), "");
+    Ok(())
+}
+
+#[test]
+fn a_file_of_eight_mebibytes_is_accepted(rt: HostRuntime) -> Result<(), Fail> {
+    let mut report = String::new(rt.alloc());
+    let full = vec![in rt.alloc(); b'"'; 8_388_608]?;
+    let files = [("s", full.as_slice())];
+    let out = "items 0\nkeywords 0\nclusters 0\n";
+    compare(
+        rt.alloc(),
+        &mut report,
+        (CHECK, &files, out, "", Status::Done),
         0,
     )?;
     assert_eq!(rt; report.as_str(), "");
@@ -346,6 +494,14 @@ fn there_are_20000_groups(rt: HostRuntime) -> Result<(), Fail> {
     text.push_str("hi link A0 a1\nhi link A0 B\n")?;
     let files = [("s", text.as_bytes())];
     let err = "s:19967: too many groups\n";
+    compare(
+        rt.alloc(),
+        &mut report,
+        (CHECK, &files, "", err, Status::Refused),
+        0,
+    )?;
+    let files = including(text.as_bytes());
+    let err = "./f:19967: too many groups\n";
     compare(
         rt.alloc(),
         &mut report,

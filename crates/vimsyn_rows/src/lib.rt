@@ -9,6 +9,8 @@ mod check_files;
 #[cfg(test)]
 mod check_limits;
 #[cfg(test)]
+mod check_words;
+#[cfg(test)]
 mod outside;
 #[cfg(test)]
 mod rows;

@@ -95,6 +95,31 @@ pub(crate) fn refused(alloc: Global, table: &[(&str, &str)]) -> Result<String, F
     Ok(report)
 }
 
+/// A file `s` whose second line includes a file `./f`.
+pub(crate) fn including<'a>(included: &'a [u8]) -> [(&'a str, &'a [u8]); 2] {
+    [("s", b"\" c\nsyn include f"), ("./f", included)]
+}
+
+/// What differs where the syntax files that are refused stand in an included file: the line on
+/// `err` has its name in place of `s`.
+pub(crate) fn refused_included(alloc: Global, table: &[(&str, &str)]) -> Result<String, Fail> {
+    let mut report = String::new(alloc);
+    for (syntax, err) in table {
+        let files = including(syntax.as_bytes());
+        let mut told = String::from_str(alloc, "./f")?;
+        if let Some(rest) = err.strip_prefix('s') {
+            told.push_str(rest)?;
+        }
+        compare(
+            alloc,
+            &mut report,
+            (CHECK, &files, "", told.as_str(), Status::Refused),
+            0,
+        )?;
+    }
+    Ok(report)
+}
+
 /// What differs of syntax files that are accepted: each with its counts.
 pub(crate) fn counted(alloc: Global, table: &[(&str, &str)]) -> Result<String, Fail> {
     let mut report = String::new(alloc);
