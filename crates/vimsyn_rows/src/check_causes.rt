@@ -179,6 +179,10 @@ const PATTERN_CAUSES: &[(&str, &str)] = &[
         "s:2: pattern: left out: \\Z at 1\n",
     ),
     (
+        "syn match M /x/\nsyn match M /\\%<'[/ contains=a].*",
+        "s:2: pattern: left out: \\%<'[ at 1\n",
+    ),
+    (
         "syn match M /x/\nsyn match M ;[[.a.]];",
         "s:2: pattern: left out: [.a.] at 1\n",
     ),
