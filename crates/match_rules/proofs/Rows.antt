@@ -147,6 +147,11 @@ pub lazy_empty_turn_below_the_least_count : told (against (codes "b" ∷ [])) (s
 unfolding is_same set_has is_member range_holds
 lazy_empty_turn_below_the_least_count = refl
 
+-- `\%(x\{-}\)\{-}b` at 0:0 of `a`
+pub lazy_empty_turn_at_the_least_count : told (against (codes "a" ∷ [])) (seq (repeat (repeat (ch 120) 0 None true) 0 None true) (ch 98)) (place 0 0) ≡ absent 2 (pos 0) (pos 0)
+unfolding is_same set_has is_member range_holds
+lazy_empty_turn_at_the_least_count = refl
+
 -- `\(a*\)*b` at 0:0 of `aa`
 pub nested_counts : told (against (codes "aa" ∷ [])) (seq (repeat (group (repeat (ch 97) 0 None false) 1) 0 None false) (ch 98)) (place 0 0) ≡ absent 11 (pos 0) (pos 0)
 unfolding is_same set_has is_member range_holds
@@ -437,6 +442,11 @@ word_stop = refl
 pub word_stop_at_the_end : told (against (codes "a" ∷ [])) (seq (ch 97) (one WordStop)) (place 0 0) ≡ found (place 0 0) (place 0 1) none no_texts 2 (pos 0) (pos 0)
 unfolding is_same set_has is_member range_holds
 word_stop_at_the_end = refl
+
+-- `a\<` at 0:0 of `a`
+pub no_word_start_at_the_end : told (against (codes "a" ∷ [])) (seq (ch 97) (one WordStart)) (place 0 0) ≡ absent 2 (pos 0) (pos 0)
+unfolding is_same set_has is_member range_holds
+no_word_start_at_the_end = refl
 
 -- `a\n\<` at 0:0 of `a`
 pub no_word_at_the_end : told (against (codes "a" ∷ [])) (seq (ch 97) (seq (one LineEnd) (one WordStart))) (place 0 0) ≡ absent 3 (pos 0) (pos 1)
