@@ -1,11 +1,11 @@
 -- Laws of the last note of each counted group, which the entries name.
 use Rattle.std.proofs.Common.{◌≡◌, ◌≢◌, ℕ, suc, ◌+◌, ◌-◌, ◌<◌, ◌≤◌, Bool, true, false, cond, List, [], ◌∷◌, ◌++◌, length, take, drop, get_or, refl, sym, ap, ◌∙◌, subst, arith, append_assoc}
-use Rattle.std.specs.Prelude.{reverse, replicate, set, nat_eq, Option, Some, None}
+use Rattle.std.specs.Prelude.{reverse, replicate, set, nat_eq, Some, None}
 use Rattle.std.specs.Option.{option_or}
 use Rattle.std.proofs.lemmas.Bool.Decides.{nat_tests}
 use Rattle.std.proofs.lemmas.List.{length-set, get_or-set_same, get_or-set_other, get_or-replicate, length-reverse, length-take-le}
 use Rattle.syn_base.specs.declared.places.Place.{Place}
-use Rattle.match_rules.specs.Ways.{Capture, capture_of}
+use Rattle.match_rules.specs.Ways.{capture_of}
 use Rattle.pattern_match.specs.Entries.{entries_from, AreLinked}
 use Rattle.pattern_match.specs.Threads.{before_of, with_notes, with_last, capture_in, capture_first, IsNumbered, IsLast, NameLast}
 use Rattle.pattern_match.specs.declared.threads.Note.{Note}
