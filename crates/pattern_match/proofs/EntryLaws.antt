@@ -51,7 +51,7 @@ pub linked-push : {X : Type 0} (behind : X → ℕ) (entries : List X) (entry : 
 linked-push behind entries entry h linked =
     rw (reverse-push entries entry) ((omega (arith, length-reverse entries), linked))
 
-reverse-cut : {X : Type 0} (m : ℕ) (entries : List X) → reverse entries ≡ reverse (drop m entries) ++ reverse (take m entries)
+pub reverse-cut : {X : Type 0} (m : ℕ) (entries : List X) → reverse entries ≡ reverse (drop m entries) ++ reverse (take m entries)
 reverse-cut m entries = ap reverse (sym (take-append-drop m entries)) ∙ reverse-append (take m entries) (drop m entries)
 
 pub from-take : {X : Type 0} (behind : X → ℕ) (entries : List X) (m n : ℕ) → m ≤ length entries → n ≤ m
@@ -63,7 +63,7 @@ pub linked-take : {X : Type 0} (behind : X → ℕ) (entries : List X) (m : ℕ)
 linked-take behind entries m linked =
     AreLinked-older behind (reverse (drop m entries)) (reverse (take m entries)) (subst (AreLinked behind) (reverse-cut m entries) linked)
 
-reverse-at : {X : Type 0} (entries : List X) (k : ℕ) (d : X) → k < length entries → reverse entries ≡ (reverse (drop (k + 1) entries) ++ get_or entries k d ∷ []) ++ reverse (take k entries)
+pub reverse-at : {X : Type 0} (entries : List X) (k : ℕ) (d : X) → k < length entries → reverse entries ≡ (reverse (drop (k + 1) entries) ++ get_or entries k d ∷ []) ++ reverse (take k entries)
 reverse-at entries k d h =
     reverse-cut k entries ∙ ap (λ l. reverse l ++ reverse (take k entries)) (drop_more entries k d h) ∙ ap (λ l. l ++ reverse (take k entries)) (reverse-append (get_or entries k d ∷ []) (drop (k + 1) entries))
 

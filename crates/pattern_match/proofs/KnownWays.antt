@@ -1,9 +1,9 @@
 -- Small lists of entries, and the ways that they stand for.
 use Rattle.std.proofs.Common.{◌≡◌, ℕ, List, [], ◌∷◌, refl}
-use Rattle.std.specs.Prelude.{Some, None}
+use Rattle.std.specs.Prelude.{Some, None, replicate}
 use Rattle.match_rules.specs.Ways.{capture_of, place}
 use Rattle.pattern_match.specs.Entries.{entries_from}
-use Rattle.pattern_match.specs.Threads.{with_notes, with_earlier}
+use Rattle.pattern_match.specs.Threads.{with_notes, with_earlier, with_last}
 use Rattle.pattern_match.specs.declared.threads.Note.{Note}
 use Rattle.pattern_match.specs.declared.threads.Note.TheVariants.{Captured, Stop}
 use Rattle.pattern_match.specs.declared.threads.Noted.{Noted}
@@ -29,7 +29,7 @@ pub from_none : entries_from behind three 0 ≡ []
 from_none = refl
 
 abbrev noted : Note → Noted
-noted note = record { note = note; before = 0 }
+noted note = record { note = note; before = 0; last = [] }
 
 -- the last note of a group counts
 abbrev twice : List Noted
@@ -53,3 +53,7 @@ earlier_note_is_covered = refl
 
 pub earlier_note_fills : capture_of (with_earlier (with_notes twice) (Captured 1 (place 0 8) (place 0 9))).captures 1 ≡ Some (place 0 8, place 0 9)
 earlier_note_fills = refl
+
+-- a note is the last one of its group alone
+pub last_of_its_group : with_last (replicate 9 4) (Captured 2 (place 0 1) (place 0 3)) 7 ≡ 4 ∷ 7 ∷ 4 ∷ 4 ∷ 4 ∷ 4 ∷ 4 ∷ 4 ∷ 4 ∷ []
+last_of_its_group = refl

@@ -13,6 +13,7 @@ pub mod WalkLaws
 pub mod TriedLaws
 pub mod FirstAtomLaws
 pub mod NoteLaws
+pub mod LastNoteLaws
 mod KnownWays
 pub mod CodeLaws
 pub mod TableLaws

@@ -6,7 +6,7 @@ use Rattle.std.proofs.lemmas.List.Elements.{All-push, All-take}
 use Rattle.syn_base.specs.declared.places.Place.{Place}
 use Rattle.match_rules.specs.Ways.{Way}
 use Rattle.pattern_match.specs.Entries.{entries_from}
-use Rattle.pattern_match.specs.Threads.{Thread, Ways, next_of, before_of, with_note, with_notes, thread_of, ways_of, IsNumbered, IsWithin, ArePending, AreWays, entries_named}
+use Rattle.pattern_match.specs.Threads.{Thread, Ways, next_of, before_of, with_note, with_notes, thread_of, ways_of, IsNumbered, IsWithin, ArePending, AreWays, entries_named, IsLast, with_last}
 use Rattle.pattern_match.specs.declared.threads.Later.{Later}
 use Rattle.pattern_match.specs.declared.threads.Note.{Note}
 use Rattle.pattern_match.specs.declared.threads.Note.TheVariants.{Captured, External, Start, Stop}
@@ -14,6 +14,7 @@ use Rattle.pattern_match.specs.declared.threads.Noted.{Noted}
 use Rattle.pattern_match.specs.declared.threads.Here.{Here}
 use Rattle.pattern_match.specs.declared.threads.Pending.{Pending}
 use Rattle.pattern_match.proofs.EntryLaws.{entries_from-none, from-pushed, from-push, linked-push, from-take, linked-take, from-at, reverse-push}
+use Rattle.pattern_match.proofs.LastNoteLaws.{NameLast-push, NameLast-take}
 
 -- ---- what stays where entries come or go
 
@@ -69,6 +70,7 @@ cut later later2 notes notes2 l n pending here are e f h k within put_aside =
         linked = linked-take next_of later l are.linked;
         chained = linked-take before_of notes n are.chained;
         numbered = All-take (λ e. IsNumbered e.note) n notes are.numbered;
+        last = NameLast-take notes n are.last;
         within = rw (length-take-le l later h, length-take-le n notes k) within;
         put_aside = rw (length-take-le l later h, length-take-le n notes k) put_aside;
       },
@@ -103,6 +105,7 @@ one_more_to_do {T} later later2 notes pending here w item number are e f g =
         linked = linked-push next_of later entry next are.linked;
         chained = are.chained;
         numbered = are.numbered;
+        last = are.last;
         within = record { next = omega arith; noted = are.within.noted };
         put_aside = ArePending-more (length later) (length notes) (length (later ++ entry ∷ [])) (length notes) (reverse pending) (omega arith) (omega arith) are.put_aside;
       },
@@ -126,7 +129,7 @@ first_entry {T} later notes pending here w entry are e some read =
     let items : entries_from next_of (reverse later) here.next ≡ entry ∷ entries_from next_of (reverse later) entry.next =
     ap (entries_from next_of (reverse later)) (sym number) ∙ at.1 ∙ ap (λ (x : Later T). x ∷ entries_from next_of (reverse later) x.next) (sym read) in (
       omega arith,
-      record { linked = are.linked; chained = are.chained; numbered = are.numbered; within = record { next = omega arith; noted = are.within.noted }; put_aside = are.put_aside },
+      record { linked = are.linked; chained = are.chained; numbered = are.numbered; last = are.last; within = record { next = omega arith; noted = are.within.noted }; put_aside = are.put_aside },
       ap (λ (v : Ways T). v.here.todo) (sym e)
           ∙ ap (λ es. map (λ e. e.item) es) items,
       ap (λ (v : Ways T). v.here.way) (sym e),
@@ -184,17 +187,17 @@ noted_at w (External number from to) p = refl
 noted_at w (Start q) p = refl
 noted_at w (Stop q) p = refl
 
-pub one_more_note : {T : Type 0} (later : List (Later T)) (notes notes2 : List Noted) (pending : List Pending) (here : Here) (w : Ways T) (note : Note) (number : ℕ)
-    → AreWays later notes pending here → ways_of later notes pending here ≡ w → IsNumbered note
-    → notes2 ≡ notes ++ record { note = note; before = here.noted } ∷ [] → number ≡ length notes2
+pub one_more_note : {T : Type 0} (later : List (Later T)) (notes notes2 : List Noted) (pending : List Pending) (here : Here) (w : Ways T) (note : Note) (last own : List ℕ) (number : ℕ)
+    → AreWays later notes pending here → ways_of later notes pending here ≡ w → IsNumbered note → IsLast (reverse notes) here.noted last → own ≡ with_last last note (length notes + 1)
+    → notes2 ≡ notes ++ record { note = note; before = here.noted; last = own } ∷ [] → number ≡ length notes2
     → AreWays later notes2 pending (record here { noted = number })
     × (ways_of later notes2 pending (record here { noted = number }) ≡ record w { here = record w.here { way = with_note w.here.way note } })
-one_more_note {T} later notes notes2 pending here w note number are e numbered f g =
-    let entry : Noted = record { note = note; before = here.noted } in
+one_more_note {T} later notes notes2 pending here w note last own number are e numbered latest is f g =
+    let entry : Noted = record { note = note; before = here.noted; last = own } in
     let more : length (notes ++ entry ∷ []) ≡ length notes + 1 = length-append notes (entry ∷ []) in
-    let last : number ≡ length notes + 1 = g ∙ ap length f ∙ more in
+    let number_is : number ≡ length notes + 1 = g ∙ ap length f ∙ more in
     let before = are.within.noted in
-    let way = ap (λ es. record (with_notes es) { at = here.at }) (from-pushed before_of notes entry number last)
+    let way = ap (λ es. record (with_notes es) { at = here.at }) (from-pushed before_of notes entry number number_is)
     ∙ noted_at (with_notes (entries_from before_of (reverse notes) here.noted)) note here.at in
     let others = same_pending (reverse later) (reverse later) (reverse (notes ++ entry ∷ [])) (reverse notes) (length later) (length notes) (reverse pending)
     (λ k h. refl) (λ k h. from-push before_of notes entry k h) are.put_aside in
@@ -203,6 +206,7 @@ one_more_note {T} later notes notes2 pending here w note number are e numbered f
         linked = are.linked;
         chained = linked-push before_of notes entry before are.chained;
         numbered = All-push (λ e. IsNumbered e.note) notes entry are.numbered numbered;
+        last = NameLast-push notes note here.noted last own before numbered latest is are.last;
         within = record { next = are.within.next; noted = omega arith };
         put_aside = ArePending-more (length later) (length notes) (length later) (length (notes ++ entry ∷ [])) (reverse pending) (omega arith) (omega arith) are.put_aside;
       },
@@ -230,6 +234,7 @@ taken_up {T} later later2 notes notes2 pending pending2 next here w are e f g h 
       linked = are.linked;
       chained = are.chained;
       numbered = are.numbered;
+      last = are.last;
       within = record { next = let low = named.next in omega arith; noted = let low = named.noted in omega arith };
       put_aside = rest;
     } in
@@ -259,6 +264,7 @@ gone_on {T} later later2 notes pending pending2 next here w at are e f g =
       linked = are.linked;
       chained = are.chained;
       numbered = are.numbered;
+      last = are.last;
       within = record { next = let low = named.next in omega arith; noted = are.within.noted };
       put_aside = rest;
     } in
@@ -291,6 +297,7 @@ forgotten {T} later notes pending pending2 here w count are e few f =
         linked = are.linked;
         chained = are.chained;
         numbered = are.numbered;
+        last = are.last;
         within = are.within;
         put_aside = ArePending-older (length later) (length notes) dropped kept (subst (ArePending (length later) (length notes)) parts are.put_aside);
       },

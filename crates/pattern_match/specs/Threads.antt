@@ -1,9 +1,9 @@
 -- The ways of an attempt: the present one with what is still to be done on it, and the pending ones,
 -- the next first.
-use Rattle.std.specs.Prelude.{ℕ, ◌≤◌, Bool, true, false, List, [], ◌∷◌, length, map, reverse, All, None, Some, ◌-◌, nat_eq, set, get_or, if◌then◌else◌}
+use Rattle.std.specs.Prelude.{◌≡◌, ℕ, suc, ◌≤◌, Bool, true, false, List, [], ◌∷◌, length, map, reverse, All, None, Some, ◌-◌, nat_eq, set, get_or, if◌then◌else◌}
 use Rattle.std.specs.Option.{option_or}
 use Rattle.syn_base.specs.declared.places.Place.{Place}
-use Rattle.match_rules.specs.Ways.{Way, Capture, way_from, place, with_capture}
+use Rattle.match_rules.specs.Ways.{Way, Capture, way_from, place, with_capture, capture_of}
 use Rattle.pattern_match.specs.Entries.{entries_from, AreLinked}
 use Rattle.pattern_match.specs.declared.threads.Later.{Later}
 use Rattle.pattern_match.specs.declared.threads.Note.{Note}
@@ -76,10 +76,41 @@ ArePending later notes [] = Unit {0}
 ArePending later notes (p ∷ older) =
     (p.later ≤ later) × (p.notes ≤ notes) × IsWithin p.later p.notes p.here × ArePending p.later p.notes older
 
+-- where a note says that a counted group matched
+abbrev pub capture_in : Note → ℕ → Capture
+capture_in (Captured closed from to) number = if nat_eq closed number then Some (from, to) else None
+capture_in (External closed from to) number = None
+capture_in (Start p) number = None
+capture_in (Stop p) number = None
+
+-- the same of the first of some entries
+abbrev pub capture_first : List Noted → ℕ → Capture
+capture_first [] group = None
+capture_first (entry ∷ older) group = capture_in entry.note group
+
+-- of the entries from the one with a number on, these are the last ones of the counted groups
+pub record IsLast (notes : List Noted) (number : ℕ) (last : List ℕ) : Type 0 where
+  pub nine : length last ≡ 9
+  pub within : (group : ℕ) → 1 ≤ group → group ≤ 9 → get_or last (group - 1) 0 ≤ number
+  pub same : (group : ℕ) → 1 ≤ group → group ≤ 9 → capture_of (with_notes (entries_from before_of notes number)).captures group ≡ capture_first (entries_from before_of notes (get_or last (group - 1) 0)) group
+
+-- each entry names the last ones from itself on
+abbrev pub NameLast : List Noted → Type 0
+NameLast [] = Unit {0}
+NameLast (entry ∷ older) = IsLast (entry ∷ older) (suc (length older)) entry.last × NameLast older
+
+-- the last ones with a note on top, which has a number
+abbrev pub with_last : List ℕ → Note → ℕ → List ℕ
+with_last last (Captured group from to) number = set last (group - 1) number
+with_last last (External group from to) number = last
+with_last last (Start p) number = last
+with_last last (Stop p) number = last
+
 pub record AreWays {T : Type 0} (later : List (Later T)) (notes : List Noted) (pending : List Pending) (here : Here) : Type 0 where
   pub linked : AreLinked next_of (reverse later)
   pub chained : AreLinked before_of (reverse notes)
   pub numbered : All (λ e. IsNumbered e.note) notes
+  pub last : NameLast (reverse notes)
   pub within : IsWithin (length later) (length notes) here
   pub put_aside : ArePending (length later) (length notes) (reverse pending)
 
@@ -97,13 +128,6 @@ place_of false here there = there
 
 abbrev pub found_way : FoundWay → Way
 found_way w = record { at = w.at; captures = w.captures; externals = w.externals; start = w.start; stop = w.stop }
-
--- where a note says that a counted group matched
-abbrev pub capture_in : Note → ℕ → Capture
-capture_in (Captured closed from to) number = if nat_eq closed number then Some (from, to) else None
-capture_in (External closed from to) number = None
-capture_in (Start p) number = None
-capture_in (Stop p) number = None
 
 -- a note that came before all those of a way
 abbrev pub with_earlier_capture : List Capture → ℕ → Place → Place → List Capture

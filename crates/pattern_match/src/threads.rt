@@ -6,7 +6,7 @@
 //! after it are forgotten.
 ghost use Rattle.std.specs.Prelude.{◌≡◌, ◌≤◌, [], ◌∷◌, drop, length, reverse, ◌+◌, ◌-◌, ◌<◌, IfOk, OnOk, MatchOption, ℕ, IsTrue, IsFalse, Some};
 ghost use Rattle.match_rules.specs.Ways.{way_from, with_capture, capture_of};
-ghost use Rattle.pattern_match.specs.Threads.{Thread, with_note, place_of, found_way, IsNumbered, entries_named, capture_in, with_earlier, with_earlier_capture};
+ghost use Rattle.pattern_match.specs.Threads.{Thread, with_note, place_of, found_way, IsNumbered, entries_named, capture_in, with_earlier, with_earlier_capture, IsLast, NameLast, with_last};
 
 use std::alloc::Global;
 use std::marker::Model;
@@ -28,11 +28,13 @@ enum Note {
     Stop(Place),
 }
 
-/// A note, and the number of the one before it.
+/// A note, and the number of the one before it. It names the last note of each counted group too, so
+/// that a group is read in one step, however long the way is.
 #[derive(Clone, Copy)]
 struct Noted {
     note: Note,
     before: usize,
+    last: [usize; 9],
 }
 
 /// Where a way stands, what is to be done first on it, and what it noted last.
@@ -245,9 +247,12 @@ impl<T: Copy> Threads<T> {
         requires { IsNumbered note }
         ensures { OnOk result (self.new ≡ record self.old { here = record self.old.here { way = with_note self.old.here.way note } }) }
     {
+        let last = last_from(&self.notes, self.here.noted);
+        let number = self.notes.len() + 1;
         self.notes.push(Noted {
             note,
             before: self.here.noted,
+            last: with_last(last, note, number),
         })?;
         self.here.noted = self.notes.len();
         Ok(())
@@ -258,15 +263,12 @@ impl<T: Copy> Threads<T> {
         requires { (1 ≤ number) × (number ≤ 9) }
         ensures { result ≡ capture_of self.now.here.way.captures number }
     {
-        let mut at = self.here.noted;
-        while at > 0 {
-            let entry = self.notes[at - 1];
-            if let Some(places) = capture_in(entry.note, number) {
-                return Some(places);
-            }
-            at = entry.before;
+        let last = last_from(&self.notes, self.here.noted);
+        let at = last[number as usize - 1];
+        if at == 0 {
+            return None;
         }
-        None
+        capture_in(self.notes[at - 1].note, number)
     }
 
     /// All that the present way noted.
@@ -298,6 +300,30 @@ fn entries_named(pending: &[Pending]) -> usize
         Some(next) => next.later,
         None => 0,
     }
+}
+
+/// Which entries noted each counted group last, from the one with a number on.
+fn last_from(notes: &[Noted], number: usize) -> [usize; 9]
+    requires known { NameLast (reverse notes.now) }
+    requires within { number ≤ length notes.now }
+    ensures { IsLast (reverse notes.now) number result }
+{
+    if number == 0 {
+        [0; 9]
+    } else {
+        notes[number - 1].last
+    }
+}
+
+/// Which ones did with one more entry, which has that number.
+fn with_last(mut last: [usize; 9], note: Note, number: usize) -> [usize; 9]
+    requires { IsNumbered note }
+    ensures { result ≡ with_last last note number }
+{
+    if let Note::Captured { number: closed, .. } = note {
+        last[closed as usize - 1] = number;
+    }
+    last
 }
 
 /// The one place, or the other.
