@@ -44,16 +44,29 @@ fn nothing_read(alloc: Global) -> Result<Reading, Memory>
 fn syntax_from(reading: Reading) -> Result<Syntax, Memory>
     ensures { IfOk result (λ syntax. syntax ≡ spec.syntax_from reading) }
 {
-    let mut clusters = reading.names.clusters;
+    let Reading {
+        names,
+        items,
+        patterns,
+        keywords,
+        links,
+        sets,
+        ignore: _,
+        include: _,
+    } = reading;
+    let Names {
+        groups,
+        mut clusters,
+    } = names;
     clusters.settle()?;
     Ok(Syntax {
-        items: reading.items,
+        items,
         clusters,
-        groups: reading.names.groups,
-        programs: reading.patterns.into_programs(),
-        keywords: reading.keywords,
-        links: reading.links,
-        sets: reading.sets,
+        groups,
+        programs: patterns.into_programs(),
+        keywords,
+        links,
+        sets,
     })
 }
 
