@@ -1,5 +1,6 @@
 //! A list of values, which contracts see as a list.
-ghost use Rattle.std.specs.Prelude.{◌≡◌, ◌==◌, ◌<◌, [], ◌∷◌, ◌++◌, length, slice_get, Some, OnOk, OnErr};
+ghost use Rattle.std.specs.Prelude.{◌≡◌, ◌==◌, ◌<◌, [], ◌∷◌, ◌++◌, length, slice_get, Some, IfOk, OnOk, OnErr};
+ghost use Rattle.std.specs.Str.{chars};
 
 use crate::Memory;
 use std::alloc::Global;
@@ -81,5 +82,34 @@ impl<T: Drop> List<T> {
     {
         self.values.push(x)?;
         Ok(())
+    }
+}
+
+impl<T: Copy> List<T> {
+    /// A list of these elements.
+    pub fn from_slice(alloc: Global, values: &[T]) -> Result<List<T>, Memory>
+        ensures { IfOk result (λ list. list ≡ values.now) }
+    {
+        Ok(List {
+            values: Vec::from_slice(alloc, values)?,
+        })
+    }
+
+    /// Puts these elements at the end, all of them or, for want of memory, none.
+    pub fn extend_from_slice(&mut self, more: &[T]) -> Result<(), Memory>
+        ensures ok { OnOk result (self.new ≡ self.old ++ more.now) }
+        ensures err { OnErr result (self.new ≡ self.old) }
+    {
+        self.values.extend_from_slice(more)?;
+        Ok(())
+    }
+}
+
+impl List<char> {
+    /// The characters of a text.
+    pub fn from_chars(alloc: Global, text: &str) -> Result<List<char>, Memory>
+        ensures { IfOk result (λ list. list ≡ chars text.now) }
+    {
+        Ok(List::from_vec(text.chars().collect(alloc)?))
     }
 }

@@ -1,0 +1,48 @@
+//! Printing into one buffer of bytes: bytes as they are, numbers in digits, characters as UTF-8.
+//!
+//! What prints lines, pages or causes appends its pieces by these to a buffer that grows, so a text
+//! costs what it writes.
+#![tactic(auto)]
+
+ghost use Rattle.std.specs.Prelude.{◌≡◌, ◌++◌, decimal, encode_utf8, encode_utf8_all, length, OnOk};
+
+use itoa::Buffer;
+use std::alloc::AllocError;
+
+/// Appends bytes.
+pub fn push_bytes(out: &mut Vec<u8>, bytes: &[u8]) -> Result<(), AllocError>
+    ensures { OnOk result (out.new.items ≡ out.old.items ++ bytes.now) }
+{
+    out.extend_from_slice(bytes)
+}
+
+/// Appends a number in decimal digits. It may be one more than the greatest `usize`.
+pub fn push_number(out: &mut Vec<u8>, number: u128) -> Result<(), AllocError>
+    ensures { OnOk result (out.new.items ≡ out.old.items ++ decimal number) }
+{
+    out.extend_from_slice(Buffer::new().format(number).as_bytes())
+}
+
+/// How many digits a number has.
+pub fn width_of(number: u128) -> usize
+    ensures { result ≡ length (decimal number) }
+{
+    Buffer::new().format(number).len()
+}
+
+/// Appends characters as UTF-8.
+pub fn push_chars(out: &mut Vec<u8>, characters: &[char]) -> Result<(), AllocError>
+    ensures { OnOk result (out.new.items ≡ out.old.items ++ encode_utf8_all characters.now) }
+{
+    for c in characters {
+        push_char(out, *c)?;
+    }
+    Ok(())
+}
+
+/// Appends a character as UTF-8.
+pub fn push_char(out: &mut Vec<u8>, c: char) -> Result<(), AllocError>
+    ensures { OnOk result (out.new.items ≡ out.old.items ++ encode_utf8 c) }
+{
+    out.extend_from_slice(c.encode_utf8(&mut [0; 4]).as_bytes())
+}
