@@ -4,7 +4,7 @@
 //! costs what it writes.
 #![tactic(auto)]
 
-ghost use Rattle.std.specs.Prelude.{◌≡◌, ◌++◌, decimal, encode_utf8, encode_utf8_all, length, OnOk};
+ghost use Rattle.std.specs.Prelude.{◌≡◌, ◌+◌, ◌++◌, decimal, encode_utf8, encode_utf8_all, length, OnOk};
 
 use itoa::Buffer;
 use std::alloc::AllocError;
@@ -16,15 +16,23 @@ pub fn push_bytes(out: &mut Vec<u8>, bytes: &[u8]) -> Result<(), AllocError>
     out.extend_from_slice(bytes)
 }
 
-/// Appends a number in decimal digits. It may be one more than the greatest `usize`.
-pub fn push_number(out: &mut Vec<u8>, number: u128) -> Result<(), AllocError>
+/// Appends a number in decimal digits.
+pub fn push_number(out: &mut Vec<u8>, number: usize) -> Result<(), AllocError>
     ensures { OnOk result (out.new.items ≡ out.old.items ++ decimal number) }
 {
     out.extend_from_slice(Buffer::new().format(number).as_bytes())
 }
 
+/// Appends the number, counted from 1, of what has this number counted from 0. The greatest `usize`
+/// has one too.
+pub fn push_number_from_one(out: &mut Vec<u8>, number: usize) -> Result<(), AllocError>
+    ensures { OnOk result (out.new.items ≡ out.old.items ++ decimal (number + 1)) }
+{
+    out.extend_from_slice(Buffer::new().format(number as u128 + 1).as_bytes())
+}
+
 /// How many digits a number has.
-pub fn width_of(number: u128) -> usize
+pub fn width_of(number: usize) -> usize
     ensures { result ≡ length (decimal number) }
 {
     Buffer::new().format(number).len()

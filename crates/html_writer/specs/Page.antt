@@ -4,6 +4,7 @@ use Rattle.std.specs.Prelude.{ℕ, ◌≡◌, ◌<◌, ◌≤◌, ◌+◌, ◌-�
 use Rattle.std.specs.declared.option.Option.{Option}
 use Rattle.std.specs.declared.option.Option.TheVariants.{None, Some}
 use Rattle.std.specs.List.{flat_map, list_any}
+use Rattle.text_scan.specs.Characters.{is_blank, space}
 use Rattle.syn_base.specs.declared.places.GroupId.{GroupId}
 use Rattle.syn_base.specs.declared.places.Span.{Span}
 use Rattle.syntax_set.specs.Groups.{name_of}
@@ -13,13 +14,40 @@ use Rattle.hi_links.specs.Highlights.{has_style, highlight_of}
 use Rattle.hi_links.specs.FinalGroup.{final_group}
 use Rattle.html_writer.specs.declared.PageOptions.{PageOptions}
 
+abbrev pub ampersand : ℕ
+ampersand = 38
+
+abbrev pub less_than : ℕ
+less_than = 60
+
+abbrev pub greater_than : ℕ
+greater_than = 62
+
+abbrev pub double_quote : ℕ
+double_quote = 34
+
+abbrev pub number_sign : ℕ
+number_sign = 35
+
+abbrev pub full_stop : ℕ
+full_stop = 46
+
+abbrev pub backslash : ℕ
+backslash = 92
+
+abbrev pub digit_zero : ℕ
+digit_zero = 48
+
+abbrev pub small_a : ℕ
+small_a = 97
+
 -- a character that means something in a page, as an entity, and any other as it is written
 abbrev pub entity : ℕ → List ℕ → List ℕ
 entity c written =
-    if c == 38 then codes "&amp;"
-    else if c == 60 then codes "&lt;"
-    else if c == 62 then codes "&gt;"
-    else if c == 34 then codes "&quot;"
+    if c == ampersand then codes "&amp;"
+    else if c == less_than then codes "&lt;"
+    else if c == greater_than then codes "&gt;"
+    else if c == double_quote then codes "&quot;"
     else written
 
 abbrev pub entity_of_byte : ℕ → List ℕ
@@ -31,19 +59,20 @@ title_text title = flat_map entity_of_byte title
 
 -- a character of a line; without `pre` spaces and tabs keep their room
 abbrev pub character_text : Bool → ℕ → List ℕ
-character_text pre c = if not pre && (c == 32 || c == 9) then codes "&nbsp;" else entity c (encode_utf8 c)
+character_text pre c = if not pre && is_blank c then codes "&nbsp;" else entity c (encode_utf8 c)
 
 abbrev pub line_text : Bool → List ℕ → List ℕ
 line_text pre line = flat_map (character_text pre) line
 
 -- a digit in base 16, in small letters
 abbrev pub hex_digit : ℕ → ℕ
-hex_digit digit = if nat_lt digit 10 then 48 + digit else 97 + (digit - 10)
+hex_digit digit = if nat_lt digit 10 then digit_zero + digit else small_a + (digit - 10)
 
 -- a colour 0xRRGGBB
 abbrev pub colour_text : ℕ → List ℕ
 colour_text colour =
-    35 ∷ hex_digit (colour / 0x100000 % 16) ∷ hex_digit (colour / 0x10000 % 16) ∷ hex_digit (colour / 0x1000 % 16)
+    number_sign
+    ∷ hex_digit (colour / 0x100000 % 16) ∷ hex_digit (colour / 0x10000 % 16) ∷ hex_digit (colour / 0x1000 % 16)
     ∷ hex_digit (colour / 0x100 % 16) ∷ hex_digit (colour / 0x10 % 16) ∷ hex_digit (colour % 16) ∷ []
 
 abbrev pub colour_part : List ℕ → Option ℕ → List ℕ
@@ -64,7 +93,7 @@ style_text style =
 
 -- a class name in a style line has a backslash before each dot
 abbrev pub selector_byte : ℕ → List ℕ
-selector_byte byte = if byte == 46 then 92 ∷ 46 ∷ [] else byte ∷ []
+selector_byte byte = if byte == full_stop then backslash ∷ full_stop ∷ [] else byte ∷ []
 
 abbrev pub selector_text : List ℕ → List ℕ
 selector_text name = flat_map selector_byte name
@@ -87,18 +116,6 @@ final_groups links spans = map (λ (span : Span). final_group links span.group) 
 abbrev pub shown_groups : List Highlight → List (List Span) → List GroupId
 shown_groups links painting = fold with_used [] (flat_map (final_groups links) painting)
 
--- spans in order, apart from each other, from this column on in a line of this length
-abbrev pub IsFromColumn : ℕ → ℕ → List Span → Type 0
-IsFromColumn column end [] = column ≤ end
-IsFromColumn column end (span ∷ spans) =
-    (column ≤ span.first) × (span.first ≤ span.last) × (span.last < end) × IsFromColumn (span.last + 1) end spans
-
--- each line's spans fit it
-abbrev pub FitLines : List (List ℕ) → List (List Span) → Type 0
-FitLines lines painting =
-    (i : ℕ) (line : List ℕ) (spans : List Span) → Some line ≡ slice_get lines i → Some spans ≡ slice_get painting i
-    → IsFromColumn 0 (length line) spans
-
 -- one span of a line, in the class of its final group
 abbrev pub span_text : List (List ℕ) → List Highlight → Bool → List ℕ → Span → List ℕ
 span_text names links pre line span =
@@ -116,7 +133,7 @@ spanned_text names links pre line column (span ∷ spans) =
 abbrev pub number_text : Bool → ℕ → ℕ → List ℕ
 number_text pre width number =
     codes "<span class=\"LineNr\">"
-    ++ line_text pre (replicate (width - length (decimal number)) 32 ++ decimal number ++ codes " ")
+    ++ line_text pre (replicate (width - length (decimal number)) space ++ decimal number ++ codes " ")
     ++ codes "</span>"
 
 -- how a line ends

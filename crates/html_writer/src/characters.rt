@@ -2,8 +2,11 @@
 ghost use Rattle.std.specs.Prelude.{◌≡◌, ◌++◌, OnOk, replicate};
 ghost use Rattle.std.specs.List.{flat_map};
 ghost use Rattle.html_writer.specs.Page.{character_text, entity_of_byte, line_text, title_text};
+ghost use Rattle.text_scan.specs.Characters.{space};
 
+use byte_text::push_char;
 use std::alloc::AllocError;
+use text_scan::is_blank;
 
 /// Appends the text of a title.
 pub(crate) fn push_title(page: &mut Vec<u8>, title: &str) -> Result<(), AllocError>
@@ -50,7 +53,7 @@ pub(crate) fn push_bytes(page: &mut Vec<u8>, pre: bool, bytes: &[u8]) -> Result<
 
 /// Appends so many spaces.
 pub(crate) fn push_spaces(page: &mut Vec<u8>, pre: bool, count: usize) -> Result<(), AllocError>
-    ensures { OnOk result (page.new.items ≡ page.old.items ++ line_text pre (replicate count 32)) }
+    ensures { OnOk result (page.new.items ≡ page.old.items ++ line_text pre (replicate count space)) }
 {
     for _space in 0..count {
         push_character(page, pre, ' ')?;
@@ -62,7 +65,7 @@ pub(crate) fn push_spaces(page: &mut Vec<u8>, pre: bool, count: usize) -> Result
 fn push_character(page: &mut Vec<u8>, pre: bool, c: char) -> Result<(), AllocError>
     ensures { OnOk result (page.new.items ≡ page.old.items ++ character_text pre c) }
 {
-    if !pre && (c == ' ' || c == '\t') {
+    if !pre && is_blank(c) {
         return page.extend_from_slice(b"&nbsp;");
     }
     match c {
@@ -70,6 +73,6 @@ fn push_character(page: &mut Vec<u8>, pre: bool, c: char) -> Result<(), AllocErr
         '<' => page.extend_from_slice(b"&lt;"),
         '>' => page.extend_from_slice(b"&gt;"),
         '"' => page.extend_from_slice(b"&quot;"),
-        _ => page.extend_from_slice(c.encode_utf8(&mut [0; 4]).as_bytes()),
+        _ => push_char(page, c),
     }
 }

@@ -1,6 +1,7 @@
 //! The page as a whole.
 ghost use Rattle.std.specs.Prelude.{◌≡◌, ◌++◌, length, IfOk, OnOk};
-ghost use Rattle.html_writer.specs.Page.{body_end, body_start, element, FitLines, head_text, page_text, start_text};
+ghost use Rattle.html_writer.specs.Page.{body_end, body_start, element, head_text, page_text, start_text};
+ghost use Rattle.syn_base.specs.SpansFit.{FitLines};
 
 use crate::PageOptions;
 use crate::characters::push_title;

@@ -1,11 +1,13 @@
 //! Lines of a page: their spans, and the text between them.
 ghost use Rattle.std.specs.Prelude.{◌≡◌, ◌<◌, ◌≤◌, ◌++◌, decimal, length, OnOk};
-ghost use Rattle.html_writer.specs.Page.{FitLines, IsFromColumn, line_end, lines_text, span_text, spanned_text};
+ghost use Rattle.html_writer.specs.Page.{line_end, lines_text, span_text, spanned_text};
+ghost use Rattle.syn_base.specs.SpansFit.{FitLines, IsFromColumn};
 
 use crate::PageOptions;
 use crate::characters::push_line;
-use crate::numbers::{push_number_if, width_of};
+use crate::numbers::push_number_if;
 use crate::styles::push_if;
+use byte_text::width_of;
 use hi_links::Links;
 use std::alloc::AllocError;
 use syn_base::{Colours, Lines, Span};

@@ -1,5 +1,5 @@
 ghost use Rattle.std.specs.Prelude.{[], ◌∷◌, length};
-ghost use Rattle.html_writer.specs.Page.{IsFromColumn};
+ghost use Rattle.syn_base.specs.SpansFit.{IsFromColumn};
 
 use crate::{PageOptions, page};
 use hi_links::Links;

@@ -22,10 +22,15 @@ abbrev pub line_text : List (List ℕ) → List Highlight → ℕ → List Span 
 line_text names links number [] true = decimal (number + 1) ++ codes ":-\n"
 line_text names links number spans dash = spans_text names links number spans
 
+-- what begins the head and the refusal of command k
+abbrev pub mark_text : ℕ → List ℕ
+mark_text k = codes "@" ++ decimal k
+
 -- the head of command k
 abbrev pub head_text : ℕ → List ℕ
-head_text k = codes "@" ++ decimal k ++ codes "\n"
+head_text k = mark_text k ++ codes "\n"
 
 -- the refusal of command k, which stands in the script line of this number
 abbrev pub refusal_text : ℕ → ℕ → List ℕ → List ℕ
-refusal_text k line cause = codes "@" ++ decimal k ++ codes " ? " ++ decimal (line + 1) ++ codes " " ++ cause ++ codes "\n"
+refusal_text k line cause =
+    mark_text k ++ codes " ? " ++ decimal (line + 1) ++ codes " " ++ cause ++ codes "\n"

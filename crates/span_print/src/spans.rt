@@ -1,9 +1,9 @@
 //! The texts.
-ghost use Rattle.std.specs.Prelude.{◌≡◌, ◌<◌, ◌++◌, All, decimal, IfOk, OnOk};
-ghost use Rattle.span_print.specs.SpanText.{head_text, line_text, refusal_text, span_text, spans_text};
+ghost use Rattle.std.specs.Prelude.{◌≡◌, ◌<◌, ◌++◌, All, IfOk, OnOk};
+ghost use Rattle.span_print.specs.SpanText.{head_text, line_text, mark_text, refusal_text, span_text, spans_text};
 
+use byte_text::{push_bytes, push_number, push_number_from_one};
 use hi_links::Links;
-use itoa::Buffer;
 use std::alloc::{AllocError, Global};
 use syn_base::{List, Memory, Span};
 use syntax_set::Groups;
@@ -24,8 +24,8 @@ pub fn span_text(
 {
     let mut out = Vec::new(alloc);
     if spans.is_empty() && dash {
-        print_number(&mut out, number + 1)?;
-        print_bytes(&mut out, b":-\n")?;
+        push_number_from_one(&mut out, number)?;
+        push_bytes(&mut out, b":-\n")?;
     }
     for span in spans {
         print_span(&mut out, number, span, groups, links)?;
@@ -38,9 +38,8 @@ pub fn head_text(alloc: Global, k: usize) -> Result<List<u8>, Memory>
     ensures { IfOk result (λ bytes. bytes ≡ head_text k) }
 {
     let mut out = Vec::new(alloc);
-    print_bytes(&mut out, b"@")?;
-    print_number(&mut out, k)?;
-    print_bytes(&mut out, b"\n")?;
+    print_mark(&mut out, k)?;
+    push_bytes(&mut out, b"\n")?;
     Ok(List::from_vec(out))
 }
 
@@ -50,14 +49,21 @@ pub fn refusal_text(alloc: Global, k: usize, line: usize, cause: &[u8]) -> Resul
     ensures { IfOk result (λ bytes. bytes ≡ refusal_text k line cause.now) }
 {
     let mut out = Vec::new(alloc);
-    print_bytes(&mut out, b"@")?;
-    print_number(&mut out, k)?;
-    print_bytes(&mut out, b" ? ")?;
-    print_number(&mut out, line + 1)?;
-    print_bytes(&mut out, b" ")?;
-    print_bytes(&mut out, cause)?;
-    print_bytes(&mut out, b"\n")?;
+    print_mark(&mut out, k)?;
+    push_bytes(&mut out, b" ? ")?;
+    push_number_from_one(&mut out, line)?;
+    push_bytes(&mut out, b" ")?;
+    push_bytes(&mut out, cause)?;
+    push_bytes(&mut out, b"\n")?;
     Ok(List::from_vec(out))
+}
+
+/// Appends the mark of command `k`.
+fn print_mark(out: &mut Vec<u8>, k: usize) -> Result<(), AllocError>
+    ensures { OnOk result (out.new.items ≡ out.old.items ++ mark_text k) }
+{
+    push_bytes(out, b"@")?;
+    push_number(out, k)
 }
 
 /// Appends the line of one span.
@@ -72,27 +78,15 @@ fn print_span(
     requires columns { (span.now.first < usize.MAX) × (span.now.last < usize.MAX) }
     ensures { OnOk result (out.new.items ≡ out.old.items ++ span_text groups.now links.now number span.now) }
 {
-    print_number(out, number + 1)?;
-    print_bytes(out, b":")?;
-    print_number(out, span.first + 1)?;
-    print_bytes(out, b"-")?;
-    print_number(out, span.last + 1)?;
-    print_bytes(out, b" ")?;
-    print_bytes(out, groups.name(span.group).as_bytes())?;
-    print_bytes(out, b" ")?;
-    print_bytes(out, groups.name(links.final_group(span.group)).as_bytes())?;
-    print_bytes(out, b"\n")?;
+    push_number_from_one(out, number)?;
+    push_bytes(out, b":")?;
+    push_number_from_one(out, span.first)?;
+    push_bytes(out, b"-")?;
+    push_number_from_one(out, span.last)?;
+    push_bytes(out, b" ")?;
+    push_bytes(out, groups.name(span.group).as_bytes())?;
+    push_bytes(out, b" ")?;
+    push_bytes(out, groups.name(links.final_group(span.group)).as_bytes())?;
+    push_bytes(out, b"\n")?;
     Ok(())
-}
-
-fn print_number(out: &mut Vec<u8>, number: usize) -> Result<(), AllocError>
-    ensures { OnOk result (out.new.items ≡ out.old.items ++ decimal number) }
-{
-    out.extend_from_slice(Buffer::new().format(number).as_bytes())
-}
-
-fn print_bytes(out: &mut Vec<u8>, bytes: &[u8]) -> Result<(), AllocError>
-    ensures { OnOk result (out.new.items ≡ out.old.items ++ bytes.now) }
-{
-    out.extend_from_slice(bytes)
 }

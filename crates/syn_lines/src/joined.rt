@@ -1,11 +1,12 @@
 //! One physical line more.
-ghost use Rattle.std.specs.Prelude.{◌≡◌, [], ◌∷◌, ◌++◌, IfOk, OnOk, MatchOption};
+ghost use Rattle.std.specs.Prelude.{◌≡◌, IfOk};
 ghost use Rattle.syn_lines.specs.Continuation as spec;
 ghost use Rattle.syn_lines.specs.Joining.{ended, seen, with_line};
 
 use crate::LogicalLine;
 use std::alloc::Global;
 use syn_base::{List, Memory};
+use text_scan::{front, is_blank, past_blanks};
 
 /// What a physical line is to the line before it.
 #[derive(Clone, Copy)]
@@ -22,34 +23,6 @@ pub(crate) enum Kind<'a> {
 pub(crate) struct Joined {
     pub done: List<LogicalLine>,
     pub current: LogicalLine,
-}
-
-fn front(text: &[char]) -> Option<(char, &[char])>
-    ensures { MatchOption result (text.now ≡ []) (λ p. text.now ≡ p.0 ∷ p.1.now) }
-{
-    match text.split_first() {
-        None => None,
-        Some((c, rest)) => Some((*c, rest)),
-    }
-}
-
-fn is_blank(c: char) -> bool
-    ensures { result ≡ spec.is_blank c }
-{
-    c == ' ' || c == '\t'
-}
-
-fn past_blanks(text: &[char]) -> &[char]
-    ensures { result.now ≡ spec.past_blanks text.now }
-{
-    let mut rest = text;
-    while let Some((c, more)) = front(rest) {
-        if !is_blank(c) {
-            break;
-        }
-        rest = more;
-    }
-    rest
 }
 
 /// Whether a remark goes on so behind its quote.
@@ -81,16 +54,6 @@ fn kind_of(text: &[char]) -> Kind<'_>
     }
 }
 
-/// Puts characters behind others.
-fn push_all(text: &mut List<char>, more: &[char]) -> Result<(), Memory>
-    ensures { OnOk result (text.new ≡ text.old ++ more.now) }
-{
-    for c in more {
-        text.push(*c)?;
-    }
-    Ok(())
-}
-
 /// One physical line more, of this number.
 pub(crate) fn with_line(
     alloc: Global,
@@ -109,7 +72,7 @@ pub(crate) fn with_line(
         Kind::Continues(more) => {
             let first = current.number;
             let mut text = current.text;
-            push_all(&mut text, more)?;
+            text.extend_from_slice(more)?;
             current = LogicalLine {
                 number: first,
                 text,

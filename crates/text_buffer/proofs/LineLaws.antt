@@ -8,14 +8,14 @@ use Rattle.std.proofs.lemmas.List.{append_assoc, drop-drop, drop_all}
 use Rattle.std.proofs.lemmas.Grind.{common_steps}
 use Rattle.std.proofs.lemmas.Bool.{false_from_ne_true, lt-ltb, le-ltb}
 use Rattle.memchr.specs.Find.{NoneBefore, Nowhere, Passes, is_byte}
-use Rattle.text_buffer.specs.declared.TheConstants.{LINE_BREAK, MOST_CHARS, MOST_LINES}
+use Rattle.text_buffer.specs.TextOfBytes.{line_break, most_chars, most_lines}
 use Rattle.text_buffer.specs.declared.TextError.{TextError}
 use Rattle.text_buffer.specs.TextOfBytes.{pieces_of, longer_first, without_empty_last, lines_of_pieces, byte_lines, line_fault}
 use Rattle.text_buffer.specs.Reading.{lines_after, lines_behind_break, read_on}
 
 -- no line break before place j
 abbrev pub IsUnbroken : List ℕ → ℕ → Type 0
-IsUnbroken bytes j = Nowhere (Passes (is_byte LINE_BREAK) bytes) 0 j
+IsUnbroken bytes j = Nowhere (Passes (is_byte line_break) bytes) 0 j
 
 -- behind the first byte, which is no line break, there is none either
 unbroken_rest : (byte : ℕ) (bytes : List ℕ) (j : ℕ) → IsUnbroken (byte ∷ bytes) (suc j) → IsUnbroken bytes j
@@ -25,23 +25,23 @@ unbroken_rest byte bytes j none k low below = none (suc k) (omega arith) (omega 
 pub pieces_whole : (bytes : List ℕ) → IsUnbroken bytes (length bytes) → pieces_of bytes ≡ bytes ∷ []
 pieces_whole [] none = refl
 pieces_whole (byte ∷ bytes) none =
-    let first : (byte == LINE_BREAK) ≡ false = false_from_ne_true (byte == LINE_BREAK) (none 0 (omega arith) (omega arith)) in
+    let first : (byte == line_break) ≡ false = false_from_ne_true (byte == line_break) (none 0 (omega arith) (omega arith)) in
     let rest : pieces_of bytes ≡ bytes ∷ [] = pieces_whole bytes (unbroken_rest byte bytes (length bytes) (grind (arith, none))) in
     rw (first, rest) refl
 
 -- the first piece ends at the first line break
-pub pieces_broken : (bytes : List ℕ) (k : ℕ) → k < length bytes → Passes (is_byte LINE_BREAK) bytes k → IsUnbroken bytes k → pieces_of bytes ≡ take k bytes ∷ pieces_of (drop (suc k) bytes)
+pub pieces_broken : (bytes : List ℕ) (k : ℕ) → k < length bytes → Passes (is_byte line_break) bytes k → IsUnbroken bytes k → pieces_of bytes ≡ take k bytes ∷ pieces_of (drop (suc k) bytes)
 pieces_broken [] k within at_break none = absurd (omega arith)
 pieces_broken (byte ∷ bytes) zero within at_break none = rw at_break refl
 pieces_broken (byte ∷ bytes) (suc k) within at_break none =
-    let first : (byte == LINE_BREAK) ≡ false = false_from_ne_true (byte == LINE_BREAK) (none 0 (omega arith) (omega arith)) in
+    let first : (byte == line_break) ≡ false = false_from_ne_true (byte == line_break) (none 0 (omega arith) (omega arith)) in
     let rest : pieces_of bytes ≡ take k bytes ∷ pieces_of (drop (suc k) bytes) = pieces_broken bytes k (omega arith) at_break (unbroken_rest byte bytes k none) in
     rw (first, rest) refl
 
 -- there is a first piece
 pieces_some : (bytes : List ℕ) → (first : List ℕ) × (rest : List (List ℕ)) × (pieces_of bytes ≡ first ∷ rest)
 pieces_some [] = ([], [], refl)
-pieces_some (byte ∷ bytes) = put (byte == LINE_BREAK) byte (pieces_of bytes)
+pieces_some (byte ∷ bytes) = put (byte == line_break) byte (pieces_of bytes)
   where
     put : (breaks : Bool) (byte : ℕ) (pieces : List (List ℕ)) → (first : List ℕ) × (rest : List (List ℕ)) × ((if breaks then [] ∷ pieces else longer_first byte pieces) ≡ first ∷ rest)
     put true byte pieces = ([], pieces, refl)
@@ -59,10 +59,10 @@ lines_behind : (bytes : List ℕ) → without_empty_last (pieces_of bytes) ≡ l
 lines_behind [] = refl
 lines_behind (byte ∷ bytes) =
     let some = pieces_some bytes in
-    rw some.2 (behind (byte == LINE_BREAK) byte some.0 some.1)
+    rw some.2 (behind (byte == line_break) byte some.0 some.1)
 
 -- the lines of bytes whose first line break is at k
-lines_broken : (bytes : List ℕ) (k : ℕ) → k < length bytes → Passes (is_byte LINE_BREAK) bytes k → IsUnbroken bytes k → byte_lines bytes ≡ take k bytes ∷ lines_behind_break (drop (suc k) bytes)
+lines_broken : (bytes : List ℕ) (k : ℕ) → k < length bytes → Passes (is_byte line_break) bytes k → IsUnbroken bytes k → byte_lines bytes ≡ take k bytes ∷ lines_behind_break (drop (suc k) bytes)
 lines_broken bytes k within at_break none =
     rw (pieces_broken bytes k within at_break none, lines_behind (drop (suc k) bytes)) refl
 
@@ -71,16 +71,16 @@ rest_of : (bytes : List ℕ) (at : ℕ) → take (length bytes - at) (drop at by
 rest_of bytes at = grind (arith, common_steps)
 
 -- the lines from `at` on, where the first line break is `count` places further
-pub lines_to_break : (bytes : List ℕ) (at count : ℕ) → at ≤ length bytes → (let rest = take (length bytes - at) (drop at bytes) in (NoneBefore (Passes (is_byte LINE_BREAK) rest) 0 (length rest) count) × Passes (is_byte LINE_BREAK) rest count) → byte_lines (drop at bytes) ≡ slice_range bytes at (at + count) ∷ lines_after bytes (at + count + 1)
+pub lines_to_break : (bytes : List ℕ) (at count : ℕ) → at ≤ length bytes → (let rest = take (length bytes - at) (drop at bytes) in (NoneBefore (Passes (is_byte line_break) rest) 0 (length rest) count) × Passes (is_byte line_break) rest count) → byte_lines (drop at bytes) ≡ slice_range bytes at (at + count) ∷ lines_after bytes (at + count + 1)
 lines_to_break bytes at count within found =
     let rest : take (length bytes - at) (drop at bytes) ≡ drop at bytes = rest_of bytes at in
-    let found' : (NoneBefore (Passes (is_byte LINE_BREAK) (drop at bytes)) 0 (length (drop at bytes)) count) × Passes (is_byte LINE_BREAK) (drop at bytes) count = rw rest at found in
+    let found' : (NoneBefore (Passes (is_byte line_break) (drop at bytes)) 0 (length (drop at bytes)) count) × Passes (is_byte line_break) (drop at bytes) count = rw rest at found in
     let next : drop (at + count + 1) bytes ≡ drop (suc count) (drop at bytes) = ap (λ n. drop n bytes) (omega arith) ∙ sym (drop-drop (suc count) at bytes) in
     let part : at + count - at ≡ count = omega arith in
     rw (next, part) (lines_broken (drop at bytes) count (found'.0).high found'.1 (found'.0).before)
 
 -- the lines from `at` on, where no line break comes
-pub lines_to_end : (bytes : List ℕ) (at : ℕ) → at ≤ length bytes → (let rest = take (length bytes - at) (drop at bytes) in Nowhere (Passes (is_byte LINE_BREAK) rest) 0 (length rest)) → byte_lines (drop at bytes) ≡ slice_range bytes at (length bytes) ∷ lines_after bytes (length bytes + 1)
+pub lines_to_end : (bytes : List ℕ) (at : ℕ) → at ≤ length bytes → (let rest = take (length bytes - at) (drop at bytes) in Nowhere (Passes (is_byte line_break) rest) 0 (length rest)) → byte_lines (drop at bytes) ≡ slice_range bytes at (length bytes) ∷ lines_after bytes (length bytes + 1)
 lines_to_end bytes at within none =
     let rest : take (length bytes - at) (drop at bytes) ≡ drop at bytes = rest_of bytes at in
     let none' : IsUnbroken (drop at bytes) (length (drop at bytes)) = rw rest at none in
@@ -94,19 +94,19 @@ bad_line number bytes bad =
     rw test refl
 
 -- a line of too many characters
-pub long_line : (number : ℕ) (bytes : List ℕ) → IsUtf8 bytes → MOST_CHARS < length (chars bytes) → line_fault number bytes ≡ Some (LineTooLong number)
+pub long_line : (number : ℕ) (bytes : List ℕ) → IsUtf8 bytes → most_chars < length (chars bytes) → line_fault number bytes ≡ Some (LineTooLong number)
 long_line number bytes good long =
-    rw (is_utf8-from_IsUtf8 bytes good, lt-ltb MOST_CHARS (length (chars bytes)) long) refl
+    rw (is_utf8-from_IsUtf8 bytes good, lt-ltb most_chars (length (chars bytes)) long) refl
 
 -- a line too many
-pub line_too_many : (number : ℕ) (bytes : List ℕ) → IsUtf8 bytes → length (chars bytes) ≤ MOST_CHARS → MOST_LINES ≤ number → line_fault number bytes ≡ Some TooManyLines
+pub line_too_many : (number : ℕ) (bytes : List ℕ) → IsUtf8 bytes → length (chars bytes) ≤ most_chars → most_lines ≤ number → line_fault number bytes ≡ Some TooManyLines
 line_too_many number bytes good short many =
-    rw (is_utf8-from_IsUtf8 bytes good, le-ltb MOST_CHARS (length (chars bytes)) short, le-ltb number MOST_LINES many) refl
+    rw (is_utf8-from_IsUtf8 bytes good, le-ltb most_chars (length (chars bytes)) short, le-ltb number most_lines many) refl
 
 -- a line without a fault
-pub good_line : (number : ℕ) (bytes : List ℕ) → IsUtf8 bytes → length (chars bytes) ≤ MOST_CHARS → number < MOST_LINES → line_fault number bytes ≡ None
+pub good_line : (number : ℕ) (bytes : List ℕ) → IsUtf8 bytes → length (chars bytes) ≤ most_chars → number < most_lines → line_fault number bytes ≡ None
 good_line number bytes good short few =
-    rw (is_utf8-from_IsUtf8 bytes good, le-ltb MOST_CHARS (length (chars bytes)) short, lt-ltb number MOST_LINES few) refl
+    rw (is_utf8-from_IsUtf8 bytes good, le-ltb most_chars (length (chars bytes)) short, lt-ltb number most_lines few) refl
 
 -- a line without a fault joins those that were read
 pub read_further : (lines : List (List ℕ)) (line : List ℕ) (coming : List (List ℕ)) → line_fault (length lines) line ≡ None → read_on lines (line ∷ coming) ≡ read_on (lines ++ chars line ∷ []) coming

@@ -3,9 +3,19 @@
 -- refused at its first line that isn't UTF-8, is too long, or is one line too many.
 use Rattle.std.specs.Prelude.{ℕ, suc, ◌==◌, nat_lt, not, List, [], ◌∷◌, length, map, Option, Some, None, Result, Ok, Err, if◌then◌else◌}
 use Rattle.std.specs.Str.{chars, is_utf8}
-use Rattle.text_buffer.specs.declared.TheConstants.{MOST_LINES, MOST_CHARS, LINE_BREAK}
 use Rattle.text_buffer.specs.declared.TextError.{TextError}
 use Rattle.text_buffer.specs.declared.TextError.TheVariants.{BadUtf8, LineTooLong, TooManyLines, Memory}
+
+-- LF
+abbrev pub line_break : ℕ
+line_break = 10
+
+abbrev pub most_lines : ℕ
+most_lines = 2000000
+
+-- the most characters of a line
+abbrev pub most_chars : ℕ
+most_chars = 1000000
 
 -- a byte put before the first of these pieces
 abbrev pub longer_first : ℕ → List (List ℕ) → List (List ℕ)
@@ -17,7 +27,7 @@ abbrev pub pieces_of : List ℕ → List (List ℕ)
 pieces_of [] = [] ∷ []
 pieces_of (byte ∷ bytes) =
     let pieces = pieces_of bytes in
-    if byte == LINE_BREAK then [] ∷ pieces else longer_first byte pieces
+    if byte == line_break then [] ∷ pieces else longer_first byte pieces
 
 -- these pieces, without the last one where it is empty
 abbrev pub without_empty_last : List (List ℕ) → List (List ℕ)
@@ -39,14 +49,14 @@ byte_lines bytes = lines_of_pieces (pieces_of bytes)
 abbrev pub line_fault : ℕ → List ℕ → Option TextError
 line_fault number bytes =
     if not (is_utf8 bytes) then Some (BadUtf8 number)
-    else (if nat_lt MOST_CHARS (length (chars bytes)) then Some (LineTooLong number)
-    else (if nat_lt number MOST_LINES then None else Some TooManyLines))
+    else (if nat_lt most_chars (length (chars bytes)) then Some (LineTooLong number)
+    else (if nat_lt number most_lines then None else Some TooManyLines))
 
 -- the line that a fault names, from 0
 abbrev pub line_of_fault : TextError → ℕ
 line_of_fault (BadUtf8 line) = line
 line_of_fault (LineTooLong line) = line
-line_of_fault TooManyLines = MOST_LINES
+line_of_fault TooManyLines = most_lines
 line_of_fault Memory = 0
 
 -- the first of two faults, if there is one

@@ -5,13 +5,14 @@
 #![tactic(auto)]
 
 ghost use Rattle.std.specs.Prelude.{◌≡◌, ◌≢◌, ◌≤◌, Ok, Err, IfOk, IfErr};
-ghost use Rattle.text_buffer.specs.TextOfBytes.{line_of_fault, text_of};
+ghost use Rattle.text_buffer.specs.TextOfBytes.{line_of_fault, most_lines, text_of};
 
 mod reading;
 
-use std::alloc::{AllocError, AllocFailed, Global};
+pub use reading::line_end;
+use std::alloc::{AllocFailed, Global};
 use std::marker::Model;
-use syn_base::{Lines, List};
+use syn_base::{Lines, List, Memory};
 
 /// The most lines that a text has.
 pub const MOST_LINES: usize = 2_000_000;
@@ -35,12 +36,12 @@ pub enum TextError {
     Memory,
 }
 
-impl From<AllocError> for TextError {
+impl From<Memory> for TextError {
     ghost use Rattle.text_buffer.specs.declared.TextError.TheVariants as cause;
 
     ghost from_gives = { λ _ e. e ≡ cause.Memory };
 
-    fn from(_: AllocError) -> TextError {
+    fn from(_: Memory) -> TextError {
         TextError::Memory
     }
 }
@@ -63,13 +64,13 @@ pub struct Text {
 
 impl Model for Text {
     ghost use Rattle.std.specs.Prelude.{◌<◌, ◌≤◌, List, ℕ, length};
-    ghost use Rattle.text_buffer.specs.declared.TheConstants.{MOST_LINES};
+    ghost use Rattle.text_buffer.specs.TextOfBytes.{most_lines};
 
     ghost Value = { List (List ℕ) };
 
     ghost view = { λ t. t.lines };
 
-    ghost invariant = { λ t. (0 < length t.lines) × (length t.lines ≤ MOST_LINES) };
+    ghost invariant = { λ t. (0 < length t.lines) × (length t.lines ≤ most_lines) };
 }
 
 impl Text {
@@ -79,7 +80,7 @@ impl Text {
         ensures text { IfOk result (λ text. text_of bytes.now ≡ Ok text) }
         ensures fault { IfErr result (λ fault. fault ≢ TextError.Memory → text_of bytes.now ≡ Err fault) }
         // The line of a fault is at most the one that is one too many.
-        ensures near { IfErr result (λ fault. line_of_fault fault ≤ MOST_LINES) }
+        ensures near { IfErr result (λ fault. line_of_fault fault ≤ most_lines) }
     {
         let lines = reading::read_lines(alloc, bytes)?;
         Ok(Text {

@@ -2,20 +2,20 @@
 ghost use Rattle.std.specs.Prelude.{◌≡◌, ◌≢◌, ◌<◌, ◌≤◌, ◌+◌, ◌++◌, [], ◌∷◌, Ok, Err, None, Some, IfOk, IfErr, drop, length, slice_range, vec_len};
 ghost use Rattle.std.specs.Str.{chars};
 ghost use Rattle.text_buffer.specs.Reading.{lines_after, read_on};
-ghost use Rattle.text_buffer.specs.TextOfBytes.{byte_lines, line_fault, line_of_fault, text_of};
+ghost use Rattle.text_buffer.specs.TextOfBytes.{byte_lines, line_fault, line_of_fault, most_lines, text_of};
 
 use super::{LINE_BREAK, Line, MOST_CHARS, MOST_LINES, TextError};
 use memchr::memchr;
-use std::alloc::{AllocError, Global};
+use std::alloc::Global;
 use syn_base::List;
 
 /// The lines of the bytes.
 pub(super) fn read_lines(alloc: Global, bytes: &[u8]) -> Result<Vec<Line>, TextError>
     ensures lines { IfOk result (λ lines. text_of bytes.now ≡ Ok lines.items) }
     ensures some { IfOk result (λ lines. 0 < vec_len lines) }
-    ensures few { IfOk result (λ lines. vec_len lines ≤ MOST_LINES) }
+    ensures few { IfOk result (λ lines. vec_len lines ≤ most_lines) }
     ensures fault { IfErr result (λ fault. fault ≢ TextError.Memory → text_of bytes.now ≡ Err fault) }
-    ensures near { IfErr result (λ fault. line_of_fault fault ≤ MOST_LINES) }
+    ensures near { IfErr result (λ fault. line_of_fault fault ≤ most_lines) }
 {
     let mut lines = Vec::new(alloc);
     let mut at = push_line(alloc, &mut lines, bytes, 0)?;
@@ -25,8 +25,9 @@ pub(super) fn read_lines(alloc: Global, bytes: &[u8]) -> Result<Vec<Line>, TextE
     Ok(lines)
 }
 
-/// Where the line that begins at `at` ends: at its line break, or at the end of the bytes.
-fn line_end(bytes: &[u8], at: usize) -> usize
+/// Where the line that begins at byte `at`, from 0, ends: at its line break, or at the end of the
+/// bytes.
+pub fn line_end(bytes: &[u8], at: usize) -> usize
     requires { at ≤ length bytes.now }
     ensures from { at ≤ result }
     ensures within { result ≤ length bytes.now }
@@ -48,15 +49,15 @@ fn push_line(
     at: usize,
 ) -> Result<usize, TextError>
     requires within { at ≤ length bytes.now }
-    requires few { vec_len lines.old ≤ MOST_LINES }
+    requires few { vec_len lines.old ≤ most_lines }
     ensures further { IfOk result (λ next. at < next) }
     ensures read { IfOk result (λ next. read_on lines.old.items (byte_lines (drop at bytes.now))
         ≡ read_on lines.new.items (lines_after bytes.now next)) }
     ensures some { IfOk result (λ _. 0 < vec_len lines.new) }
-    ensures few { IfOk result (λ _. vec_len lines.new ≤ MOST_LINES) }
+    ensures few { IfOk result (λ _. vec_len lines.new ≤ most_lines) }
     ensures fault { IfErr result (λ fault. fault ≢ TextError.Memory
         → read_on lines.old.items (byte_lines (drop at bytes.now)) ≡ Err fault) }
-    ensures near { IfErr result (λ fault. line_of_fault fault ≤ MOST_LINES) }
+    ensures near { IfErr result (λ fault. line_of_fault fault ≤ most_lines) }
 {
     let end = line_end(bytes, at);
     let line = read_line(alloc, lines.len(), &bytes[at..end])?;
@@ -66,12 +67,12 @@ fn push_line(
 
 /// The line of that number, from 0, that these bytes are.
 fn read_line(alloc: Global, number: usize, bytes: &[u8]) -> Result<Line, TextError>
-    requires { number ≤ MOST_LINES }
+    requires { number ≤ most_lines }
     ensures faultless { IfOk result (λ _. line_fault number bytes.now ≡ None) }
     ensures line { IfOk result (λ line. line ≡ chars bytes.now) }
-    ensures few { IfOk result (λ _. number < MOST_LINES) }
+    ensures few { IfOk result (λ _. number < most_lines) }
     ensures fault { IfErr result (λ fault. fault ≢ TextError.Memory → line_fault number bytes.now ≡ Some fault) }
-    ensures near { IfErr result (λ fault. line_of_fault fault ≤ MOST_LINES) }
+    ensures near { IfErr result (λ fault. line_of_fault fault ≤ most_lines) }
 {
     let Ok(text) = simdutf8::compat::from_utf8(bytes) else {
         return Err(TextError::BadUtf8 { line: number });
@@ -83,17 +84,11 @@ fn read_line(alloc: Global, number: usize, bytes: &[u8]) -> Result<Line, TextErr
     if number >= MOST_LINES {
         return Err(TextError::TooManyLines);
     }
-    Ok(char_list(alloc, text)?)
+    Ok(List::from_chars(alloc, text)?)
 }
 
 fn char_count(text: &str) -> usize
     ensures { result ≡ length (chars text.now) }
 {
     text.chars().count()
-}
-
-fn char_list(alloc: Global, text: &str) -> Result<Line, AllocError>
-    ensures { IfOk result (λ line. line ≡ chars text.now) }
-{
-    Ok(List::from_vec(text.chars().collect(alloc)?))
 }

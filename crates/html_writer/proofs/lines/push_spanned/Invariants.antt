@@ -1,5 +1,6 @@
 use Rattle.std.proofs.Common.{◌≡◌, ◌++◌, drop, length}
-use Rattle.html_writer.specs.Page.{IsFromColumn, spanned_text}
+use Rattle.syn_base.specs.SpansFit.{IsFromColumn}
+use Rattle.html_writer.specs.Page.{spanned_text}
 use Rattle.html_writer.proofs.lines.push_spanned.Given as goal
 
 -- what was written, with the spans to come, is the whole line

@@ -1,5 +1,5 @@
 use Rattle.std.proofs.Common.{◌≡◌, ◌-◌, ◌<◌, ◌≤◌, length, vec_len}
-use Rattle.text_buffer.specs.declared.TheConstants.{MOST_LINES}
+use Rattle.text_buffer.specs.TextOfBytes.{most_lines}
 use Rattle.text_buffer.specs.Reading.{lines_after, read_on}
 use Rattle.text_buffer.specs.TextOfBytes.{text_of}
 use Rattle.text_buffer.proofs.reading.read_lines.Given as goal
@@ -9,7 +9,7 @@ abbrev pub invariant-loop-at : goal.invariant-loop-at
 invariant-loop-at l = record {
   so_far : text_of l.bytes ≡ read_on l.lines.items (lines_after l.bytes l.at);
   some : 0 < vec_len l.lines;
-  few : vec_len l.lines ≤ MOST_LINES;
+  few : vec_len l.lines ≤ most_lines;
 }
 
 abbrev pub decreases-loop-at : goal.decreases-loop-at
