@@ -15,13 +15,13 @@ use Rattle.pattern_items.specs.declared.item.Raw.{Raw}
 use Rattle.pattern_items.specs.declared.item.Raw.TheVariants as raw
 use Rattle.pattern_items.specs.declared.item.Spelled.{Spelled}
 use Rattle.pattern_items.specs.declared.collection.Piece.{Piece}
-use Rattle.pattern_items.specs.declared.item.Context.{Context}
+use Rattle.pattern_items.specs.declared.item.Surroundings.{Surroundings}
 use Rattle.pattern_items.specs.declared.item.Kind.{Kind}
 use Rattle.pattern_items.specs.declared.item.Kind.TheVariants as kind
 use Rattle.pattern_items.specs.declared.item.PatternUse.{PatternUse}
 use Rattle.pattern_items.specs.declared.item.Sign.{Sign}
 use Rattle.pattern_items.specs.declared.item.Sign.TheVariants as sign
-use Rattle.pattern_items.specs.Place.{Item, in_place, inner_of, is_very, begins, stops, star_is_char, is_start, is_end, items_from, items_of, first_context, placed}
+use Rattle.pattern_items.specs.Place.{Item, in_place, inner_of, is_very, begins, stops, star_is_char, is_start, is_end, items_from, items_of, first_surroundings, placed}
 use Rattle.pattern_items.specs.Codes.{char_of, code, notation_of}
 use Rattle.pattern_items.specs.Collection.{collection_len, pieces, members, body_of, is_turned, first_fault, first_marked, fault_or_set, marked_or_set}
 use Rattle.pattern_items.specs.GroupNumbers.{IsOneToNine, HasNumber}
@@ -335,7 +335,7 @@ set_has : (turned line_end : Bool) (before : ℕ) (ps : List Piece) (o : Option 
 set_has turned line_end before ps None = marked_has turned line_end before ps (first_marked ps)
 set_has turned line_end before ps (Some c) = wrong_sign before c
 
-place_has : (x : Context) (text : List ℕ) (len : ℕ) (r : Raw) → RawHas r → HasSign (in_place x text len r)
+place_has : (x : Surroundings) (text : List ℕ) (len : ℕ) (r : Raw) → RawHas r → HasSign (in_place x text len r)
 place_has x text len (raw.Atom a) h = record { is = h }
 place_has x text len raw.Caret h = one_atom (is_very x.level || begins x.before) atom.LineStart (atom.Char 94) tt tt
 place_has x text len raw.Dollar h = one_atom (is_very x.level || stops 0 x.level (drop len text)) atom.LineStop (atom.Char 36) tt tt
@@ -366,7 +366,7 @@ abbrev pub AllHave : List Item → Type 0
 AllHave [] = Unit {0}
 AllHave (i ∷ is) = HasSign i.sign × AllHave is
 
-items_have : (k : ℕ) (x : Context) (at : ℕ) (cs : List ℕ) → AllHave (items_from k x at cs)
+items_have : (k : ℕ) (x : Surroundings) (at : ℕ) (cs : List ℕ) → AllHave (items_from k x at cs)
 items_have zero x at [] = tt
 items_have (suc k) x at [] = tt
 items_have (suc k) x at (c ∷ cs) = items_have k x (suc at) cs
@@ -376,4 +376,4 @@ items_have zero x at (c ∷ cs) = (
 )
 
 pub text_items_have : (usage : PatternUse) (text : List ℕ) → AllHave (items_of usage text)
-text_items_have usage text = items_have 0 (first_context usage) 0 text
+text_items_have usage text = items_have 0 (first_surroundings usage) 0 text

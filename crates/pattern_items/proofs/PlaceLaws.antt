@@ -12,7 +12,7 @@ use Rattle.pattern_items.specs.declared.item.Sign.TheVariants as sign
 use Rattle.pattern_items.specs.Collection.{pieces, members, body_of, is_turned, first_fault, first_marked, fault_or_set, marked_or_set}
 use Rattle.pattern_items.specs.declared.item.Level.{Level}
 use Rattle.pattern_items.specs.declared.item.Raw.{Raw}
-use Rattle.pattern_items.specs.declared.item.Context.{Context}
+use Rattle.pattern_items.specs.declared.item.Surroundings.{Surroundings}
 use Rattle.pattern_items.specs.Spelling.{spelling}
 use Rattle.pattern_items.specs.Place.{stops, is_stop, level_past, items_from, item, placed, groups_next, externals_next, is_counted, is_external, in_place, inner_of, star_is_char, is_start, is_end}
 
@@ -39,58 +39,58 @@ pub stops_step : (level : Level) (text : List ℕ) → 0 < length text → 1 ≤
 stops_step level [] h k = absurd (omega arith)
 stops_step level (c ∷ cs) h k = stop_cases (level_past level (spelling false level (c ∷ cs)).raw) (spelling false level (c ∷ cs)).raw (spelling false level (c ∷ cs)).len c cs k
 
-items_skip : (k : ℕ) (x : Context) (at : ℕ) (cs : List ℕ) → items_from k x at cs ≡ items_from 0 x (at + k) (drop k cs)
+items_skip : (k : ℕ) (x : Surroundings) (at : ℕ) (cs : List ℕ) → items_from k x at cs ≡ items_from 0 x (at + k) (drop k cs)
 items_skip zero x at [] = refl
 items_skip zero x at (c ∷ cs) = ap (λ n. items_from 0 x n (c ∷ cs)) (let e : at ≡ at + 0 = omega arith in e)
 items_skip (suc k) x at [] = refl
 items_skip (suc k) x at (c ∷ cs) = items_skip k x (suc at) cs ∙ ap (λ n. items_from 0 x n (drop k cs)) (let e : suc at + k ≡ at + suc k = omega arith in e)
 
-items_rest : (n : ℕ) (x : Context) (at : ℕ) (c : ℕ) (cs : List ℕ) → 1 ≤ n → items_from (n - 1) x (suc at) cs ≡ items_from 0 x (at + n) (drop n (c ∷ cs))
+items_rest : (n : ℕ) (x : Surroundings) (at : ℕ) (c : ℕ) (cs : List ℕ) → 1 ≤ n → items_from (n - 1) x (suc at) cs ≡ items_from 0 x (at + n) (drop n (c ∷ cs))
 items_rest n x at c cs h = items_skip (n - 1) x (suc at) cs ∙ (λ i. items_from 0 x ((let e : suc at + (n - 1) ≡ at + n = omega arith in e) i) (drop_first n c cs h i))
 
 -- the items of a text that isn't empty: the first one, and those behind it
-pub items_step : (x : Context) (at : ℕ) (text : List ℕ) → 0 < length text → 1 ≤ (placed x text).len →
+pub items_step : (x : Surroundings) (at : ℕ) (text : List ℕ) → 0 < length text → 1 ≤ (placed x text).len →
     items_from 0 x at text ≡ item at (placed x text).sign ∷ items_from 0 (placed x text).next (at + (placed x text).len) (drop (placed x text).len text)
 items_step x at [] h k = absurd (omega arith)
 items_step x at (c ∷ cs) h k = ap (λ is. item at (placed x (c ∷ cs)).sign ∷ is) (items_rest (placed x (c ∷ cs)).len (placed x (c ∷ cs)).next at c cs k)
 
 -- An item counts the groups and the externals that it opens.
 
-pub record Counts (x : Context) (s : Sign) : Type 0 where
+pub record Counts (x : Surroundings) (s : Sign) : Type 0 where
   pub groups : groups_next x.groups s ≡ x.groups + (if is_counted s then 1 else 0)
   pub externals : externals_next x.externals s ≡ x.externals + (if is_external s then 1 else 0)
 
-counts_atom : (x : Context) (a : Atom) → Counts x (sign.Atom a)
+counts_atom : (x : Surroundings) (a : Atom) → Counts x (sign.Atom a)
 counts_atom x a = record { groups = omega arith; externals = omega arith }
 
-counts_wrong : (x : Context) (n : ℕ) (c : PatternCause) → Counts x (sign.Wrong n c)
+counts_wrong : (x : Surroundings) (n : ℕ) (c : PatternCause) → Counts x (sign.Wrong n c)
 counts_wrong x n c = record { groups = omega arith; externals = omega arith }
 
-counts_multi : (x : Context) (m : Multi) → Counts x (sign.Multi m)
+counts_multi : (x : Surroundings) (m : Multi) → Counts x (sign.Multi m)
 counts_multi x m = record { groups = omega arith; externals = omega arith }
 
-counts_quiet : (x : Context) (o : Option Bool) → Counts x (sign.Quiet o)
+counts_quiet : (x : Surroundings) (o : Option Bool) → Counts x (sign.Quiet o)
 counts_quiet x o = record { groups = omega arith; externals = omega arith }
 
-counts_if : (x : Context) (b : Bool) (s t : Sign) → Counts x s → Counts x t → Counts x (cond b s t)
+counts_if : (x : Surroundings) (b : Bool) (s t : Sign) → Counts x s → Counts x t → Counts x (cond b s t)
 counts_if x true s t h k = h
 counts_if x false s t h k = k
 
-counts_group : (x : Context) → Counts x (sign.Open (kind.Counted (x.groups + 1)))
+counts_group : (x : Surroundings) → Counts x (sign.Open (kind.Counted (x.groups + 1)))
 counts_group x = record { groups = refl; externals = omega arith }
 
-counts_external : (x : Context) → Counts x (sign.Open (kind.External (x.externals + 1)))
+counts_external : (x : Surroundings) → Counts x (sign.Open (kind.External (x.externals + 1)))
 counts_external x = record { groups = omega arith; externals = refl }
 
-counts_marked : (x : Context) (turned line_end : Bool) (before : ℕ) (ps : List Piece) (o : Option (ℕ × ℕ)) → Counts x (marked_or_set turned line_end before ps o)
+counts_marked : (x : Surroundings) (turned line_end : Bool) (before : ℕ) (ps : List Piece) (o : Option (ℕ × ℕ)) → Counts x (marked_or_set turned line_end before ps o)
 counts_marked x turned line_end before ps None = counts_atom x _
 counts_marked x turned line_end before ps (Some m) = counts_wrong x before _
 
-counts_set : (x : Context) (turned line_end : Bool) (before : ℕ) (ps : List Piece) (o : Option PatternCause) → Counts x (fault_or_set turned line_end before ps o)
+counts_set : (x : Surroundings) (turned line_end : Bool) (before : ℕ) (ps : List Piece) (o : Option PatternCause) → Counts x (fault_or_set turned line_end before ps o)
 counts_set x turned line_end before ps None = counts_marked x turned line_end before ps (first_marked ps)
 counts_set x turned line_end before ps (Some c) = counts_wrong x before c
 
-counts_place : (x : Context) (text : List ℕ) (len : ℕ) (r : Raw) → Counts x (in_place x text len r)
+counts_place : (x : Surroundings) (text : List ℕ) (len : ℕ) (r : Raw) → Counts x (in_place x text len r)
 counts_place x text len (raw.Atom a) = counts_atom x a
 counts_place x text len raw.Caret = counts_atom x _
 counts_place x text len raw.Dollar = counts_atom x _
@@ -117,5 +117,5 @@ counts_place x text len (raw.ExternalReference n) = counts_if x (is_end x.usage)
 counts_place x text len raw.LeftOut = counts_wrong x 0 _
 counts_place x text len (raw.Wrong c) = counts_wrong x 0 c
 
-pub placed_counts : (x : Context) (text : List ℕ) → Counts x (placed x text).sign
+pub placed_counts : (x : Surroundings) (text : List ℕ) → Counts x (placed x text).sign
 placed_counts x text = counts_place x text (spelling x.first x.level text).len (spelling x.first x.level text).raw

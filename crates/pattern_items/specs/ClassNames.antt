@@ -6,6 +6,7 @@ use Rattle.pattern_items.specs.declared.atom.SetPart.{SetPart}
 use Rattle.pattern_items.specs.declared.atom.SetPart.TheVariants as part
 use Rattle.pattern_items.specs.declared.class_names.ClassName.{ClassName}
 use Rattle.pattern_items.specs.declared.class_names.ClassName.TheVariants.{Alnum, Alpha, Blank, Cntrl, Digit, Graph, Lower, Print, Punct, Space, Upper, Xdigit, Return, Tab, Escape, Backspace, Ident, Keyword, Fname}
+use Rattle.pattern_items.specs.Characters.{backspace, tab, carriage_return, escape}
 
 -- what stands behind the bracket of a name
 abbrev pub word : ClassName → List ℕ
@@ -49,10 +50,10 @@ first_part Punct = part.Punct
 first_part Space = part.Space
 first_part Upper = part.Of class.Upper
 first_part Xdigit = part.Of class.Hex
-first_part Return = part.Range 13 13
-first_part Tab = part.Range 9 9
-first_part Escape = part.Range 27 27
-first_part Backspace = part.Range 8 8
+first_part Return = part.Range carriage_return carriage_return
+first_part Tab = part.Range tab tab
+first_part Escape = part.Range escape escape
+first_part Backspace = part.Range backspace backspace
 first_part Ident = part.Of class.Ident
 first_part Keyword = part.Of class.Keyword
 first_part Fname = part.Of class.File

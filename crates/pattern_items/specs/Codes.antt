@@ -1,19 +1,20 @@
 -- Characters by their code (Vim's help, /\%d and its kin): decimal with up to ten digits, octal with up to four
 -- and at most 0377, hexadecimal with up to two, four or eight.
-use Rattle.std.specs.Prelude.{ℕ, ◌+◌, ◌*◌, nat_lt, nat_le, nat_eq, ◌&&◌, ◌||◌, List, [], ◌∷◌, Option, Some, None, Bool, if◌then◌else◌}
+use Rattle.std.specs.Prelude.{ℕ, ◌==◌, ◌+◌, ◌*◌, nat_lt, nat_le, nat_eq, ◌&&◌, ◌||◌, List, [], ◌∷◌, Option, Some, None, Bool, if◌then◌else◌}
 use Rattle.std.specs.Char.{digit_value}
 use Rattle.pattern_items.specs.declared.codes.Code.{Code}
 use Rattle.pattern_items.specs.declared.codes.Notation.{Notation}
 use Rattle.pattern_items.specs.declared.codes.Notation.TheVariants.{Decimal, Octal, Hex2, Hex4, Hex8}
+use Rattle.pattern_items.specs.Characters.{char}
 
 -- the notation that a letter names: `d`, `o`, `x`, `u`, `U`
 abbrev pub notation_of : ℕ → Option Notation
 notation_of c =
-    if nat_eq c 100 then Some Decimal
-    else if nat_eq c 111 then Some Octal
-    else if nat_eq c 120 then Some Hex2
-    else if nat_eq c 117 then Some Hex4
-    else if nat_eq c 85 then Some Hex8
+    if c == char "d" then Some Decimal
+    else if c == char "o" then Some Octal
+    else if c == char "x" then Some Hex2
+    else if c == char "u" then Some Hex4
+    else if c == char "U" then Some Hex8
     else None
 
 abbrev pub base_of : Notation → ℕ

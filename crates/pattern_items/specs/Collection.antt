@@ -1,6 +1,6 @@
 -- Collections (Vim's help, /[]): behind the bracket optionally `^`, then optionally `]` as a character, up to the next `]`.
 -- A backslash takes the next character with it, and a class name is passed whole.
-use Rattle.std.specs.Prelude.{ℕ, zero, suc, ◌+◌, nat_eq, nat_lt, ◌||◌, List, [], ◌∷◌, ◌++◌, drop, length, Option, Some, None, Bool, true, false, if◌then◌else◌}
+use Rattle.std.specs.Prelude.{ℕ, ◌==◌, zero, suc, ◌+◌, nat_eq, nat_lt, ◌||◌, List, [], ◌∷◌, ◌++◌, drop, length, Option, Some, None, Bool, true, false, if◌then◌else◌}
 use Rattle.pattern_items.specs.declared.atom.SetPart.{SetPart}
 use Rattle.pattern_items.specs.declared.atom.SetPart.TheVariants as part
 use Rattle.pattern_items.specs.declared.atom.Atom.TheVariants.{Set}
@@ -18,6 +18,7 @@ use Rattle.pattern_items.specs.declared.item.Sign.{Sign}
 use Rattle.pattern_items.specs.declared.item.Sign.TheVariants as sign
 use Rattle.pattern_items.specs.ClassNames.{word, name_at, parts_of}
 use Rattle.pattern_items.specs.Codes.{notation_of, code, char_of}
+use Rattle.pattern_items.specs.Characters.{char, backspace, tab, carriage_return, escape}
 
 -- Where a collection ends.
 
@@ -31,22 +32,22 @@ one_if_any (c ∷ cs) = 1
 
 -- how many of the characters that follow this one takes along
 abbrev pub taken_along : ℕ → List ℕ → ℕ
-taken_along c cs = if nat_eq c 92 then one_if_any cs else if nat_eq c 91 then name_len (name_at cs) else 0
+taken_along c cs = if c == char "\\" then one_if_any cs else if c == char "[" then name_len (name_at cs) else 0
 
 -- How many characters there are up to the closing bracket, with it; `n` have been passed, and the first number says how many are taken along.
 abbrev pub closing : ℕ → ℕ → List ℕ → Option ℕ
 closing k n [] = None
 closing (suc k) n (c ∷ cs) = closing k (n + 1) cs
-closing zero n (c ∷ cs) = elim (nat_eq c 93) [ true ↦ Some (n + 1) | false ↦ closing (taken_along c cs) (n + 1) cs ]
+closing zero n (c ∷ cs) = elim (c == char "]") [ true ↦ Some (n + 1) | false ↦ closing (taken_along c cs) (n + 1) cs ]
 
 abbrev pub past_bracket : ℕ → List ℕ → Option ℕ
 past_bracket n [] = None
-past_bracket n (c ∷ cs) = if nat_eq c 93 then closing 0 (n + 1) cs else closing 0 n (c ∷ cs)
+past_bracket n (c ∷ cs) = if c == char "]" then closing 0 (n + 1) cs else closing 0 n (c ∷ cs)
 
 -- the same from behind the collection's bracket
 abbrev pub collection_len : List ℕ → Option ℕ
 collection_len [] = None
-collection_len (c ∷ cs) = if nat_eq c 94 then past_bracket 1 cs else past_bracket 0 (c ∷ cs)
+collection_len (c ∷ cs) = if c == char "^" then past_bracket 1 cs else past_bracket 0 (c ∷ cs)
 
 abbrev pub end_from : ℕ → Option ℕ → Option ℕ
 end_from at None = None
@@ -54,7 +55,7 @@ end_from at (Some len) = Some (at + len)
 
 abbrev pub end_at : ℕ → List ℕ → Option ℕ
 end_at at [] = None
-end_at at (c ∷ cs) = if nat_eq c 91 then end_from at (collection_len cs) else None
+end_at at (c ∷ cs) = if c == char "[" then end_from at (collection_len cs) else None
 
 -- the place of the bracket that closes the collection whose bracket stands at a place
 abbrev pub collection_end : List ℕ → ℕ → Option ℕ
@@ -67,7 +68,7 @@ found member more = record { member = member; more = more; plain_next = false }
 
 -- a backslash that is a member takes the next character along, as one that stands for itself
 abbrev pub backslash : Found
-backslash = record { member = Bare 92; more = 0; plain_next = true }
+backslash = record { member = Bare (char "\\"); more = 0; plain_next = true }
 
 abbrev pub coded_as : ℕ → Option ℕ → Found
 coded_as more None = found NoCharacter more
@@ -88,16 +89,16 @@ coded c cs = coded_in (notation_of c) cs
 abbrev pub escaped : List ℕ → Found
 escaped [] = backslash
 escaped (c ∷ cs) =
-    if nat_eq c 101 then found (Escaped 27) 1
-    else if nat_eq c 116 then found (Escaped 9) 1
-    else if nat_eq c 114 then found (Escaped 13) 1
-    else if nat_eq c 98 then found (Escaped 8) 1
-    else if nat_eq c 110 then found LineEnd 1
-    else if nat_eq c 92 || nat_eq c 93 || nat_eq c 94 || nat_eq c 45 then found (Escaped c) 1
+    if c == char "e" then found (Escaped escape) 1
+    else if c == char "t" then found (Escaped tab) 1
+    else if c == char "r" then found (Escaped carriage_return) 1
+    else if c == char "b" then found (Escaped backspace) 1
+    else if c == char "n" then found LineEnd 1
+    else if c == char "\\" || c == char "]" || c == char "^" || c == char "-" then found (Escaped c) 1
     else coded c cs
 
 abbrev pub is_mark : ℕ → Bool
-is_mark c = nat_eq c 61 || nat_eq c 46
+is_mark c = c == char "=" || c == char "."
 
 -- `[=a=]` and `[.a.]`, of which the last bracket is the collection's own
 abbrev pub left_out_at : List ℕ → Option Member
@@ -105,7 +106,7 @@ left_out_at (mark ∷ inside ∷ end ∷ []) = if is_mark mark then (if nat_eq e
 left_out_at _ = None
 
 abbrev pub left_out_or : Option Member → Found
-left_out_or None = found (Bare 91) 0
+left_out_or None = found (Bare (char "[")) 0
 left_out_or (Some member) = found member 3
 
 abbrev pub named_or : List ℕ → Option ClassName → Found
@@ -118,7 +119,7 @@ bracketed cs = named_or cs (name_at cs)
 
 abbrev pub member_at : Bool → ℕ → List ℕ → Found
 member_at true c cs = found (Bare c) 0
-member_at false c cs = if nat_eq c 92 then escaped cs else if nat_eq c 91 then bracketed cs else found (Bare c) 0
+member_at false c cs = if c == char "\\" then escaped cs else if c == char "[" then bracketed cs else found (Bare c) 0
 
 -- the members from here on, past so many characters; the test says that the next one stands for itself
 abbrev pub members_from : ℕ → Bool → List ℕ → List Member
@@ -137,7 +138,7 @@ character_of (Escaped c) = Some c
 character_of _ = None
 
 abbrev pub is_hyphen : Member → Bool
-is_hyphen (Bare c) = nat_eq c 45
+is_hyphen (Bare c) = c == char "-"
 is_hyphen _ = false
 
 abbrev pub range_between : Option ℕ → Option ℕ → Option Piece
@@ -193,7 +194,7 @@ first_marked [] = None
 first_marked (p ∷ ps) = elim (marked_of p) [ Some m ↦ Some m | None ↦ first_marked ps ]
 
 abbrev pub marked_item : ℕ → ℕ → List ℕ
-marked_item mark inside = 91 ∷ mark ∷ inside ∷ mark ∷ 93 ∷ []
+marked_item mark inside = char "[" ∷ mark ∷ inside ∷ mark ∷ char "]" ∷ []
 
 abbrev pub member_ends_line : Member → Bool
 member_ends_line LineEnd = true
@@ -229,12 +230,12 @@ set_parts (p ∷ ps) = piece_parts p ++ set_parts ps
 
 abbrev pub is_turned : List ℕ → Bool
 is_turned [] = false
-is_turned (c ∷ cs) = nat_eq c 94
+is_turned (c ∷ cs) = c == char "^"
 
 -- what is between the brackets, without the caret
 abbrev pub body_of : List ℕ → List ℕ
 body_of [] = []
-body_of (c ∷ cs) = if nat_eq c 94 then cs else c ∷ cs
+body_of (c ∷ cs) = if c == char "^" then cs else c ∷ cs
 
 abbrev pub set_of : Bool → Bool → List Piece → Sign
 set_of turned line_end ps = sign.Atom (Set (record { not = turned; line_end = line_end || has_line_end ps; parts = set_parts ps }))

@@ -1,3 +1,4 @@
+pub mod Characters
 pub mod CauseText
 pub mod Codes
 pub mod GroupNumbers
@@ -6,5 +7,7 @@ pub mod Multis
 pub mod Letters
 pub mod ClassNames
 pub mod Collection
+pub mod ClosingBracket
 pub mod Spelling
 pub mod Place
+pub mod Counts

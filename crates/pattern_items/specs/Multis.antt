@@ -1,5 +1,5 @@
 -- Multis of several characters (Vim's help, /\{ and /\@=). In each definition `n` characters have been read.
-use Rattle.std.specs.Prelude.{ℕ, ◌+◌, nat_eq, nat_lt, List, [], ◌∷◌, Option, Some, None, Bool, true, false, if◌then◌else◌, unwrap_or}
+use Rattle.std.specs.Prelude.{ℕ, ◌==◌, ◌+◌, nat_eq, nat_lt, List, [], ◌∷◌, Option, Some, None, Bool, true, false, if◌then◌else◌, unwrap_or}
 use Rattle.pattern_items.specs.declared.item.Times.{Times}
 use Rattle.pattern_items.specs.declared.item.Behind.{Behind}
 use Rattle.pattern_items.specs.declared.item.Behind.TheVariants.{Any, Most}
@@ -9,6 +9,7 @@ use Rattle.pattern_items.specs.declared.item.Raw.TheVariants as raw
 use Rattle.pattern_items.specs.declared.item.Spelled.{Spelled}
 use Rattle.pattern_items.specs.declared.cause.PatternCause.TheVariants as cause
 use Rattle.pattern_items.specs.Numbers.{Digits, digits}
+use Rattle.pattern_items.specs.Characters.{char}
 
 abbrev pub bad_count : ℕ → Spelled
 bad_count n = record { raw = raw.Wrong cause.BadCount; len = n }
@@ -29,11 +30,11 @@ count least most lazy = Count (times least most lazy)
 -- how many characters close the braces here
 abbrev pub bare_brace : List ℕ → Option ℕ
 bare_brace [] = None
-bare_brace (c ∷ cs) = if nat_eq c 125 then Some 2 else None
+bare_brace (c ∷ cs) = if c == char "}" then Some 2 else None
 
 abbrev pub brace_end : List ℕ → Option ℕ
 brace_end [] = None
-brace_end (c ∷ cs) = if nat_eq c 125 then Some 1 else if nat_eq c 92 then bare_brace cs else None
+brace_end (c ∷ cs) = if c == char "}" then Some 1 else if c == char "\\" then bare_brace cs else None
 
 abbrev pub closed : ℕ → Multi → Option ℕ → Spelled
 closed n m None = bad_count n
@@ -57,7 +58,7 @@ alone (Some least) lazy = count least (Some least) lazy
 
 abbrev pub with_comma : ℕ → Option ℕ → Bool → List ℕ → Spelled
 with_comma n least lazy [] = bad_count n
-with_comma n least lazy (c ∷ cs) = elim (nat_eq c 44) [
+with_comma n least lazy (c ∷ cs) = elim (c == char ",") [
   | true ↦ with_most (n + 1) least lazy (digits cs)
   | false ↦ closed n (alone least lazy) (brace_end (c ∷ cs))
 ]
@@ -71,20 +72,20 @@ with_least n lazy d = elim (nat_eq d.count 0) [
 -- what follows the brace
 abbrev pub braces : ℕ → List ℕ → Spelled
 braces n [] = bad_count n
-braces n (c ∷ cs) = elim (nat_eq c 45) [ true ↦ with_least (n + 1) true (digits cs) | false ↦ with_least n false (digits (c ∷ cs)) ]
+braces n (c ∷ cs) = elim (c == char "-") [ true ↦ with_least (n + 1) true (digits cs) | false ↦ with_least n false (digits (c ∷ cs)) ]
 
 -- The looks: `@=`, `@!`, `@>`, `@<=`, `@<!`, and the last two with a number before the `<`.
 
 abbrev pub look_behind : ℕ → Behind → List ℕ → Spelled
 look_behind n limit [] = bad_count n
 look_behind n limit (c ∷ cs) =
-    if nat_eq c 61 then multi (Before false limit) (n + 1)
-    else if nat_eq c 33 then multi (Before true limit) (n + 1)
+    if c == char "=" then multi (Before false limit) (n + 1)
+    else if c == char "!" then multi (Before true limit) (n + 1)
     else bad_count n
 
 abbrev pub limited_by : ℕ → ℕ → List ℕ → Spelled
 limited_by n most [] = bad_count n
-limited_by n most (c ∷ cs) = if nat_eq c 60 then look_behind (n + 1) (Most most) cs else bad_count n
+limited_by n most (c ∷ cs) = if c == char "<" then look_behind (n + 1) (Most most) cs else bad_count n
 
 abbrev pub limited : ℕ → Option ℕ → List ℕ → Spelled
 limited n None cs = bad_count n
@@ -97,8 +98,8 @@ numbered n d = elim (nat_eq d.count 0) [ true ↦ bad_count n | false ↦ limite
 abbrev pub look : ℕ → List ℕ → Spelled
 look n [] = bad_count n
 look n (c ∷ cs) =
-    if nat_eq c 61 then multi (Ahead false) (n + 1)
-    else if nat_eq c 33 then multi (Ahead true) (n + 1)
-    else if nat_eq c 62 then multi Whole (n + 1)
-    else if nat_eq c 60 then look_behind (n + 1) Any cs
+    if c == char "=" then multi (Ahead false) (n + 1)
+    else if c == char "!" then multi (Ahead true) (n + 1)
+    else if c == char ">" then multi Whole (n + 1)
+    else if c == char "<" then look_behind (n + 1) Any cs
     else numbered n (digits (c ∷ cs))

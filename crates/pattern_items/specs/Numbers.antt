@@ -1,8 +1,9 @@
 -- Numbers of multis and positions: any number of digits, read by value.
 use Rattle.std.specs.Prelude.{ℕ, ◌+◌, ◌-◌, ◌*◌, nat_le, ◌&&◌, List, [], ◌∷◌, Option, Some, None, Bool, true, false, if◌then◌else◌}
+use Rattle.pattern_items.specs.Characters.{char}
 
 abbrev pub is_digit : ℕ → Bool
-is_digit c = nat_le 48 c && nat_le c 57
+is_digit c = nat_le (char "0") c && nat_le c (char "9")
 
 -- a number with one digit more; none above 65,535
 abbrev pub with_digit : Option ℕ → ℕ → Option ℕ
@@ -17,7 +18,7 @@ pub record Digits : Type 0 where
 
 abbrev pub digits_after : Option ℕ → ℕ → List ℕ → Digits
 digits_after n k [] = record { value = n; count = k; rest = [] }
-digits_after n k (c ∷ cs) = elim (is_digit c) [ true ↦ digits_after (with_digit n (c - 48)) (k + 1) cs | false ↦ record { value = n; count = k; rest = c ∷ cs } ]
+digits_after n k (c ∷ cs) = elim (is_digit c) [ true ↦ digits_after (with_digit n (c - char "0")) (k + 1) cs | false ↦ record { value = n; count = k; rest = c ∷ cs } ]
 
 abbrev pub digits : List ℕ → Digits
 digits cs = digits_after (Some 0) 0 cs

@@ -17,11 +17,12 @@ use Rattle.pattern_items.specs.declared.item.Raw.{Raw}
 use Rattle.pattern_items.specs.declared.item.Raw.TheVariants as raw
 use Rattle.pattern_items.specs.declared.item.Before.{Before}
 use Rattle.pattern_items.specs.declared.item.Before.TheVariants.{Begin, LineStart, LineEnd, Within}
-use Rattle.pattern_items.specs.declared.item.Context.{Context}
+use Rattle.pattern_items.specs.declared.item.Surroundings.{Surroundings}
 use Rattle.pattern_items.specs.declared.item.Placed.{Placed}
 use Rattle.pattern_items.specs.Spelling.{spelling}
 use Rattle.pattern_items.specs.Collection.{collection_sign}
 use Rattle.pattern_items.specs.Multis.{count}
+use Rattle.pattern_items.specs.Characters.{char}
 
 abbrev pub is_very : Level → Bool
 is_very VeryNo = false
@@ -57,8 +58,8 @@ stops zero level (c ∷ cs) =
     let s = spelling false level (c ∷ cs) in
     elim (level_past level s.raw) [ None ↦ is_stop s.raw | Some next ↦ stops (s.len - 1) next cs ]
 
-abbrev pub dollar : Context → List ℕ → Sign
-dollar x rest = sign.Atom (if is_very x.level || stops 0 x.level rest then atom.LineStop else atom.Char 36)
+abbrev pub dollar : Surroundings → List ℕ → Sign
+dollar x rest = sign.Atom (if is_very x.level || stops 0 x.level rest then atom.LineStop else atom.Char (char "$"))
 
 -- The line start is special at `\v`, and else where a pattern, a group, a branch or a concat begins and behind a line end.
 abbrev pub begins : Before → Bool
@@ -67,8 +68,8 @@ begins LineStart = false
 begins LineEnd = true
 begins Within = false
 
-abbrev pub caret : Context → Sign
-caret x = sign.Atom (if is_very x.level || begins x.before then atom.LineStart else atom.Char 94)
+abbrev pub caret : Surroundings → Sign
+caret x = sign.Atom (if is_very x.level || begins x.before then atom.LineStart else atom.Char (char "^"))
 
 -- The star is a character where a pattern, a group, a branch or a concat begins and behind a special line start.
 abbrev pub star_is_char : Before → Bool
@@ -77,14 +78,14 @@ star_is_char LineStart = true
 star_is_char LineEnd = false
 star_is_char Within = false
 
-abbrev pub star : Context → Sign
-star x = if star_is_char x.before then sign.Atom (atom.Char 42) else sign.Multi (count 0 None false)
+abbrev pub star : Surroundings → Sign
+star x = if star_is_char x.before then sign.Atom (atom.Char (char "*")) else sign.Multi (count 0 None false)
 
 abbrev pub wrong : PatternCause → Sign
 wrong c = sign.Wrong 0 c
 
 -- groups are numbered as they open, nine at most
-abbrev pub group : Context → Sign
+abbrev pub group : Surroundings → Sign
 group x = if nat_lt x.groups 9 then sign.Open (kind.Counted (x.groups + 1)) else wrong cause.TooManyGroups
 
 abbrev pub is_start : PatternUse → Bool
@@ -99,14 +100,14 @@ is_end Start = false
 is_end SkipOrEnd = true
 is_end Names = false
 
-abbrev pub external : Context → Sign
+abbrev pub external : Surroundings → Sign
 external x = if is_start x.usage then (if nat_lt x.externals 9 then sign.Open (kind.External (x.externals + 1)) else wrong cause.TooManyGroups) else wrong cause.ExternalHere
 
 -- a group is there for a reference as soon as it has opened
-abbrev pub reference : Context → ℕ → Sign
+abbrev pub reference : Surroundings → ℕ → Sign
 reference x n = if nat_le n x.groups then sign.Atom (atom.Ref n) else wrong cause.BadReference
 
-abbrev pub external_reference : Context → ℕ → Sign
+abbrev pub external_reference : Surroundings → ℕ → Sign
 external_reference x n = if is_end x.usage then sign.Atom (atom.ExternalRef n) else wrong cause.ExternalHere
 
 -- what is behind a bracket that has so many characters before it
@@ -114,7 +115,7 @@ abbrev pub inner_of : List ℕ → ℕ → List ℕ
 inner_of text before = drop (before + 1) text
 
 -- the item that is spelled by the first `len` characters of a text
-abbrev pub in_place : Context → List ℕ → ℕ → Raw → Sign
+abbrev pub in_place : Surroundings → List ℕ → ℕ → Raw → Sign
 in_place x text len (raw.Atom a) = sign.Atom a
 in_place x text len raw.Caret = caret x
 in_place x text len raw.Dollar = dollar x (drop len text)
@@ -171,18 +172,18 @@ abbrev pub externals_next : ℕ → Sign → ℕ
 externals_next n (sign.Open k) = elim k [ kind.External m ↦ m | _ ↦ n ]
 externals_next n _ = n
 
-abbrev pub context_next : Context → Level → Sign → Context
-context_next x level s = record { usage = x.usage; level = level; before = before_next x.before s; groups = groups_next x.groups s; externals = externals_next x.externals s; first = false }
+abbrev pub surroundings_next : Surroundings → Level → Sign → Surroundings
+surroundings_next x level s = record { usage = x.usage; level = level; before = before_next x.before s; groups = groups_next x.groups s; externals = externals_next x.externals s; first = false }
 
 -- the item at the front of a text
-abbrev pub sign_at : Context → List ℕ → Sign
+abbrev pub sign_at : Surroundings → List ℕ → Sign
 sign_at x text = in_place x text (spelling x.first x.level text).len (spelling x.first x.level text).raw
 
-abbrev pub placed : Context → List ℕ → Placed
+abbrev pub placed : Surroundings → List ℕ → Placed
 placed x text = record {
   sign = sign_at x text;
   len = (spelling x.first x.level text).len;
-  next = context_next x (level_next x.level (spelling x.first x.level text).raw) (sign_at x text);
+  next = surroundings_next x (level_next x.level (spelling x.first x.level text).raw) (sign_at x text);
 }
 
 -- an item, with the place of its first character, from 0
@@ -194,17 +195,17 @@ abbrev pub item : ℕ → Sign → Item
 item at s = record { at = at; sign = s }
 
 -- The items from here on. The number is how many characters are passed over first.
-abbrev pub items_from : ℕ → Context → ℕ → List ℕ → List Item
+abbrev pub items_from : ℕ → Surroundings → ℕ → List ℕ → List Item
 items_from k x at [] = []
 items_from (suc k) x at (c ∷ cs) = items_from k x (suc at) cs
 items_from zero x at (c ∷ cs) = item at (placed x (c ∷ cs)).sign ∷ items_from ((placed x (c ∷ cs)).len - 1) (placed x (c ∷ cs)).next (suc at) cs
 
-abbrev pub first_context : PatternUse → Context
-first_context usage = record { usage = usage; level = Usual; before = Begin; groups = 0; externals = 0; first = true }
+abbrev pub first_surroundings : PatternUse → Surroundings
+first_surroundings usage = record { usage = usage; level = Usual; before = Begin; groups = 0; externals = 0; first = true }
 
 -- the items of a pattern
 abbrev pub items_of : PatternUse → List ℕ → List Item
-items_of usage text = items_from 0 (first_context usage) 0 text
+items_of usage text = items_from 0 (first_surroundings usage) 0 text
 
 abbrev pub is_counted : Sign → Bool
 is_counted (sign.Open k) = elim k [ kind.Counted m ↦ true | _ ↦ false ]

@@ -1,6 +1,6 @@
 -- The spelling of an item at a level of magic (Vim's help, /magic). In each definition `n` characters have been read,
 -- and `first` says that no character of the pattern stands before the item.
-use Rattle.std.specs.Prelude.{ℕ, ◌+◌, ◌-◌, nat_eq, nat_le, ◌&&◌, ◌||◌, List, [], ◌∷◌, Option, Some, None, Bool, true, false, if◌then◌else◌}
+use Rattle.std.specs.Prelude.{ℕ, ◌==◌, ◌+◌, ◌-◌, nat_eq, nat_le, ◌&&◌, ◌||◌, List, [], ◌∷◌, Option, Some, None, Bool, true, false, if◌then◌else◌}
 use Rattle.pattern_items.specs.declared.item.Level.{Level}
 use Rattle.pattern_items.specs.declared.item.Level.TheVariants.{VeryNo, No, Usual, Very}
 use Rattle.pattern_items.specs.declared.item.Raw.{Raw}
@@ -17,6 +17,7 @@ use Rattle.pattern_items.specs.Collection.{collection_len}
 use Rattle.pattern_items.specs.Letters.{class_atom}
 use Rattle.pattern_items.specs.Multis.{braces, look, count}
 use Rattle.pattern_items.specs.Numbers.{Digits, digits}
+use Rattle.pattern_items.specs.Characters.{char, backspace, tab, carriage_return, escape}
 
 abbrev pub rank : Level → ℕ
 rank VeryNo = 0
@@ -28,9 +29,9 @@ rank Very = 3
 -- `( ) | & + = ? { @ % < >`, and never for the others. Below it, it is one behind a backslash.
 abbrev pub bare_from : ℕ → ℕ
 bare_from c =
-    if nat_eq c 94 || nat_eq c 36 then 1
-    else if nat_eq c 46 || nat_eq c 91 || nat_eq c 42 || nat_eq c 126 then 2
-    else if nat_eq c 40 || nat_eq c 41 || nat_eq c 124 || nat_eq c 38 || nat_eq c 43 || nat_eq c 61 || nat_eq c 63 || nat_eq c 123 || nat_eq c 64 || nat_eq c 37 || nat_eq c 60 || nat_eq c 62 then 3
+    if c == char "^" || c == char "$" then 1
+    else if c == char "." || c == char "[" || c == char "*" || c == char "~" then 2
+    else if c == char "(" || c == char ")" || c == char "|" || c == char "&" || c == char "+" || c == char "=" || c == char "?" || c == char "{" || c == char "@" || c == char "%" || c == char "<" || c == char ">" then 3
     else 4
 
 abbrev pub is_bare_item : Level → ℕ → Bool
@@ -47,13 +48,13 @@ wrong c n = spelled (raw.Wrong c) n
 
 -- from 1 to 9
 abbrev pub is_number : ℕ → Bool
-is_number c = nat_le 49 c && nat_le c 57
+is_number c = nat_le (char "1") c && nat_le c (char "9")
 
 -- Behind a percent sign.
 
 -- a letter that ends the number of a line, a column or a screen column
 abbrev pub is_unit : ℕ → Bool
-is_unit c = nat_eq c 108 || nat_eq c 99 || nat_eq c 118
+is_unit c = c == char "l" || c == char "c" || c == char "v"
 
 abbrev pub with_unit : ℕ → ℕ → List ℕ → Spelled
 with_unit n count [] = wrong cause.BadCode n
@@ -71,7 +72,7 @@ mark n (c ∷ cs) = spelled raw.LeftOut (n + 1)
 -- behind `<` or `>`
 abbrev pub compared : ℕ → List ℕ → Spelled
 compared n [] = wrong cause.BadCode n
-compared n (c ∷ cs) = if nat_eq c 39 then mark (n + 1) cs else positioned n (digits (c ∷ cs))
+compared n (c ∷ cs) = if c == char "'" then mark (n + 1) cs else positioned n (digits (c ∷ cs))
 
 abbrev pub coded_as : ℕ → ℕ → Option ℕ → Spelled
 coded_as n count None = wrong cause.BadCode n
@@ -86,11 +87,11 @@ coded n notation cs = with_code n (code notation cs)
 
 abbrev pub engine_number : ℕ → List ℕ → Spelled
 engine_number n [] = spelled raw.LeftOut n
-engine_number n (c ∷ cs) = if nat_eq c 48 || nat_eq c 49 || nat_eq c 50 then spelled raw.Engine (n + 2) else spelled raw.LeftOut n
+engine_number n (c ∷ cs) = if c == char "0" || c == char "1" || c == char "2" then spelled raw.Engine (n + 2) else spelled raw.LeftOut n
 
 abbrev pub engine_at_front : ℕ → List ℕ → Spelled
 engine_at_front n [] = spelled raw.LeftOut n
-engine_at_front n (c ∷ cs) = if nat_eq c 61 then engine_number n cs else spelled raw.LeftOut n
+engine_at_front n (c ∷ cs) = if c == char "=" then engine_number n cs else spelled raw.LeftOut n
 
 -- the choice of an engine, at a pattern's front; else the cursor, which is left out
 abbrev pub engine : Bool → ℕ → List ℕ → Spelled
@@ -107,29 +108,29 @@ code_or_position n c cs = code_or n c cs (notation_of c)
 abbrev pub percent : Bool → ℕ → List ℕ → Spelled
 percent first n [] = wrong cause.BadCode n
 percent first n (c ∷ cs) =
-    if nat_eq c 40 then spelled raw.Plain (n + 1)
-    else if nat_eq c 91 then spelled raw.Optional (n + 1)
-    else if nat_eq c 94 then atom FileStart (n + 1)
-    else if nat_eq c 36 then atom FileStop (n + 1)
-    else if nat_eq c 86 || nat_eq c 67 then spelled raw.LeftOut (n + 1)
-    else if nat_eq c 35 then engine first (n + 1) cs
-    else if nat_eq c 39 then mark (n + 1) cs
-    else if nat_eq c 60 || nat_eq c 62 then compared (n + 1) cs
+    if c == char "(" then spelled raw.Plain (n + 1)
+    else if c == char "[" then spelled raw.Optional (n + 1)
+    else if c == char "^" then atom FileStart (n + 1)
+    else if c == char "$" then atom FileStop (n + 1)
+    else if c == char "V" || c == char "C" then spelled raw.LeftOut (n + 1)
+    else if c == char "#" then engine first (n + 1) cs
+    else if c == char "'" then mark (n + 1) cs
+    else if c == char "<" || c == char ">" then compared (n + 1) cs
     else code_or_position n c cs
 
 -- Behind `\z`.
 abbrev pub external : ℕ → List ℕ → Spelled
 external n [] = wrong cause.BadCode n
 external n (c ∷ cs) =
-    if nat_eq c 40 then spelled raw.External (n + 1)
-    else if nat_eq c 115 then atom MatchStart (n + 1)
-    else if nat_eq c 101 then atom MatchStop (n + 1)
-    else if is_number c then spelled (raw.ExternalReference (c - 48)) (n + 1)
+    if c == char "(" then spelled raw.External (n + 1)
+    else if c == char "s" then atom MatchStart (n + 1)
+    else if c == char "e" then atom MatchStop (n + 1)
+    else if is_number c then spelled (raw.ExternalReference (c - char "0")) (n + 1)
     else wrong cause.BadCode n
 
 -- Behind an opening bracket, which is a character where none closes it. `before` characters stand before it.
 abbrev pub collected_to : Bool → ℕ → Option ℕ → Spelled
-collected_to line_end before None = atom (Char 91) (before + 1)
+collected_to line_end before None = atom (Char (char "[")) (before + 1)
 collected_to line_end before (Some len) = spelled (raw.Collection line_end before) (before + 1 + len)
 
 abbrev pub collected : Bool → ℕ → List ℕ → Spelled
@@ -143,19 +144,19 @@ class_after_underscore (Some a) = atom a 3
 abbrev pub underscore : List ℕ → Spelled
 underscore [] = wrong cause.BadUnderscore 2
 underscore (c ∷ cs) =
-    if nat_eq c 94 then atom LineStart 3
-    else if nat_eq c 36 then atom LineStop 3
-    else if nat_eq c 46 then atom (Any true) 3
-    else if nat_eq c 91 then collected true 2 cs
+    if c == char "^" then atom LineStart 3
+    else if c == char "$" then atom LineStop 3
+    else if c == char "." then atom (Any true) 3
+    else if c == char "[" then collected true 2 cs
     else class_after_underscore (class_atom true c)
 
 -- the characters that `\e`, `\t`, `\r`, `\b` write
 abbrev pub control : ℕ → Option ℕ
 control c =
-    if nat_eq c 101 then Some 27
-    else if nat_eq c 116 then Some 9
-    else if nat_eq c 114 then Some 13
-    else if nat_eq c 98 then Some 8
+    if c == char "e" then Some escape
+    else if c == char "t" then Some tab
+    else if c == char "r" then Some carriage_return
+    else if c == char "b" then Some backspace
     else None
 
 abbrev pub control_or : ℕ → Option ℕ → Spelled
@@ -172,44 +173,44 @@ class_or_character c = class_or c (class_atom false c)
 -- a backslash and a letter, a digit, or a character without a meaning, which stands for itself
 abbrev pub letter : ℕ → List ℕ → Spelled
 letter c cs =
-    if nat_eq c 118 then spelled (raw.Magic Very) 2
-    else if nat_eq c 109 then spelled (raw.Magic Usual) 2
-    else if nat_eq c 77 then spelled (raw.Magic No) 2
-    else if nat_eq c 86 then spelled (raw.Magic VeryNo) 2
-    else if nat_eq c 99 then spelled (raw.Case true) 2
-    else if nat_eq c 67 then spelled (raw.Case false) 2
-    else if nat_eq c 110 then atom LineEnd 2
-    else if nat_eq c 90 then spelled raw.LeftOut 2
-    else if nat_eq c 122 then external 2 cs
-    else if nat_eq c 95 then underscore cs
-    else if is_number c then spelled (raw.Reference (c - 48)) 2
+    if c == char "v" then spelled (raw.Magic Very) 2
+    else if c == char "m" then spelled (raw.Magic Usual) 2
+    else if c == char "M" then spelled (raw.Magic No) 2
+    else if c == char "V" then spelled (raw.Magic VeryNo) 2
+    else if c == char "c" then spelled (raw.Case true) 2
+    else if c == char "C" then spelled (raw.Case false) 2
+    else if c == char "n" then atom LineEnd 2
+    else if c == char "Z" then spelled raw.LeftOut 2
+    else if c == char "z" then external 2 cs
+    else if c == char "_" then underscore cs
+    else if is_number c then spelled (raw.Reference (c - char "0")) 2
     else class_or_character c
 
 -- a multi, or what joins, opens or closes
 abbrev pub operator : ℕ → ℕ → List ℕ → Option Spelled
 operator n c cs =
-    if nat_eq c 42 then Some (spelled raw.Star n)
-    else if nat_eq c 43 then Some (spelled (raw.Multi (count 1 None false)) n)
-    else if nat_eq c 61 || nat_eq c 63 then Some (spelled (raw.Multi (count 0 (Some 1) false)) n)
-    else if nat_eq c 123 then Some (braces n cs)
-    else if nat_eq c 64 then Some (look n cs)
-    else if nat_eq c 40 then Some (spelled raw.Group n)
-    else if nat_eq c 41 then Some (spelled raw.Close n)
-    else if nat_eq c 124 then Some (spelled raw.Bar n)
-    else if nat_eq c 38 then Some (spelled raw.Also n)
+    if c == char "*" then Some (spelled raw.Star n)
+    else if c == char "+" then Some (spelled (raw.Multi (count 1 None false)) n)
+    else if c == char "=" || c == char "?" then Some (spelled (raw.Multi (count 0 (Some 1) false)) n)
+    else if c == char "{" then Some (braces n cs)
+    else if c == char "@" then Some (look n cs)
+    else if c == char "(" then Some (spelled raw.Group n)
+    else if c == char ")" then Some (spelled raw.Close n)
+    else if c == char "|" then Some (spelled raw.Bar n)
+    else if c == char "&" then Some (spelled raw.Also n)
     else None
 
 -- an atom that may stand bare
 abbrev pub plain_atom : Bool → ℕ → ℕ → List ℕ → Option Spelled
 plain_atom first n c cs =
-    if nat_eq c 46 then Some (atom (Any false) n)
-    else if nat_eq c 94 then Some (spelled raw.Caret n)
-    else if nat_eq c 36 then Some (spelled raw.Dollar n)
-    else if nat_eq c 91 then Some (collected false (n - 1) cs)
-    else if nat_eq c 60 then Some (atom WordStart n)
-    else if nat_eq c 62 then Some (atom WordStop n)
-    else if nat_eq c 126 then Some (spelled raw.LeftOut n)
-    else if nat_eq c 37 then Some (percent first n cs)
+    if c == char "." then Some (atom (Any false) n)
+    else if c == char "^" then Some (spelled raw.Caret n)
+    else if c == char "$" then Some (spelled raw.Dollar n)
+    else if c == char "[" then Some (collected false (n - 1) cs)
+    else if c == char "<" then Some (atom WordStart n)
+    else if c == char ">" then Some (atom WordStop n)
+    else if c == char "~" then Some (spelled raw.LeftOut n)
+    else if c == char "%" then Some (percent first n cs)
     else None
 
 abbrev pub first_some : Option Spelled → Option Spelled → Option Spelled
@@ -226,7 +227,7 @@ or_character c (Some s) = s
 
 abbrev pub bare_spelling : Bool → Level → ℕ → List ℕ → Spelled
 bare_spelling first level c cs =
-    if nat_eq c 93 then spelled raw.Square 1
+    if c == char "]" then spelled raw.Square 1
     else if is_bare_item level c then or_character c (magic_item first 1 c cs)
     else atom (Char c) 1
 
@@ -236,10 +237,10 @@ or_letter c cs (Some s) = s
 
 -- behind a backslash; one at the end is a character
 abbrev pub escaped_spelling : Bool → Level → List ℕ → Spelled
-escaped_spelling first level [] = atom (Char 92) 1
+escaped_spelling first level [] = atom (Char (char "\\")) 1
 escaped_spelling first level (c ∷ cs) = if is_bare_item level c then atom (Char c) 2 else or_letter c cs (magic_item first 2 c cs)
 
 -- the item at the front
 abbrev pub spelling : Bool → Level → List ℕ → Spelled
-spelling first level [] = atom (Char 92) 1
-spelling first level (c ∷ cs) = if nat_eq c 92 then escaped_spelling first level cs else bare_spelling first level c cs
+spelling first level [] = atom (Char (char "\\")) 1
+spelling first level (c ∷ cs) = if c == char "\\" then escaped_spelling first level cs else bare_spelling first level c cs

@@ -1,6 +1,7 @@
 //! Collections.
 ghost use Rattle.std.specs.Prelude.{◌≡◌, ◌^◌, [], ◌∷◌, ◌<◌, ◌≤◌, ◌+◌, length, drop, take, MatchOption, IfOk, Some, None, IfSome};
 ghost use Rattle.pattern_items.specs.Collection as spec;
+ghost use Rattle.pattern_items.specs.ClosingBracket.{Ends, HasNoEnd};
 
 use crate::class_names::{ClassName, name_at, name_len, push_name};
 use crate::codes::{char_of, code_at, notation_of};
@@ -110,7 +111,8 @@ pub fn collection_len(text: &[char]) -> Option<usize>
 /// The place of the bracket that closes the collection whose bracket stands at `at`, both from 0
 /// (`/[]`). There is none where no bracket stands at `at`.
 pub fn collection_end(text: &[char], at: usize) -> Option<usize>
-    ensures { result ≡ spec.collection_end text.now at }
+    ensures value { result ≡ spec.collection_end text.now at }
+    ensures first { MatchOption result (HasNoEnd text.now at) (λ place. Ends text.now at place) }
 {
     if at >= text.len() {
         return None;

@@ -131,7 +131,7 @@ pub enum Before {
 
 /// What the items before leave.
 #[derive(Clone, Copy)]
-pub struct Context {
+pub struct Surroundings {
     pub usage: PatternUse,
     pub level: Level,
     pub before: Before,
@@ -148,5 +148,5 @@ pub struct Context {
 pub struct Placed {
     pub sign: Sign,
     pub len: usize,
-    pub next: Context,
+    pub next: Surroundings,
 }

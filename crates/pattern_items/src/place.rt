@@ -4,7 +4,7 @@ ghost use Rattle.pattern_items.specs.Place as spec;
 ghost use Rattle.pattern_items.specs.Spelling as spelling_spec;
 
 use crate::collection::collection_sign;
-use crate::item::{Before, Context, Kind, Level, PatternUse, Placed, Raw, Sign, Spelled};
+use crate::item::{Before, Kind, Level, PatternUse, Placed, Raw, Sign, Spelled, Surroundings};
 use crate::multis::count;
 use crate::scan::{behind, first_of};
 use crate::spelling::spelling;
@@ -124,15 +124,15 @@ fn externals_next(externals: u8, sign: &Sign) -> u8
     }
 }
 
-fn context_next(context: Context, level: Level, sign: &Sign) -> Context
-    ensures { result ≡ spec.context_next context level sign.now }
+fn surroundings_next(around: Surroundings, level: Level, sign: &Sign) -> Surroundings
+    ensures { result ≡ spec.surroundings_next around level sign.now }
 {
-    Context {
-        usage: context.usage,
+    Surroundings {
+        usage: around.usage,
         level,
-        before: before_next(context.before, sign),
-        groups: groups_next(context.groups, sign),
-        externals: externals_next(context.externals, sign),
+        before: before_next(around.before, sign),
+        groups: groups_next(around.groups, sign),
+        externals: externals_next(around.externals, sign),
         first: false,
     }
 }
@@ -153,10 +153,10 @@ fn wrong(cause: PatternCause) -> Sign
     Sign::Wrong { before: 0, cause }
 }
 
-fn caret(context: Context) -> Sign
-    ensures { result ≡ spec.caret context }
+fn caret(around: Surroundings) -> Sign
+    ensures { result ≡ spec.caret around }
 {
-    if is_very(context.level) || begins(context.before) {
+    if is_very(around.level) || begins(around.before) {
         Sign::Atom(Atom::LineStart)
     } else {
         Sign::Atom(Atom::Char('^'))
@@ -164,44 +164,44 @@ fn caret(context: Context) -> Sign
 }
 
 /// A dollar with this behind it.
-fn dollar(context: Context, rest: &[char]) -> Sign
+fn dollar(around: Surroundings, rest: &[char]) -> Sign
     requires { length rest.now < 2 ^ 61 }
-    ensures { result ≡ spec.dollar context rest.now }
+    ensures { result ≡ spec.dollar around rest.now }
 {
-    if is_very(context.level) || stops(context.level, rest) {
+    if is_very(around.level) || stops(around.level, rest) {
         Sign::Atom(Atom::LineStop)
     } else {
         Sign::Atom(Atom::Char('$'))
     }
 }
 
-fn star(context: Context) -> Sign
-    ensures { result ≡ spec.star context }
+fn star(around: Surroundings) -> Sign
+    ensures { result ≡ spec.star around }
 {
-    if star_is_char(context.before) {
+    if star_is_char(around.before) {
         Sign::Atom(Atom::Char('*'))
     } else {
         Sign::Multi(count(0, None, false))
     }
 }
 
-fn group(context: Context) -> Sign
-    ensures { result ≡ spec.group context }
+fn group(around: Surroundings) -> Sign
+    ensures { result ≡ spec.group around }
 {
-    if context.groups < 9 {
-        Sign::Open(Kind::Counted(context.groups + 1))
+    if around.groups < 9 {
+        Sign::Open(Kind::Counted(around.groups + 1))
     } else {
         wrong(PatternCause::TooManyGroups)
     }
 }
 
-fn external(context: Context) -> Sign
-    ensures { result ≡ spec.external context }
+fn external(around: Surroundings) -> Sign
+    ensures { result ≡ spec.external around }
 {
-    match context.usage {
+    match around.usage {
         PatternUse::Start => {
-            if context.externals < 9 {
-                Sign::Open(Kind::External(context.externals + 1))
+            if around.externals < 9 {
+                Sign::Open(Kind::External(around.externals + 1))
             } else {
                 wrong(PatternCause::TooManyGroups)
             }
@@ -210,20 +210,20 @@ fn external(context: Context) -> Sign
     }
 }
 
-fn reference(context: Context, number: u8) -> Sign
-    ensures { result ≡ spec.reference context number }
+fn reference(around: Surroundings, number: u8) -> Sign
+    ensures { result ≡ spec.reference around number }
 {
-    if number <= context.groups {
+    if number <= around.groups {
         Sign::Atom(Atom::Ref(number))
     } else {
         wrong(PatternCause::BadReference)
     }
 }
 
-fn external_reference(context: Context, number: u8) -> Sign
-    ensures { result ≡ spec.external_reference context number }
+fn external_reference(around: Surroundings, number: u8) -> Sign
+    ensures { result ≡ spec.external_reference around number }
 {
-    match context.usage {
+    match around.usage {
         PatternUse::SkipOrEnd => Sign::Atom(Atom::ExternalRef(number)),
         _ => wrong(PatternCause::ExternalHere),
     }
@@ -244,7 +244,7 @@ fn inner_of(text: &[char], before: u8) -> &[char]
 /// The item that is spelled by the first `len` characters of a text.
 fn in_place(
     alloc: Global,
-    context: Context,
+    around: Surroundings,
     text: &[char],
     len: usize,
     raw: Raw,
@@ -252,13 +252,13 @@ fn in_place(
     requires few { length text.now < 2 ^ 61 }
     requires some { 1 ≤ len }
     requires within { len ≤ length text.now }
-    ensures { IfOk result (λ g. g ≡ spec.in_place context text.now len raw) }
+    ensures { IfOk result (λ g. g ≡ spec.in_place around text.now len raw) }
 {
     match raw {
         Raw::Atom(atom) => Ok(Sign::Atom(atom)),
-        Raw::Caret => Ok(caret(context)),
-        Raw::Dollar => Ok(dollar(context, behind(text, len))),
-        Raw::Star => Ok(star(context)),
+        Raw::Caret => Ok(caret(around)),
+        Raw::Dollar => Ok(dollar(around, behind(text, len))),
+        Raw::Star => Ok(star(around)),
         Raw::Collection { line_end, before } => {
             collection_sign(
                 alloc,
@@ -268,9 +268,9 @@ fn in_place(
             )
         }
         Raw::Multi(multi) => Ok(Sign::Multi(multi)),
-        Raw::Group => Ok(group(context)),
+        Raw::Group => Ok(group(around)),
         Raw::Plain => Ok(Sign::Open(Kind::Plain)),
-        Raw::External => Ok(external(context)),
+        Raw::External => Ok(external(around)),
         Raw::Optional => Ok(Sign::Open(Kind::Optional)),
         Raw::Close => Ok(Sign::Close),
         Raw::Square => Ok(Sign::Square),
@@ -281,24 +281,24 @@ fn in_place(
             ignore: Some(ignore),
         }),
         Raw::Engine => Ok(Sign::Quiet { ignore: None }),
-        Raw::Reference(number) => Ok(reference(context, number)),
-        Raw::ExternalReference(number) => Ok(external_reference(context, number)),
+        Raw::Reference(number) => Ok(reference(around, number)),
+        Raw::ExternalReference(number) => Ok(external_reference(around, number)),
         Raw::LeftOut => Ok(wrong(PatternCause::LeftOut(copied(alloc, first_of(text, len))?))),
         Raw::Wrong(cause) => Ok(wrong(cause)),
     }
 }
 
 /// The item at the front of a text, in its place.
-pub fn next_item(alloc: Global, context: Context, text: &[char]) -> Result<Placed, Memory>
+pub fn next_item(alloc: Global, around: Surroundings, text: &[char]) -> Result<Placed, Memory>
     requires few { length text.now < 2 ^ 61 }
     requires some { 0 < length text.now }
-    ensures value { IfOk result (λ p. p ≡ spec.placed context text.now) }
+    ensures value { IfOk result (λ p. p ≡ spec.placed around text.now) }
     ensures some { IfOk result (λ p. 1 ≤ p.len) }
     ensures within { IfOk result (λ p. p.len ≤ length text.now) }
 {
-    let Spelled { raw, len } = spelling(context.first, context.level, text);
-    let level = level_next(context.level, &raw);
-    let sign = in_place(alloc, context, text, len, raw)?;
-    let next = context_next(context, level, &sign);
+    let Spelled { raw, len } = spelling(around.first, around.level, text);
+    let level = level_next(around.level, &raw);
+    let sign = in_place(alloc, around, text, len, raw)?;
+    let next = surroundings_next(around, level, &sign);
     Ok(Placed { sign, len, next })
 }

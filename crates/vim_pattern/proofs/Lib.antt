@@ -3,6 +3,7 @@ pub mod Sound
 pub mod Faults
 pub mod OneFault
 pub mod TextLaws
+pub mod FoldLaws
 pub mod Progress
 pub mod Joined
 pub mod CopyLaws

@@ -3,10 +3,10 @@ use Rattle.std.proofs.Common.{◌≡◌, ℕ, ◌+◌, ◌<◌, ◌≤◌, lengt
 use Rattle.std.specs.Prelude.{◌||◌, if◌then◌else◌, count_by}
 use Rattle.std.specs.List.{list_any}
 use Rattle.std.proofs.lemmas.List.Sums.{sum_by-cons}
-use Rattle.pattern_items.specs.declared.item.Context.{Context}
+use Rattle.pattern_items.specs.declared.item.Surroundings.{Surroundings}
 use Rattle.pattern_items.specs.declared.item.Placed.{Placed}
 use Rattle.pattern_items.specs.declared.item.PatternUse.{PatternUse}
-use Rattle.pattern_items.specs.Place.{Item, items_from, items_of, item, placed, is_counted, is_external, first_context}
+use Rattle.pattern_items.specs.Place.{Item, items_from, items_of, item, placed, is_counted, is_external, first_surroundings}
 use Rattle.pattern_items.proofs.PlaceLaws.{items_step, placed_counts}
 use Rattle.vim_pattern.specs.declared.notes.Noted.{Noted}
 use Rattle.vim_pattern.specs.Shape.{Shape}
@@ -32,13 +32,13 @@ groups_in is = count_by (λ i. is_counted i.sign) is
 abbrev pub externals_in : List Item → ℕ
 externals_in is = count_by (λ i. is_external i.sign) is
 
-pub record Progress (all : List Item) (x : Context) (place : ℕ) (rest : List ℕ) (n : Noted) (s : State) : Type 0 where
+pub record Progress (all : List Item) (x : Surroundings) (place : ℕ) (rest : List ℕ) (n : Noted) (s : State) : Type 0 where
   pub same : read (items_from 0 x place rest) s ≡ read all start
   pub noted : noted_with n (items_from 0 x place rest) ≡ noted_with nothing_noted all
   pub groups : x.groups + groups_in (items_from 0 x place rest) ≡ groups_in all
   pub externals : x.externals + externals_in (items_from 0 x place rest) ≡ externals_in all
 
-pub nothing_read : (usage : PatternUse) (text : List ℕ) → Progress (items_of usage text) (first_context usage) 0 text nothing_noted start
+pub nothing_read : (usage : PatternUse) (text : List ℕ) → Progress (items_of usage text) (first_surroundings usage) 0 text nothing_noted start
 nothing_read usage text = record { same = refl; noted = refl; groups = omega arith; externals = omega arith }
 
 or_assoc : (a b c : Bool) → (a || (b || c)) ≡ ((a || b) || c)
@@ -53,7 +53,7 @@ noted_step n i is = λ k. record {
   line_end = or_assoc n.line_end (holds_line_stop i.sign) (list_any (λ j. holds_line_stop j.sign) is) k;
 }
 
-module _ (all : List Item) (x : Context) (place : ℕ) (rest : List ℕ) (n : Noted) (s : State) (p : Placed) (e : p ≡ placed x rest) where
+module _ (all : List Item) (x : Surroundings) (place : ℕ) (rest : List ℕ) (n : Noted) (s : State) (p : Placed) (e : p ≡ placed x rest) where
   -- the items behind this one
   abbrev behind : List Item
   behind = items_from 0 p.next (place + p.len) (drop p.len rest)
@@ -97,7 +97,7 @@ or_false : (a : Bool) → (a || false) ≡ a
 or_false true = refl
 or_false false = refl
 
-pub all_noted : (all : List Item) (x : Context) (place : ℕ) (n : Noted) (s : State) (t : Shape) → Progress all x place [] n s → IsSummaryOf all (tree_of t n x.groups x.externals)
+pub all_noted : (all : List Item) (x : Surroundings) (place : ℕ) (n : Noted) (s : State) (t : Shape) → Progress all x place [] n s → IsSummaryOf all (tree_of t n x.groups x.externals)
 all_noted all x place n s t g =
     let ignores : n.ignores_case ≡ list_any (λ i. asks_case true i.sign) all = sym (or_false n.ignores_case) ∙ (λ k. (g.noted k).ignores_case) in
     let heeds : n.heeds_case ≡ list_any (λ i. asks_case false i.sign) all = sym (or_false n.heeds_case) ∙ (λ k. (g.noted k).heeds_case) in

@@ -7,6 +7,7 @@ pub mod GroupNumbers
 pub mod Pattern
 pub mod Answer
 pub mod Read
+pub mod TreeOf
 pub mod Built
 pub mod Copied
 pub mod Summary

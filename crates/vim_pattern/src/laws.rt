@@ -5,6 +5,7 @@ ghost use Rattle.vim_pattern.specs.Tree.{PatternTree};
 ghost use Rattle.vim_pattern.specs.Fault.{Fault};
 ghost use Rattle.vim_pattern.specs.GroupNumbers.{HasNumbers};
 ghost use Rattle.vim_pattern.specs.Pattern.{IsTreeOf, HasFault};
+ghost use Rattle.vim_pattern.specs.TreeOf.{TreesAreRead, FaultsAreRead};
 
 /// A text has at most one tree.
 pub fn at_most_one_tree()
@@ -34,4 +35,10 @@ pub fn tree_or_fault()
 pub fn numbers_are_small()
     ensures { (text : List ℕ) (usage : PatternUse) (t : PatternTree) →
         IsTreeOf text usage t → HasNumbers t.node }
+{}
+
+/// The fold over a text's items gives the tree of the grammar, or the fault.
+pub fn reading_is_the_grammar()
+    ensures trees { TreesAreRead }
+    ensures faults { FaultsAreRead }
 {}

@@ -17,7 +17,8 @@ mod tree;
 
 pub use error::PatternError;
 pub use laws::{
-    at_most_one_fault, at_most_one_tree, numbers_are_small, tree_and_fault_exclude, tree_or_fault,
+    at_most_one_fault, at_most_one_tree, numbers_are_small, reading_is_the_grammar,
+    tree_and_fault_exclude, tree_or_fault,
 };
 pub use node::Node;
 pub use pattern_items::{

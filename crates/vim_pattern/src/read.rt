@@ -16,7 +16,7 @@ use crate::build::{
 };
 use crate::notes::{Noted, noted_next, tree_of};
 use crate::{Atom, Node, PatternCause, PatternError, PatternUse, Tree};
-use pattern_items::{Before, Context, Kind, Level, Multi, Placed, Sign, behind, next_item};
+use pattern_items::{Before, Kind, Level, Multi, Placed, Sign, Surroundings, behind, next_item};
 use std::alloc::Global;
 
 /// The most characters of a pattern.
@@ -279,7 +279,7 @@ fn read_items(alloc: Global, text: &[char], usage: PatternUse) -> Result<Tree, P
     ensures { GivesTree (items_of usage text.now) result
         (read.read (items_of usage text.now) read.start) }
 {
-    let mut context = Context {
+    let mut around = Surroundings {
         usage,
         level: Level::Usual,
         before: Before::Begin,
@@ -300,15 +300,15 @@ fn read_items(alloc: Global, text: &[char], usage: PatternUse) -> Result<Tree, P
     let mut place: usize = 0;
     let mut rest = text;
     while rest.len() > 0 {
-        let Placed { sign, len, next } = next_item(alloc, context, rest)?;
+        let Placed { sign, len, next } = next_item(alloc, around, rest)?;
         noted = noted_next(noted, &sign);
         reading = step(alloc, reading, place, sign)?;
-        context = next;
+        around = next;
         place += len;
         rest = behind(rest, len);
     }
     let node = finish(alloc, reading)?;
-    Ok(tree_of(node, noted, context.groups, context.externals))
+    Ok(tree_of(node, noted, around.groups, around.externals))
 }
 
 /// The one tree of a text for this use, or its first fault, with the place of the offending

@@ -7,7 +7,7 @@ use Rattle.vim_pattern.proofs.read.read_items.Given as goal
 -- what is left, from what has been built and noted, is the whole
 abbrev pub invariant-loop-rest : goal.invariant-loop-rest
 invariant-loop-rest l = record {
-  whole : Progress (items_of l.fn.usage l.text) l.context l.place l.rest l.noted (state_of l.reading);
+  whole : Progress (items_of l.fn.usage l.text) l.around l.place l.rest l.noted (state_of l.reading);
   within : l.place + length l.rest ≡ length l.text;
   few : length l.text < 2 ^ 61;
 }
