@@ -4,7 +4,6 @@ use Rattle.std.specs.Option.{option_map}
 use Rattle.syntax_set.specs.Groups.{is_same_name, group_numbered, with_group}
 use Rattle.std.specs.Prelude.{nat_eq}
 use Rattle.std.specs.List.{list_any}
-use Rattle.syntax_set.specs.declared.groups.TheConstants.{MOST_GROUPS}
 use Rattle.syntax_set.specs.Numbers.{has_number}
 use Rattle.syntax_set.specs.ClusterTable.{ClusterList, no_list}
 use Rattle.syntax_set.specs.ClusterLists.{list_at}
@@ -52,7 +51,7 @@ leads_to-same lists others same (suc levels) target cluster =
     (list_any-same (leads_to others levels target) (leads_to lists levels target) (leads_to-same lists others same levels target) (list_at lists cluster).clusters)
 
 -- a new cluster without entries leaves what is kept right
-pub holds-push : (names : List (List ℕ)) (lists : List ClusterList) (rows : List (List ℕ)) (name : List ℕ) → HoldsReached names lists rows → length (names ++ name ∷ []) ≤ MOST_GROUPS → HoldsReached (names ++ name ∷ []) (lists ++ no_list ∷ []) rows
+pub holds-push : (names : List (List ℕ)) (lists : List ClusterList) (rows : List (List ℕ)) (name : List ℕ) → HoldsReached names lists rows → length (names ++ name ∷ []) ≤ 20000 → HoldsReached (names ++ name ∷ []) (lists ++ no_list ∷ []) rows
 holds-push names lists rows name holds few = record {
   as_many_names = length-append names (name ∷ []) ∙ ap (λ n. n + 1) holds.as_many_names ∙ sym (length-append lists (no_list ∷ []));
   few = omega (arith, few, length-append names (name ∷ []), length-append lists (no_list ∷ []), holds.as_many_names);
@@ -72,10 +71,10 @@ with_group-new names name absent = by (position (is_same_name name) names) refl
     by (Some n) e = absurd (absent n e)
 
 -- what is kept after a new name
-pub holds-number : (names more_names : List (List ℕ)) (lists more_lists : List ClusterList) (rows : List (List ℕ)) (name : List ℕ) → HoldsReached names lists rows → ((n : ℕ) → position (is_same_name name) names ≡ Some n → ⊥) → more_names ≡ with_group names name → length more_names ≤ MOST_GROUPS → more_lists ≡ lists ++ no_list ∷ [] → HoldsReached more_names more_lists rows
+pub holds-number : (names more_names : List (List ℕ)) (lists more_lists : List ClusterList) (rows : List (List ℕ)) (name : List ℕ) → HoldsReached names lists rows → ((n : ℕ) → position (is_same_name name) names ≡ Some n → ⊥) → more_names ≡ with_group names name → length more_names ≤ 20000 → more_lists ≡ lists ++ no_list ∷ [] → HoldsReached more_names more_lists rows
 holds-number names more_names lists more_lists rows name holds absent e few f =
     let named = e ∙ with_group-new names name absent in
-    let F : List (List ℕ) → Type 0 = λ l. length l ≤ MOST_GROUPS in
+    let F : List (List ℕ) → Type 0 = λ l. length l ≤ 20000 in
     let P : List (List ℕ) → Type 0 = λ l. HoldsReached l (lists ++ no_list ∷ []) rows in
     let Q : List ClusterList → Type 0 = λ l. HoldsReached more_names l rows in
     subst Q (sym f) (subst P (sym named) (holds-push names lists rows name holds (subst F named few)))

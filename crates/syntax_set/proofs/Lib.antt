@@ -7,3 +7,4 @@ pub mod ReachedLaws
 pub mod KeptLaws
 mod KnownLists
 pub mod EntryLaws
+pub mod SoundLaws

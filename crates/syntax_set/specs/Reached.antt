@@ -1,7 +1,6 @@
 -- Where the names of clusters lead. What is kept for each cluster are the clusters that it leads to.
 use Rattle.std.specs.Prelude.{◌≡◌, ℕ, zero, suc, ◌<◌, ◌≤◌, Bool, false, ◌||◌, List, [], length, nat_eq, fold, slice_index_or}
 use Rattle.std.specs.List.{list_any}
-use Rattle.syntax_set.specs.declared.groups.TheConstants.{MOST_GROUPS}
 use Rattle.syntax_set.specs.Numbers.{has_number, with_numbers}
 use Rattle.syntax_set.specs.ClusterTable.{ClusterList}
 use Rattle.syntax_set.specs.ClusterLists.{list_at}
@@ -37,5 +36,5 @@ any_names lists group clusters = list_any (names_group lists group) clusters
 -- what is kept of clusters beside what contracts see
 pub record HoldsReached (names : List (List ℕ)) (lists : List ClusterList) (reached : List (List ℕ)) : Type 0 where
   pub as_many_names : length names ≡ length lists
-  pub few : length lists ≤ MOST_GROUPS
+  pub few : length lists ≤ 20000
   pub reached_all : AreAllReached lists reached

@@ -9,7 +9,7 @@ ghost use Rattle.syntax_set.specs.Reached.{any_names, names_group};
 use crate::cluster_graph::{MOST_LEVELS, all_reached, has_within};
 use crate::cluster_list::ClusterList;
 use crate::number_set::NumberSet;
-use crate::{Entry, GroupList, Groups, MOST_GROUPS, SetError};
+use crate::{Entry, GroupList, Groups, SetError};
 use std::alloc::Global;
 use std::marker::Model;
 use syn_base::{GroupId, Memory};
@@ -92,7 +92,7 @@ impl Clusters {
     pub fn number(&mut self, name: &str) -> Result<u32, SetError>
         ensures number { IfOk result (λ cluster. cluster_of self.new name.now ≡ Some cluster) }
         ensures table { OnOk result (self.new ≡ with_cluster self.old name.now) }
-        ensures most { OnOk result (length self.new.names ≤ MOST_GROUPS) }
+        ensures most { OnOk result (length self.new.names ≤ 20000) }
         ensures refused { IfErr result (IsRefusedGroup self.old.names name.now) }
         ensures unchanged { OnErr result (self.new ≡ self.old) }
     {
