@@ -19,7 +19,7 @@ invariant_of-self-2 c =
     let lists : c.push.new.self.items ≡ old.lists.items ++ no_list ∷ [] =
     pushed old.lists.items c.reserve.new.self.items c.push.new.self.items c.new.result no_list c.push.result c.unwrap.result
     c.push.ensures.items c.unwrap.ensures c.in_ok-reserve.ensures.items c.new.ensures in
-    holds-number old.names c.number.new.self old.lists.items c.push.new.self.items old.reached.items name
+    holds-number old.names c.number.new.self old.lists.items c.push.new.self.items _ name
     c.self.invariant
     (λ n e.
     let there : cluster_of c.args.self.now name ≡ Some n = sym (ap (λ (t : ClusterTable). cluster_of t name) c.self.view_is) ∙ e in
