@@ -1,4 +1,5 @@
 pub mod ChainLaws
+pub mod ItemLaws
 pub mod KeyLaws
 mod KnownWords
 pub mod WordLaws

@@ -1,5 +1,7 @@
+-- what a reader must believe: the rules
 pub mod Abbreviation
 pub mod Candidates
 pub mod Words
--- below here, what the code alone cites
+pub mod ItemNumbers
+-- what the code and proofs alone cite
 pub mod Chains

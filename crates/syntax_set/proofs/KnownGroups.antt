@@ -1,7 +1,6 @@
 -- Groups as Vim numbers and names them.
 use Rattle.std.proofs.Common.{◌≡◌, List, [], ◌∷◌, Some, None, refl}
 use Rattle.std.specs.Prelude.{ℕ, codes}
-use Rattle.syntax_set.specs.declared.groups.TheConstants.{MOST_GROUPS}
 use Rattle.syntax_set.specs.Groups.{group_numbered, group_of, name_of, with_group}
 
 two_groups : List (List ℕ)
@@ -34,6 +33,3 @@ new_group = refl
 no_such_group : name_of two_groups (group_numbered 2) ≡ []
 unfolding two_groups
 no_such_group = refl
-
-limit : MOST_GROUPS ≡ 20000
-limit = refl

@@ -4,6 +4,9 @@ pub mod Passing
 pub mod NumberLaws
 pub mod ListAt
 pub mod ReachedLaws
+pub mod ColumnLaws
+pub mod PlaceLaws
 pub mod KeptLaws
 mod KnownLists
 pub mod EntryLaws
+pub mod SoundLaws

@@ -6,11 +6,7 @@ use Rattle.std.proofs.lemmas.List.Sums.{fold-append}
 use Rattle.std.proofs.lemmas.Bool.{eqb-true}
 use Rattle.std.proofs.lemmas.List.Folds.{list_any-append}
 use Rattle.std.specs.Prelude.{nat_eq}
-use Rattle.std.specs.List.{list_any}
 use Rattle.syntax_set.specs.Numbers.{has_number, with_number, with_numbers}
-use Rattle.syntax_set.specs.ClusterTable.{ClusterList}
-use Rattle.syntax_set.specs.ClusterLists.{list_at}
-use Rattle.syntax_set.specs.Reached.{with_named, with_all_named}
 use Rattle.syntax_set.proofs.Passing.{same_bool, or_left, or_cases, or_assoc, or_false}
 
 pub has_number-with_number : (ns : List ℕ) (n k : ℕ) → has_number (with_number ns n) k ≡ (has_number ns k || nat_eq k n)
@@ -31,17 +27,6 @@ has_number-with_numbers ns (n ∷ more) k =
     has_number-with_numbers (with_number ns n) more k
     ∙ ap (λ b. b || has_number more k) (has_number-with_number ns n k)
     ∙ or_assoc (has_number ns k) (nat_eq k n) (has_number more k)
-
--- whether a cluster names another
-abbrev pub names_cluster : List ClusterList → ℕ → ℕ → Bool
-names_cluster lists target cluster = has_number (list_at lists cluster).clusters target
-
-pub has_number-with_all_named : (lists : List ClusterList) (found clusters : List ℕ) (k : ℕ) → has_number (with_all_named lists found clusters) k ≡ (has_number found k || list_any (names_cluster lists k) clusters)
-has_number-with_all_named lists found [] k = sym (or_false (has_number found k))
-has_number-with_all_named lists found (m ∷ clusters) k =
-    has_number-with_all_named lists (with_named lists found m) clusters k
-    ∙ ap (λ b. b || list_any (names_cluster lists k) clusters) (has_number-with_numbers found (list_at lists m).clusters k)
-    ∙ or_assoc (has_number found k) (names_cluster lists k m) (list_any (names_cluster lists k) clusters)
 
 -- a list that begins with another
 pub record Extends (xs ys : List ℕ) : Type 0 where
@@ -66,12 +51,6 @@ with_numbers-extends ns [] = record { rest = []; whole = sym (append-nil ns) }
 with_numbers-extends ns (n ∷ more) =
     extends_further ns (with_number ns n) (with_numbers (with_number ns n) more)
     (with_number-extends ns n) (with_numbers-extends (with_number ns n) more)
-
-pub with_all_named-extends : (lists : List ClusterList) (found clusters : List ℕ) → Extends found (with_all_named lists found clusters)
-with_all_named-extends lists found [] = record { rest = []; whole = sym (append-nil found) }
-with_all_named-extends lists found (m ∷ clusters) =
-    extends_further found (with_named lists found m) (with_all_named lists (with_named lists found m) clusters)
-    (with_numbers-extends found (list_at lists m).clusters) (with_all_named-extends lists (with_named lists found m) clusters)
 
 -- a list begins with its front
 pub takes_front : (front list : List ℕ) → Extends front list → take (length front) list ≡ front

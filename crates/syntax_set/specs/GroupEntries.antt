@@ -3,7 +3,6 @@ use Rattle.std.specs.Prelude.{◌≡◌, ◌≤◌, ℕ, List, [], ◌∷◌, le
 use Rattle.std.specs.declared.alloc.Global.{Global}
 use Rattle.std.specs.String.{string_bytes}
 use Rattle.std.specs.Str.{str_to_ascii_lowercase}
-use Rattle.syntax_set.specs.declared.groups.TheConstants.{MOST_GROUPS}
 
 abbrev pub Entry : Type 0
 Entry = String Global × String Global
@@ -20,4 +19,4 @@ IsByLowerCase (entry ∷ entries) =
 
 pub record HoldsGroups (entries : List Entry) : Type 0 where
   pub by_lower_case : IsByLowerCase entries
-  pub few : length entries ≤ MOST_GROUPS
+  pub few : length entries ≤ 20000

@@ -7,7 +7,6 @@ use Rattle.std.specs.declared.option.Option.TheVariants.{None}
 use Rattle.std.specs.Option.{option_map}
 use Rattle.std.specs.Str.{bytes_eq, str_to_ascii_lowercase}
 use Rattle.syn_base.specs.declared.places.GroupId.{GroupId}
-use Rattle.syntax_set.specs.declared.groups.TheConstants.{MOST_GROUPS}
 use Rattle.syntax_set.specs.declared.set_error.SetError.{SetError}
 use Rattle.syntax_set.specs.declared.set_error.SetError.TheVariants.{Memory, TooManyGroups, TooManyItems}
 
@@ -34,5 +33,5 @@ with_group names name = if is_some (group_of names name) then names else names +
 -- why a name was given no number
 abbrev pub IsRefusedGroup : List (List ℕ) → List ℕ → SetError → Type 0
 IsRefusedGroup names name TooManyItems = ⊥
-IsRefusedGroup names name TooManyGroups = (group_of names name ≡ None) × (length names ≡ MOST_GROUPS)
+IsRefusedGroup names name TooManyGroups = (group_of names name ≡ None) × (length names ≡ 20000)
 IsRefusedGroup names name Memory = Unit {0}

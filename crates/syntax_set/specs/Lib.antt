@@ -1,9 +1,11 @@
+-- what a reader must believe: the rules
 pub mod Groups
 pub mod Numbers
 pub mod ClusterTable
 pub mod ClusterLists
 pub mod Membership
 pub mod Allowed
--- below here, what the code alone cites
+pub mod Soundness
+-- what the code and proofs alone cite
 pub mod GroupEntries
 pub mod Reached

@@ -1,8 +1,10 @@
--- Where the names of clusters lead. What is kept for each cluster are the clusters that it leads to.
-use Rattle.std.specs.Prelude.{◌≡◌, ℕ, zero, suc, ◌<◌, ◌≤◌, Bool, false, ◌||◌, List, [], length, nat_eq, fold, slice_index_or}
+-- Where the names of clusters lead, and how it is kept. The clusters are taken 128 at a time, a column of
+-- them: each cluster has a word in it, with a bit for each of the 128, set where the cluster leads to it.
+use Rattle.std.specs.Prelude.{◌≡◌, ℕ, zero, suc, ◌+◌, ◌-◌, ◌*◌, ◌^◌, ◌<◌, ◌≤◌, Bool, true, false, ◌||◌, List, [], length, nat_eq, nat_lt, fold, slice_index_or, Option, IfSome, if◌then◌else◌}
+use Rattle.std.specs.Int.{bit_at}
+use Rattle.std.specs.Int.RustNames.{bit_or}
 use Rattle.std.specs.List.{list_any}
-use Rattle.syntax_set.specs.declared.groups.TheConstants.{MOST_GROUPS}
-use Rattle.syntax_set.specs.Numbers.{has_number, with_numbers}
+use Rattle.syntax_set.specs.Numbers.{has_number}
 use Rattle.syntax_set.specs.ClusterTable.{ClusterList}
 use Rattle.syntax_set.specs.ClusterLists.{list_at}
 
@@ -12,30 +14,60 @@ leads_to lists zero target cluster = false
 leads_to lists (suc levels) target cluster =
     nat_eq target cluster || list_any (leads_to lists levels target) (list_at lists cluster).clusters
 
--- numbers with those that some clusters name
-abbrev pub with_named : List ClusterList → List ℕ → ℕ → List ℕ
-with_named lists found cluster = with_numbers found (list_at lists cluster).clusters
-
-abbrev pub with_all_named : List ClusterList → List ℕ → List ℕ → List ℕ
-with_all_named lists found clusters = fold (with_named lists) found clusters
-
--- the numbers are those of the clusters to which a cluster leads
-pub record AreReached (lists : List ClusterList) (levels cluster : ℕ) (numbers : List ℕ) : Type 0 where
-  pub same : (target : ℕ) → has_number numbers target ≡ leads_to lists levels target cluster
-
--- the numbers that are kept, for each of the first clusters, are right
-abbrev pub AreAllReached : List ClusterList → List (List ℕ) → Type 0
-AreAllReached lists reached = (cluster : ℕ) → cluster < length reached → AreReached lists 30 cluster (slice_index_or reached cluster [])
-
 -- whether a cluster itself names a group
 abbrev pub names_group : List ClusterList → ℕ → ℕ → Bool
 names_group lists group cluster = has_number (list_at lists cluster).groups group
 
-abbrev pub any_names : List ClusterList → ℕ → List ℕ → Bool
-any_names lists group clusters = list_any (names_group lists group) clusters
+-- whether a bit of a word is set
+abbrev pub has_bit : ℕ → ℕ → Bool
+has_bit word place = nat_eq (bit_at word place) 1
 
--- what is kept of clusters beside what contracts see
-pub record HoldsReached (names : List (List ℕ)) (lists : List ClusterList) (reached : List (List ℕ)) : Type 0 where
+-- the word of a cluster, without any bit where there is none
+abbrev pub word_at : List ℕ → ℕ → ℕ
+word_at words cluster = slice_index_or words cluster 0
+
+-- the bit of a cluster in the column that begins at a number, if it stands there
+abbrev pub own_word : ℕ → ℕ → ℕ
+own_word first cluster =
+    if nat_lt cluster first then 0 else if nat_lt (cluster - first) 128 then 2 ^ (cluster - first) else 0
+
+-- the bits of the words of several clusters
+abbrev pub with_word : List ℕ → ℕ → ℕ → ℕ
+with_word words word cluster = bit_or word (word_at words cluster)
+
+abbrev pub named_words : List ℕ → List ℕ → ℕ
+named_words words clusters = fold (with_word words) 0 clusters
+
+-- on one level more a cluster leads to itself and to what those that it names led to
+abbrev pub next_word : ℕ → List ℕ → ℕ → ClusterList → ℕ
+next_word first words cluster list = bit_or (own_word first cluster) (named_words words list.clusters)
+
+-- the words are those of the column that begins at a number, for so many levels
+pub record IsColumn (lists : List ClusterList) (levels first : ℕ) (words : List ℕ) : Type 0 where
+  pub as_many : length words ≡ length lists
+  pub right : (cluster place : ℕ) → cluster < length lists → place < 128 → first + place < length lists
+      → has_bit (word_at words cluster) place ≡ leads_to lists levels (first + place) cluster
+
+-- these are all columns
+pub record AreColumns (lists : List ClusterList) (columns : List (List ℕ)) : Type 0 where
+  pub each : (k : ℕ) → k < length columns → IsColumn lists 30 (128 * k) (slice_index_or columns k [])
+  pub whole : length lists ≤ 128 * length columns
+  pub short : 128 * length columns ≤ length lists + 128
+
+-- a cluster of a column whose bit is set, and that names a group
+pub record NamesAt (lists : List ClusterList) (group first word : ℕ) : Type 0 where
+  pub place : ℕ
+  pub within : place < 128
+  pub set : has_bit word place ≡ true
+  pub named : names_group lists group (first + place) ≡ true
+
+-- no such cluster stands before a place
+abbrev pub NamesNone : List ClusterList → ℕ → ℕ → ℕ → ℕ → Type 0
+NamesNone lists group first word before =
+    (place : ℕ) → place < before → has_bit word place ≡ true → names_group lists group (first + place) ≡ false
+
+-- what is kept of clusters beside what contracts see: where they lead, once they are settled
+pub record HoldsReached (names : List (List ℕ)) (lists : List ClusterList) (reached : Option (List (List ℕ))) : Type 0 where
   pub as_many_names : length names ≡ length lists
-  pub few : length lists ≤ MOST_GROUPS
-  pub reached_all : AreAllReached lists reached
+  pub few : length lists ≤ 20000
+  pub columns : IfSome reached (AreColumns lists)

@@ -1,72 +1,215 @@
 //! Where the names of clusters lead.
 //!
-//! The clusters that one leads to are found level by level: those that were found on a level are
-//! asked for the clusters that they name, and each cluster is asked once.
-ghost use Rattle.std.specs.Prelude.{◌≡◌, ◌<◌, ◌^◌, drop, length, IfOk, OnOk};
+//! Which clusters lead to which is found level by level: on each level a cluster leads to itself and
+//! to all to which the clusters that it names led on the level before. The clusters that are led to
+//! are taken 128 at a time, so all of them cost a bit for each pair of clusters.
+ghost use Rattle.std.specs.Prelude.{
+  ◌≡◌,
+  ◌≤◌,
+  ◌<◌,
+  ◌+◌,
+  ◌^◌,
+  ℕ,
+  length,
+  true,
+  false,
+  None,
+  IfOk,
+  IfSome,
+};
+ghost use Rattle.std.specs.Bool.{OnTrue, OnFalse};
 ghost use Rattle.syntax_set.specs.ClusterLists.{list_at};
 ghost use Rattle.syntax_set.specs.Membership.{cluster_has};
-ghost use Rattle.syntax_set.specs.Reached.{AreReached, AreAllReached, with_all_named};
+ghost use Rattle.syntax_set.specs.Reached.{
+  AreColumns,
+  has_bit,
+  IsColumn,
+  named_words,
+  names_group,
+  NamesAt,
+  NamesNone,
+  next_word,
+  own_word,
+  word_at,
+};
 
 use crate::cluster_list::ClusterList;
-use crate::number_set::NumberSet;
 use std::alloc::Global;
+use std::marker::Model;
 use syn_base::Memory;
 
 /// How many levels of clusters count.
 pub(crate) const MOST_LEVELS: usize = 30;
 
-/// For each cluster those that it leads to.
-pub(crate) fn all_reached(alloc: Global, lists: &[ClusterList]) -> Result<Vec<NumberSet>, Memory>
-    requires { length lists.now < 2 ^ 32 }
-    ensures as_many { IfOk result (λ all. length all.items ≡ length lists.now) }
-    ensures right { IfOk result (λ all. AreAllReached lists.now all.items) }
-{
-    let mut all = Vec::new(alloc);
-    for cluster in 0..lists.len() {
-        all.push(reached(alloc, lists, cluster as u32)?)?;
-    }
-    Ok(all)
+/// How many clusters stand in a column.
+const COLUMN: usize = 128;
+
+/// For each cluster which ones of a column it leads to, a bit for each. Contracts see the words.
+#[derive(Drop)]
+pub(crate) struct Column {
+    words: Vec<u128>,
 }
 
-/// The clusters that one leads to, itself among them.
-fn reached(alloc: Global, lists: &[ClusterList], cluster: u32) -> Result<NumberSet, Memory>
-    ensures { IfOk result (AreReached lists.now 30 cluster) }
-{
-    let mut found = NumberSet::new(alloc);
-    found.insert(cluster)?;
-    let mut asked = 0;
-    for _level in 1..MOST_LEVELS {
-        let known = found.len();
-        ask(alloc, lists, &mut found, asked)?;
-        asked = known;
-    }
-    Ok(found)
+impl Model for Column {
+    ghost use Rattle.std.specs.Prelude.{List, ℕ};
+
+    ghost Value = { List ℕ };
+
+    ghost view = { λ c. c.words.items };
 }
 
-/// Adds the clusters that those from `asked` on name.
-fn ask(
+impl Column {
+    fn word(&self, cluster: usize) -> u128
+        ensures { result ≡ word_at self.now cluster }
+    {
+        word_at(&self.words, cluster)
+    }
+}
+
+/// The word of a cluster, without any bit where there is none.
+fn word_at(words: &[u128], cluster: usize) -> u128
+    ensures { result ≡ word_at words.now cluster }
+{
+    match words.get(cluster) {
+        Some(word) => *word,
+        None => 0,
+    }
+}
+
+/// The bit of a cluster in the column that begins at `first`, if it stands there.
+fn own_word(first: usize, cluster: usize) -> u128
+    ensures { result ≡ own_word first cluster }
+{
+    if cluster < first {
+        return 0;
+    }
+    if cluster - first < COLUMN {
+        1 << (cluster - first)
+    } else {
+        0
+    }
+}
+
+/// The bits of the words of several clusters.
+fn named_words(words: &[u128], clusters: &[u32]) -> u128
+    ensures { result ≡ named_words words.now clusters.now }
+{
+    let mut word = 0;
+    for cluster in clusters {
+        word |= word_at(words, *cluster as usize);
+    }
+    word
+}
+
+/// The words of a column on one level more.
+fn next_words(
     alloc: Global,
     lists: &[ClusterList],
-    found: &mut NumberSet,
-    asked: usize,
-) -> Result<(), Memory>
-    ensures { OnOk result (found.new ≡ with_all_named lists.now found.old (drop asked found.old)) }
+    first: usize,
+    words: &[u128],
+) -> Result<Vec<u128>, Memory>
+    ensures as_many { IfOk result (λ next. length next.items ≡ length lists.now) }
+    ensures each { IfOk result (λ next. (cluster : ℕ) → cluster < length lists.now
+        → word_at next.items cluster ≡ next_word first words.now cluster (list_at lists.now cluster)) }
 {
-    let news = found.since(alloc, asked)?;
-    for cluster in &news {
-        found.insert_all(named(lists, *cluster))?;
+    let mut next = Vec::with_capacity(alloc, lists.len())?;
+    for cluster in 0..lists.len() {
+        let clusters = lists[cluster].clusters();
+        next.push(own_word(first, cluster) | named_words(words, clusters))?;
     }
-    Ok(())
+    Ok(next)
 }
 
-/// The clusters that one names.
-fn named(lists: &[ClusterList], cluster: u32) -> &[u32]
-    ensures { result.now ≡ (list_at lists.now cluster).clusters }
+/// The column that begins at `first`.
+fn column_from(alloc: Global, lists: &[ClusterList], first: usize) -> Result<Column, Memory>
+    ensures { IfOk result (IsColumn lists.now 30 first) }
 {
-    match lists.get(cluster as usize) {
-        Some(list) => list.clusters(),
-        None => &[],
+    let mut words = vec![in alloc; 0; lists.len()]?;
+    for _level in 0..MOST_LEVELS {
+        let next = next_words(alloc, lists, first, &words)?;
+        // where one level adds nothing, those behind it add nothing either
+        if next.as_slice() == words.as_slice() {
+            return Ok(Column { words });
+        }
+        words = next;
     }
+    Ok(Column { words })
+}
+
+/// All columns.
+pub(crate) fn all_columns(alloc: Global, lists: &[ClusterList]) -> Result<Vec<Column>, Memory>
+    ensures { IfOk result (λ columns. AreColumns lists.now columns.items) }
+{
+    let mut columns = Vec::new(alloc);
+    for k in 0..lists.len() / COLUMN + 1 {
+        columns.push(column_from(alloc, lists, COLUMN * k)?)?;
+    }
+    Ok(columns)
+}
+
+/// The first place from this one on at which a bit is set.
+fn next_place(word: u128, from: u32) -> Option<u32>
+    requires { from ≤ 128 }
+    ensures found { IfSome result (λ place. (from ≤ place) × (place < 128) × (has_bit word place ≡ true)) }
+    ensures first { IfSome result (λ place. (i : ℕ) → from ≤ i → i < place → has_bit word i ≡ false) }
+    ensures none { (result ≡ None) → (i : ℕ) → from ≤ i → i < 128 → has_bit word i ≡ false }
+{
+    if from == 128 {
+        return None;
+    }
+    let left = word >> from;
+    if left == 0 {
+        return None;
+    }
+    Some(from + left.trailing_zeros())
+}
+
+/// Whether a cluster itself names the group.
+fn names_group(lists: &[ClusterList], cluster: usize, group: u32) -> bool
+    ensures { result ≡ names_group lists.now group cluster }
+{
+    match lists.get(cluster) {
+        Some(list) => list.groups().contains(group),
+        None => false,
+    }
+}
+
+/// Whether one of the clusters of the column that begins at `first` whose bit is set names the group.
+fn any_names(lists: &[ClusterList], first: usize, word: u128, group: u32) -> bool
+    requires { first + 128 < 2 ^ 64 }
+    ensures some { OnTrue result (NamesAt lists.now group first word) }
+    ensures none { OnFalse result (NamesNone lists.now group first word 128) }
+{
+    let mut from = 0;
+    while let Some(place) = next_place(word, from) {
+        if names_group(lists, first + place as usize, group) {
+            return true;
+        }
+        from = place + 1;
+    }
+    false
+}
+
+/// Whether a cluster leads to one that names the group, by all columns.
+pub(crate) fn leads_to_group(
+    lists: &[ClusterList],
+    columns: &[Column],
+    cluster: u32,
+    group: u32,
+) -> bool
+    requires { AreColumns lists.now columns.now }
+    ensures { result ≡ cluster_has lists.now 30 group cluster }
+{
+    let cluster = cluster as usize;
+    if cluster >= lists.len() {
+        return false;
+    }
+    for k in 0..columns.len() {
+        if any_names(lists, COLUMN * k, columns[k].word(cluster), group) {
+            return true;
+        }
+    }
+    false
 }
 
 /// Whether a cluster has a group, by its list and by those of the clusters that it names, so many

@@ -4,12 +4,10 @@ ghost use Rattle.syntax_set.specs.ClusterLists.{cluster_of, with_change, with_cl
 ghost use Rattle.syntax_set.specs.ClusterTable.{no_clusters};
 ghost use Rattle.syntax_set.specs.Groups.{IsRefusedGroup};
 ghost use Rattle.syntax_set.specs.Membership.{cluster_has, entry_has};
-ghost use Rattle.syntax_set.specs.Reached.{any_names, names_group};
 
-use crate::cluster_graph::{MOST_LEVELS, all_reached, has_within};
+use crate::cluster_graph::{Column, MOST_LEVELS, all_columns, has_within, leads_to_group};
 use crate::cluster_list::ClusterList;
-use crate::number_set::NumberSet;
-use crate::{Entry, GroupList, Groups, MOST_GROUPS, SetError};
+use crate::{Entry, GroupList, Groups, SetError};
 use std::alloc::Global;
 use std::marker::Model;
 use syn_base::{GroupId, Memory};
@@ -33,8 +31,8 @@ pub struct Clusters {
     // clusters are numbered, limited and named as groups are
     names: Groups,
     lists: Vec<ClusterList>,
-    // for the first clusters those that each leads to, itself among them
-    reached: Vec<NumberSet>,
+    // which clusters each one leads to, once they are settled
+    reached: Option<Vec<Column>>,
 }
 
 impl Model for Clusters {
@@ -42,11 +40,12 @@ impl Model for Clusters {
 
     ghost Value = { table.ClusterTable };
 
+    ghost use Rattle.std.specs.Prelude.{option_map};
     ghost use Rattle.syntax_set.specs.Reached.{HoldsReached};
 
     ghost view = { λ a. record { names = a.names; lists = a.lists.items } };
 
-    ghost invariant = { λ a. HoldsReached a.names a.lists.items a.reached.items };
+    ghost invariant = { λ a. HoldsReached a.names a.lists.items (option_map (λ columns. columns.items) a.reached) };
 }
 
 impl Clusters {
@@ -58,7 +57,7 @@ impl Clusters {
             alloc,
             names: Groups::new(alloc),
             lists: Vec::new(alloc),
-            reached: Vec::new(alloc),
+            reached: None,
         }
     }
 
@@ -88,11 +87,11 @@ impl Clusters {
     }
 
     /// The cluster of a name, which is made without entries if it is new (`:syn-cluster`). At most
-    /// as many clusters as groups are made.
+    /// as many clusters as groups are made. Where one is made, what was settled is so no longer.
     pub fn number(&mut self, name: &str) -> Result<u32, SetError>
         ensures number { IfOk result (λ cluster. cluster_of self.new name.now ≡ Some cluster) }
         ensures table { OnOk result (self.new ≡ with_cluster self.old name.now) }
-        ensures most { OnOk result (length self.new.names ≤ MOST_GROUPS) }
+        ensures most { OnOk result (length self.new.names ≤ 20000) }
         ensures refused { IfErr result (IsRefusedGroup self.old.names name.now) }
         ensures unchanged { OnErr result (self.new ≡ self.old) }
     {
@@ -103,6 +102,7 @@ impl Clusters {
         self.lists.reserve(1)?;
         self.names.number(name)?;
         self.lists.push(ClusterList::new(self.alloc)).unwrap();
+        self.reached = None;
         Ok(cluster)
     }
 
@@ -119,17 +119,18 @@ impl Clusters {
         ensures unchanged { OnErr result (self.new ≡ self.old) }
     {
         self.lists[cluster as usize].change(self.alloc, how, &list.entries)?;
-        self.reached.clear();
+        self.reached = None;
         Ok(())
     }
 
     /// Finds where the clusters lead, so that a question looks up the clusters that one leads to and
-    /// follows nothing. Without it, or after a change, a question follows the lists themselves, which
-    /// takes long where each of many levels names several clusters of the next.
+    /// follows nothing. That takes a bit for each pair of clusters. Without it, or after a change, a
+    /// question follows the lists themselves, which takes long where each of many levels names
+    /// several clusters of the next.
     pub fn settle(&mut self) -> Result<(), Memory>
         ensures { self.new ≡ self.old }
     {
-        self.reached = all_reached(self.alloc, &self.lists)?;
+        self.reached = Some(all_columns(self.alloc, &self.lists)?);
         Ok(())
     }
 
@@ -146,27 +147,9 @@ impl Clusters {
     fn cluster_has(&self, cluster: u32, group: u32) -> bool
         ensures { result ≡ cluster_has self.now.lists 30 group cluster }
     {
-        match self.reached.get(cluster as usize) {
-            Some(reached) => self.any_names(reached.as_slice(), group),
+        match &self.reached {
+            Some(columns) => leads_to_group(&self.lists, columns, cluster, group),
             None => has_within(&self.lists, MOST_LEVELS, cluster, group),
-        }
-    }
-
-    fn any_names(&self, clusters: &[u32], group: u32) -> bool
-        ensures { result ≡ any_names self.now.lists group clusters.now }
-    {
-        clusters
-            .iter()
-            .any(|cluster| self.names_group(*cluster, group))
-    }
-
-    /// Whether a cluster itself names the group.
-    fn names_group(&self, cluster: u32, group: u32) -> bool
-        ensures { result ≡ names_group self.now.lists group cluster }
-    {
-        match self.lists.get(cluster as usize) {
-            Some(list) => list.groups().contains(group),
-            None => false,
         }
     }
 }

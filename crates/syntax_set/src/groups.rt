@@ -82,7 +82,7 @@ impl Groups {
     pub fn number(&mut self, name: &str) -> Result<GroupId, SetError>
         ensures number { IfOk result (λ g. group_of self.new name.now ≡ Some g) }
         ensures names { OnOk result (self.new ≡ with_group self.old name.now) }
-        ensures most { OnOk result (length self.new ≤ MOST_GROUPS) }
+        ensures most { OnOk result (length self.new ≤ 20000) }
         ensures refused { IfErr result (IsRefusedGroup self.old name.now) }
         ensures unchanged { OnErr result (self.new ≡ self.old) }
     {

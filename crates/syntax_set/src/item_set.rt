@@ -29,7 +29,7 @@ impl Model for ItemSet {
 
     ghost view = { λ a. a.added.items };
 
-    ghost invariant = { λ a. length a.added.items ≤ 32_000 };
+    ghost invariant = { λ a. length a.added.items ≤ 32000 };
 }
 
 impl ItemSet {
@@ -46,7 +46,7 @@ impl ItemSet {
     pub fn add_item(&mut self, item: Item) -> Result<ItemId, SetError>
         ensures added { OnOk result (self.new ≡ self.old ++ record { item = item; live = true } ∷ []) }
         ensures number { IfOk result (λ id. id.0 ≡ length self.old) }
-        ensures too_many { IsErrOf result SetError.TooManyItems ↔ (length self.old ≡ MOST_ITEMS) }
+        ensures too_many { IsErrOf result SetError.TooManyItems ↔ (length self.old ≡ 32000) }
         ensures no_groups { ¬ (IsErrOf result SetError.TooManyGroups) }
         ensures unchanged { OnErr result (self.new ≡ self.old) }
     {
@@ -91,7 +91,7 @@ impl ItemSet {
     /// How many items were ever added.
     pub fn added(&self) -> usize
         ensures number { result ≡ length self.now }
-        ensures most { result ≤ MOST_ITEMS }
+        ensures most { result ≤ 32000 }
     {
         self.added.len()
     }

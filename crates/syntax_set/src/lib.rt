@@ -2,8 +2,9 @@
 //!
 //! An item is known by its number, in order of definition, and so are groups and clusters. Whether
 //! a list has an item goes by the item's group: the list names it, or a cluster that names it, or
-//! a cluster that names such a cluster. For each cluster it is kept which clusters it leads to, so
-//! a look into a list takes no memory and follows nothing.
+//! a cluster that names such a cluster, so many levels deep. Once the clusters are settled it is kept
+//! which ones each leads to, and a look into a list follows nothing; before that, and after a change,
+//! it follows the lists. Either way it takes no memory.
 #![tactic(auto)]
 
 mod added_item;

@@ -1,6 +1,6 @@
 //! Numbers of groups or clusters, each once, in the order in which they came.
-ghost use Rattle.std.specs.Prelude.{◌≡◌, [], drop, length, take, IfOk, OnOk, OnErr};
-ghost use Rattle.syntax_set.specs.Numbers.{has_number, with_number, with_numbers, without};
+ghost use Rattle.std.specs.Prelude.{◌≡◌, [], length, take, IfOk, OnOk, OnErr};
+ghost use Rattle.syntax_set.specs.Numbers.{has_number, with_number, without};
 
 use indexmap::IndexSet;
 use std::alloc::Global;
@@ -64,16 +64,6 @@ impl NumberSet {
         Ok(())
     }
 
-    /// Puts each of these numbers at the end, unless it is there.
-    pub(crate) fn insert_all(&mut self, numbers: &[u32]) -> Result<(), Memory>
-        ensures { OnOk result (self.new ≡ with_numbers self.old numbers.now) }
-    {
-        for number in numbers {
-            self.insert(*number)?;
-        }
-        Ok(())
-    }
-
     /// The numbers that aren't among the others.
     pub(crate) fn without(&self, alloc: Global, others: &NumberSet) -> Result<NumberSet, Memory>
         ensures { IfOk result (λ left. left ≡ without self.now others.now) }
@@ -85,17 +75,6 @@ impl NumberSet {
             }
         }
         Ok(left)
-    }
-
-    /// The numbers from a place on.
-    pub(crate) fn since(&self, alloc: Global, place: usize) -> Result<Vec<u32>, Memory>
-        ensures { IfOk result (λ news. news.items ≡ drop place self.now) }
-    {
-        if self.len() <= place {
-            return Ok(Vec::new(alloc));
-        }
-        let news = Vec::from_slice(alloc, &self.as_slice()[place..])?;
-        Ok(news)
     }
 
     /// Takes away the numbers from a place on.

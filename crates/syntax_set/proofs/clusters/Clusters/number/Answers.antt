@@ -1,5 +1,4 @@
 use Rattle.std.proofs.Common.{◌≡◌, ◌≤◌, List, [], ◌∷◌, ◌++◌, length, ap, sym, ◌∙◌, Some, cond, Result, Ok, is_ok}
-use Rattle.syntax_set.specs.declared.groups.TheConstants.{MOST_GROUPS}
 use Rattle.syntax_set.specs.ClusterTable.{ClusterTable, no_list}
 use Rattle.syntax_set.specs.ClusterLists.{cluster_of}
 use Rattle.syntax_set.specs.Groups.{with_group}
@@ -16,11 +15,11 @@ invariant_of-self-2 c =
     let name = c.args.name.now in
     let old = c.self.inside in
     let names : c.number.new.self ≡ with_group old.names name = c.in_ok-number.ensures.names in
-    let few : length c.number.new.self ≤ MOST_GROUPS = c.in_ok-number.ensures.most in
+    let few : length c.number.new.self ≤ 20000 = c.in_ok-number.ensures.most in
     let lists : c.push.new.self.items ≡ old.lists.items ++ no_list ∷ [] =
     pushed old.lists.items c.reserve.new.self.items c.push.new.self.items c.new.result no_list c.push.result c.unwrap.result
     c.push.ensures.items c.unwrap.ensures c.in_ok-reserve.ensures.items c.new.ensures in
-    holds-number old.names c.number.new.self old.lists.items c.push.new.self.items old.reached.items name
+    holds-number old.names c.number.new.self old.lists.items c.push.new.self.items _ name
     c.self.invariant
     (λ n e.
     let there : cluster_of c.args.self.now name ≡ Some n = sym (ap (λ (t : ClusterTable). cluster_of t name) c.self.view_is) ∙ e in
