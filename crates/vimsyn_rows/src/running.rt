@@ -4,7 +4,7 @@ ghost use Rattle.std.specs.Prelude.{◌≡◌, ◌<◌};
 
 use crate::behaviour::Behaviour;
 use crate::session::{NamedFile, Session};
-use std::alloc::{AllocError, Global};
+use std::alloc::Global;
 use std::marker::Brand;
 use std::sync::ledger;
 use std::sync::ledger::Blank;
@@ -81,7 +81,7 @@ fn inputs_of(alloc: Global, session: &Session, call: Option<u64>) -> Result<Inpu
 }
 
 fn script_of(alloc: Global, session: &Session, call: Option<u64>) -> Result<MemorySource, Memory> {
-    let bytes = bytes_of(alloc, &session.text)?;
+    let bytes = List::from_slice(alloc, session.text.as_slice())?;
     let failing = failing_of(alloc, &session.script, call)?;
     Ok(MemorySource::new(bytes, session.script.most, failing))
 }
@@ -96,13 +96,9 @@ fn files_of(alloc: Global, session: &Session, call: Option<u64>) -> Result<Memor
 }
 
 fn copy_of(alloc: Global, file: &NamedFile) -> Result<(List<u8>, List<u8>), Memory> {
-    let name = bytes_of(alloc, &file.name)?;
-    let bytes = bytes_of(alloc, &file.bytes)?;
+    let name = List::from_slice(alloc, file.name.as_slice())?;
+    let bytes = List::from_slice(alloc, file.bytes.as_slice())?;
     Ok((name, bytes))
-}
-
-fn bytes_of(alloc: Global, bytes: &Vec<u8>) -> Result<List<u8>, AllocError> {
-    Ok(List::from_vec(Vec::from_slice(alloc, bytes.as_slice())?))
 }
 
 /// The numbers of the calls that fail, in a run that has this number, if one has.
@@ -111,11 +107,11 @@ fn failing_of(
     behaviour: &Behaviour,
     call: Option<u64>,
 ) -> Result<List<u64>, Memory> {
-    let mut failing = Vec::from_slice(alloc, behaviour.failing.as_slice())?;
+    let mut failing = List::from_slice(alloc, behaviour.failing.as_slice())?;
     if let Some(call) = call {
         if behaviour.fails_each {
             failing.push(call)?;
         }
     }
-    Ok(List::from_vec(failing))
+    Ok(failing)
 }

@@ -1,7 +1,7 @@
 //! Words, names and texts of a session: bytes, escapes and repetitions.
 
 use crate::mistake::{Mistake, Unread};
-use itoa::Buffer;
+use byte_text::push_number;
 use std::alloc::Global;
 
 /// The most bytes of a text, and the most turns of a repetition.
@@ -72,8 +72,8 @@ fn push_piece(bytes: &mut Vec<u8>, piece: Piece<'_>, turn: Option<usize>) -> Res
         Piece::Plain(plain) => bytes.extend_from_slice(plain)?,
         Piece::Byte(byte) => bytes.push(byte)?,
         Piece::Nothing => {}
-        Piece::Turn => push_number(bytes, turn, 0)?,
-        Piece::NextTurn => push_number(bytes, turn, 1)?,
+        Piece::Turn => push_turn(bytes, turn, 0)?,
+        Piece::NextTurn => push_turn(bytes, turn, 1)?,
         Piece::Opening(_) | Piece::Closing => return Err(Unread::Mistake(Mistake::Nested)),
     }
     if bytes.len() > MOST_BYTES {
@@ -83,12 +83,11 @@ fn push_piece(bytes: &mut Vec<u8>, piece: Piece<'_>, turn: Option<usize>) -> Res
 }
 
 /// Appends the number of the turn and so many more, if there is a turn.
-fn push_number(bytes: &mut Vec<u8>, turn: Option<usize>, more: usize) -> Result<(), Unread> {
+fn push_turn(bytes: &mut Vec<u8>, turn: Option<usize>, more: u8) -> Result<(), Unread> {
     let Some(turn) = turn else {
         return Err(Unread::Mistake(Mistake::Nested));
     };
-    let mut buffer = Buffer::new();
-    bytes.extend_from_slice(buffer.format(turn.saturating_add(more)).as_bytes())?;
+    push_number(bytes, turn as u128 + more as u128)?;
     Ok(())
 }
 
