@@ -1,107 +1,212 @@
-//! Runs of the program over files and sinks in memory.
+//! Sessions, as their lines give them.
 
-ghost use Rattle.std.specs.Prelude.{◌≡◌, ◌<◌};
+use crate::behaviour::{Behaviour, Said};
+use crate::mistake::{Mistake, Unread, out_of_memory};
+use crate::text::{push_text, push_words};
+use std::alloc::Global;
+use std::io;
 
-use std::alloc::{AllocError, Global};
-use std::marker::Brand;
-use std::sync::ledger;
-use std::sync::ledger::Blank;
-use syn_base::{List, Memory, MemoryFiles, MemorySink, MemorySource, NoLedger, Steps};
-use vimsyn_cli::{Status, run};
-
-/// Room for all that a row prints.
-const ROOM: usize = 1000;
-
-/// What a run is given: its words, and its files by name.
-#[derive(Clone, Copy)]
-pub(crate) struct Case<'a> {
-    pub(crate) words: &'a [&'a str],
-    pub(crate) files: &'a [(&'a str, &'a [u8])],
-}
-
-/// How the sinks behave: the most bytes that a call takes, and the call that fails, or 0.
-#[derive(Clone, Copy)]
-pub(crate) struct Sinks {
-    pub(crate) most: usize,
-    pub(crate) failing: u64,
-    ghost some: { 0 < most },
-}
-
-/// What came of a run.
+/// A file by its name.
 #[derive(Drop)]
-pub(crate) struct Outcome {
-    pub(crate) out: Vec<u8>,
-    pub(crate) err: Vec<u8>,
-    pub(crate) status: Status,
+pub(crate) struct NamedFile {
+    pub(crate) name: Vec<u8>,
+    pub(crate) bytes: Vec<u8>,
 }
 
-fn numbers(alloc: Global, number: u64) -> Result<List<u64>, Memory> {
-    let mut list = List::new(alloc);
-    if number > 0 {
-        list.push(number)?;
+/// To what further lines belong: to the last file, to the script, or to nothing yet.
+#[derive(Clone, Copy)]
+enum Last {
+    Nothing,
+    File,
+    Script,
+}
+
+/// What a run is given, and how its outside behaves.
+#[derive(Drop)]
+pub(crate) struct Session {
+    pub(crate) words: Vec<String>,
+    pub(crate) named: Vec<NamedFile>,
+    pub(crate) text: Vec<u8>,
+    pub(crate) files: Behaviour,
+    pub(crate) script: Behaviour,
+    pub(crate) out: Behaviour,
+    pub(crate) err: Behaviour,
+    /// For each run, the call that fails where a behaviour says so; if there are none, there is one run.
+    pub(crate) each: Vec<u64>,
+    /// Whether it has any line but remarks.
+    pub(crate) is_begun: bool,
+    /// The first mistake, with the number of its line.
+    pub(crate) mistake: Option<(u64, Mistake)>,
+    /// How many lines there are, with remarks.
+    lines: u64,
+    last: Last,
+    /// Whether a further line has one before it.
+    has_line: bool,
+}
+
+impl Session {
+    /// Nothing is given yet.
+    pub(crate) fn new(alloc: Global) -> Session {
+        Session {
+            words: Vec::new(alloc),
+            named: Vec::new(alloc),
+            text: Vec::new(alloc),
+            files: Behaviour::ample(alloc),
+            script: Behaviour::ample(alloc),
+            out: Behaviour::ample(alloc),
+            err: Behaviour::ample(alloc),
+            each: Vec::new(alloc),
+            is_begun: false,
+            mistake: None,
+            lines: 0,
+            last: Last::Nothing,
+            has_line: false,
+        }
     }
-    Ok(list)
-}
 
-fn bytes(alloc: Global, text: &[u8]) -> Result<List<u8>, AllocError> {
-    Ok(List::from_vec(Vec::from_slice(alloc, text)?))
-}
-
-fn words(alloc: Global, texts: &[&str]) -> Result<Vec<String>, AllocError> {
-    let mut words = Vec::new(alloc);
-    for text in texts {
-        words.push(String::from_str(alloc, text)?)?;
+    /// Takes one more line. Behind a mistake nothing is read.
+    pub(crate) fn read(&mut self, alloc: Global, line: &[u8]) -> io::Result<()> {
+        self.lines = self.lines.saturating_add(1);
+        if line.starts_with(b"#") || self.mistake.is_some() {
+            return Ok(());
+        }
+        self.is_begun = true;
+        match self.read_line(alloc, line) {
+            Ok(()) => Ok(()),
+            Err(Unread::Mistake(mistake)) => {
+                self.mistake = Some((self.lines, mistake));
+                Ok(())
+            }
+            Err(Unread::Memory) => Err(out_of_memory()),
+        }
     }
-    Ok(words)
-}
 
-fn files(alloc: Global, given: &[(&str, &[u8])]) -> Result<List<(List<u8>, List<u8>)>, Memory> {
-    let mut files = List::new(alloc);
-    for (name, text) in given {
-        files.push((bytes(alloc, name.as_bytes())?, bytes(alloc, text)?))?;
+    fn read_line(&mut self, alloc: Global, line: &[u8]) -> Result<(), Unread> {
+        if let Some(further) = line.strip_prefix(b"|") {
+            return self.add_line(further);
+        }
+        let (verb, text) = split_at_blank(line);
+        match verb {
+            b"words" => push_words(alloc, &mut self.words, text),
+            b"file" => self.add_file(alloc, text),
+            b"script" => self.add_script(alloc, text),
+            b"most" => self.set_most(&Said::read(alloc, text)?),
+            b"room" => self.set_room(&Said::read(alloc, text)?),
+            b"failing" => self.fail_at(&Said::read(alloc, text)?),
+            b"each" => self.fail_each(&Said::read(alloc, text)?),
+            _ => Err(Unread::Mistake(Mistake::Verb)),
+        }
     }
-    Ok(files)
+
+    fn add_file(&mut self, alloc: Global, text: &[u8]) -> Result<(), Unread> {
+        let (name, text) = split_at_blank(text);
+        self.named.push(file_of(alloc, name, text)?)?;
+        self.last = Last::File;
+        self.has_line = !text.is_empty();
+        Ok(())
+    }
+
+    fn add_script(&mut self, alloc: Global, text: &[u8]) -> Result<(), Unread> {
+        push_text(alloc, &mut self.text, text)?;
+        self.last = Last::Script;
+        self.has_line = !self.text.is_empty();
+        Ok(())
+    }
+
+    /// Adds a further line to the last file or the script.
+    fn add_line(&mut self, line: &[u8]) -> Result<(), Unread> {
+        let has_line = self.has_line;
+        self.has_line = true;
+        match self.last {
+            Last::Nothing => Err(Unread::Mistake(Mistake::Further)),
+            Last::Script => push_line(&mut self.text, has_line, line),
+            Last::File => match self.named.last_mut() {
+                Some(file) => push_line(&mut file.bytes, has_line, line),
+                None => Err(Unread::Mistake(Mistake::Further)),
+            },
+        }
+    }
+
+    fn set_most(&mut self, said: &Said) -> Result<(), Unread> {
+        let most = said.amount()?;
+        if said.channels.files {
+            return Err(Unread::Mistake(Mistake::Channel));
+        }
+        if said.channels.script {
+            self.script.set_most(most)?;
+        }
+        if said.channels.out {
+            self.out.set_most(most)?;
+        }
+        if said.channels.err {
+            self.err.set_most(most)?;
+        }
+        Ok(())
+    }
+
+    fn set_room(&mut self, said: &Said) -> Result<(), Unread> {
+        let room = said.amount()?;
+        if said.channels.files || said.channels.script {
+            return Err(Unread::Mistake(Mistake::Channel));
+        }
+        if said.channels.out {
+            self.out.room = room;
+        }
+        if said.channels.err {
+            self.err.room = room;
+        }
+        Ok(())
+    }
+
+    fn fail_at(&mut self, said: &Said) -> Result<(), Unread> {
+        let calls = said.numbers.as_slice();
+        if said.channels.files {
+            self.files.fail_at(calls)?;
+        }
+        if said.channels.script {
+            self.script.fail_at(calls)?;
+        }
+        if said.channels.out {
+            self.out.fail_at(calls)?;
+        }
+        if said.channels.err {
+            self.err.fail_at(calls)?;
+        }
+        Ok(())
+    }
+
+    fn fail_each(&mut self, said: &Said) -> Result<(), Unread> {
+        self.each.extend_from_slice(said.numbers.as_slice())?;
+        self.files.fails_each |= said.channels.files;
+        self.script.fails_each |= said.channels.script;
+        self.out.fails_each |= said.channels.out;
+        self.err.fails_each |= said.channels.err;
+        Ok(())
+    }
 }
 
-/// The run of a row, in which the file call of that number, or none, fails.
-pub(crate) fn outcome_of(
-    alloc: Global,
-    case: &Case<'_>,
-    sinks: Sinks,
-    failing_file: u64,
-) -> Result<Outcome, Memory> {
-    outcome_by::<Brand>(alloc, case, sinks, failing_file, Blank::new(1))
+/// What stands before the first blank, and what stands behind it.
+fn split_at_blank(text: &[u8]) -> (&[u8], &[u8]) {
+    let mut parts = text.splitn(2, |byte: &u8| *byte == b' ');
+    (parts.next().unwrap_or(&[]), parts.next().unwrap_or(&[]))
 }
 
-fn outcome_by<B: ledger::Ledger>(
-    alloc: Global,
-    case: &Case<'_>,
-    sinks: Sinks,
-    failing_file: u64,
-    blank: Blank,
-) -> Result<Outcome, Memory>
-    requires name { blank.name ≡ B.name }
-    requires parts { blank.parts ≡ B.parts }
-    requires some { 0 < blank.parts }
-{
-    let mut steps = Steps::new(NoLedger::<B>::open(blank));
-    let words = words(alloc, case.words)?;
-    let mut files = MemoryFiles::new(files(alloc, case.files)?, numbers(alloc, failing_file)?);
-    let mut script = MemorySource::new(List::new(alloc), 1, List::new(alloc));
-    let mut out = MemorySink::new(alloc, ROOM, sinks.most, numbers(alloc, sinks.failing)?)?;
-    let mut err = MemorySink::new(alloc, ROOM, sinks.most, numbers(alloc, sinks.failing)?)?;
-    let status = run(
-        alloc,
-        words.as_slice(),
-        &mut files,
-        &mut script,
-        &mut out,
-        &mut err,
-        &mut steps,
-    );
-    Ok(Outcome {
-        out: Vec::from_slice(alloc, out.bytes())?,
-        err: Vec::from_slice(alloc, err.bytes())?,
-        status,
-    })
+/// The file whose name and bytes these texts stand for.
+fn file_of(alloc: Global, name: &[u8], text: &[u8]) -> Result<NamedFile, Unread> {
+    let mut file = NamedFile {
+        name: Vec::new(alloc),
+        bytes: Vec::new(alloc),
+    };
+    push_text(alloc, &mut file.name, name)?;
+    push_text(alloc, &mut file.bytes, text)?;
+    Ok(file)
+}
+
+/// Appends a line, behind a line end where a line stands before it.
+fn push_line(bytes: &mut Vec<u8>, has_line: bool, line: &[u8]) -> Result<(), Unread> {
+    if has_line {
+        bytes.push(b'\n')?;
+    }
+    bytes.extend_from_slice(line)?;
+    Ok(())
 }

@@ -1,0 +1,62 @@
+//! The program `vimsyn_rows`: it reads sessions of `vimsyn` from standard input, and prints what each
+//! run of one answers.
+//!
+//! A session is a run of lines, which ends at an empty line or with the input. Each of its lines is one of
+//! these:
+//!
+//!     words check s             the words of the run, parted by blanks
+//!     file s syn case match\n   a file: its name, a blank, and its text
+//!     script 1d                 a text of the script
+//!     |syn match A /\(x/        a further line of the last file or script, as it stands, without escapes; a line
+//!                               end parts it from what the file or script has so far, if it has anything
+//!     most out err 4            the most bytes that one call of `script`, `out` or `err` moves
+//!     room out 100              how many bytes there is room for in `out` or `err`
+//!     failing files 2 3         the calls of `files`, `script`, `out` or `err` that fail, counted from 1
+//!     each out err 1 2 30       a run for each of these numbers, in which that call of those fails too
+//!     # a remark
+//!
+//! What isn't given is empty; a call moves up to a million bytes, there is room for as many, and no call
+//! fails. A line with `words` or `script` adds to those before it.
+//!
+//! In words, names and texts stand for themselves all bytes but those of escapes:
+//!
+//!     \n \t \r \\ \' \"  a line end, a tab, a carriage return, a backslash, a quote
+//!     \xHH               the byte of these two hexadecimal digits
+//!     \e                 nothing, so that a word or a name may be empty
+//!     \(80:ab\)          `ab` so many times; no repetition stands in another one
+//!     \#  \+             in a repetition, how many times came before this one, and one more than that
+//!
+//! An answer is a line of three parts with a tab between any two: the status as a word and as its number,
+//! `out=` and what `out` got, `err=` and what `err` got, with escapes for all that isn't printable ASCII.
+//! A session with a mistake is answered by one line, which tells the first one with the number of its line
+//! within the session, from 1: `mistake in line 7: bad escape`.
+#![tactic(auto)]
+
+mod answer;
+mod behaviour;
+mod mistake;
+mod running;
+mod session;
+mod text;
+
+use answer::write_answers;
+use session::Session;
+use std::io;
+use std::io::{BufRead, BufReader, BufWriter, Write};
+
+fn main(rt: HostRuntime) -> io::Result<()> {
+    let input = BufReader::new(rt.alloc(), rt.reader())?;
+    let mut output = BufWriter::new(rt.alloc(), io::writer(&rt))?;
+    let mut session = Session::new(rt.alloc());
+    for line in input.split(rt.alloc(), b'\n') {
+        let line = line?;
+        if line.is_empty() {
+            write_answers(rt.alloc(), &mut output, &session)?;
+            session = Session::new(rt.alloc());
+        } else {
+            session.read(rt.alloc(), line.as_slice())?;
+        }
+    }
+    write_answers(rt.alloc(), &mut output, &session)?;
+    output.flush()
+}
