@@ -1,7 +1,8 @@
-pub mod OptionValue
+-- what a reader must believe: sets by option values, classes, folds
 pub mod CharSet
 pub mod Classes
 pub mod Folds
--- below here, what the code alone cites
-pub mod SoFar
+pub mod OptionValue
+-- what the code and proofs alone cite
 pub mod Bits
+pub mod SoFar

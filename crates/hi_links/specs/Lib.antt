@@ -1,5 +1,6 @@
-pub mod Highlights
+-- what a reader must believe: links, styles, the usual groups
 pub mod FinalGroup
+pub mod Highlights
 pub mod UsualGroups
--- below here, what the code alone cites
+-- what the code and proofs alone cite
 pub mod UsualRows

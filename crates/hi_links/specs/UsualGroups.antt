@@ -5,7 +5,6 @@ use Rattle.std.specs.Prelude.{◌≡◌, ℕ, true, false, List, [], ◌∷◌, 
 use Rattle.std.specs.declared.option.Option.TheVariants.{None, Some}
 use Rattle.std.specs.Option.{option_map_or}
 use Rattle.syn_base.specs.declared.places.GroupId.{GroupId}
-use Rattle.syntax_set.specs.declared.groups.TheConstants.{MOST_GROUPS}
 use Rattle.syntax_set.specs.declared.set_error.SetError.{SetError}
 use Rattle.syntax_set.specs.declared.set_error.SetError.TheVariants.{Memory, TooManyGroups, TooManyItems}
 use Rattle.syntax_set.specs.Groups.{group_of, with_group}
@@ -103,5 +102,5 @@ pub record HasSomeUsual (groups : List UsualGroup) (old new : List (List ℕ)) :
 abbrev pub IsRefusedUsual : List UsualGroup → List (List ℕ) → SetError → Type 0
 IsRefusedUsual groups names TooManyItems = ⊥
 IsRefusedUsual groups names TooManyGroups =
-    (length names ≡ MOST_GROUPS) × Any (λ group. group_of names group.name ≡ None) groups
+    (length names ≡ 20000) × Any (λ group. group_of names group.name ≡ None) groups
 IsRefusedUsual groups names Memory = Unit {0}

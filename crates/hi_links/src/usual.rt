@@ -7,7 +7,7 @@ ghost use Rattle.hi_links.specs.UsualRows.{usual_group, usual_rows};
 use crate::highlight::PLAIN;
 use crate::{Links, Style};
 use std::alloc::Global;
-use syntax_set::{Groups, MOST_GROUPS, SetError};
+use syntax_set::{Groups, SetError};
 
 /// What a group has from the start.
 pub(crate) enum UsualHighlight {
@@ -208,7 +208,7 @@ impl Links {
     pub fn usual(alloc: Global, groups: &mut Groups) -> Result<Links, SetError>
         ensures links { IfOk result (λ links. links ≡ (with_all_usual (groups_and_links groups.old []) usual_groups).links) }
         ensures names { OnOk result (groups.new ≡ (with_all_usual (groups_and_links groups.old []) usual_groups).names) }
-        ensures most { OnOk result (length groups.new ≤ MOST_GROUPS) }
+        ensures most { OnOk result (length groups.new ≤ 20000) }
         ensures refused { IfErr result (IsRefusedUsual usual_groups groups.new) }
         ensures some { OnErr result (HasSomeUsual usual_groups groups.old groups.new) }
     {
@@ -222,7 +222,7 @@ impl Links {
 fn add_all(rows: &[UsualRow], groups: &mut Groups, links: &mut Links) -> Result<(), SetError>
     requires none { links.old ≡ [] }
     ensures made { OnOk result (groups_and_links groups.new links.new ≡ with_all_usual (groups_and_links groups.old []) (usual_rows rows.now)) }
-    ensures most { OnOk result (0 < length rows.now → length groups.new ≤ MOST_GROUPS) }
+    ensures most { OnOk result (0 < length rows.now → length groups.new ≤ 20000) }
     ensures refused { IfErr result (IsRefusedUsual (usual_rows rows.now) groups.new) }
     ensures some { OnErr result (HasSomeUsual (usual_rows rows.now) groups.old groups.new) }
 {
@@ -236,7 +236,7 @@ fn add_all(rows: &[UsualRow], groups: &mut Groups, links: &mut Links) -> Result<
 fn add(row: &UsualRow, groups: &mut Groups, links: &mut Links) -> Result<(), SetError>
     ensures names { OnOk result (groups.new ≡ with_group groups.old row.now.name.now) }
     ensures links { OnOk result (links.new ≡ with_usual_links groups.new links.old (usual_group row.now)) }
-    ensures most { OnOk result (length groups.new ≤ MOST_GROUPS) }
+    ensures most { OnOk result (length groups.new ≤ 20000) }
     ensures refused { IfErr result (IsRefusedGroup groups.new row.now.name.now) }
     ensures some { OnErr result ((groups.new ≡ groups.old) ⊎ (groups.new ≡ with_group groups.old row.now.name.now)) }
 {

@@ -1,8 +1,8 @@
--- What a reader must believe: texts and their spans, lines looked at, the outside and its counts.
+-- what a reader must believe: texts and their spans, lines looked at, the outside and its counts
 pub mod Agreement
 pub mod Causes
 pub mod Looked
 pub mod Outside
 pub mod SpansFit
--- What the forms in memory tell besides.
+-- what the forms in memory tell besides
 pub mod InMemory

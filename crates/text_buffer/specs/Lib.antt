@@ -1,2 +1,4 @@
-pub mod Reading
+-- what a reader must believe: the text of bytes
 pub mod TextOfBytes
+-- what the code and proofs alone cite
+pub mod Reading
