@@ -6,17 +6,18 @@ use Rattle.std.proofs.lemmas.Int.{ints}
 use Rattle.char_class.specs.declared.sets.Sets.{Sets}
 use Rattle.syn_base.specs.declared.looked.Looked.{Looked}
 use Rattle.syn_base.specs.declared.places.Place.{Place}
-use Rattle.syn_base.specs.Looked.{moved_by}
+use Rattle.syn_base.specs.Looked.{hull_of, moved_by, one_line}
 use Rattle.pattern_items.specs.declared.atom.Atom.{Atom}
 use Rattle.pattern_items.specs.declared.atom.Atom.TheVariants.{Char, Any, Is, Set, LineEnd, LineStart, LineStop, WordStart, WordStop, FileStart, FileStop, MatchStart, MatchStop, Ref, ExternalRef}
 use Rattle.match_rules.specs.Ways.{Text, Way, line_at}
-use Rattle.match_rules.specs.Atoms.{only_if, group_text, external_text, keyword_at, keyword_before, keyword_in, has_keyword, fits, lines_from, line_behind, lines_looked}
+use Rattle.match_rules.specs.Atoms.{only_if, group_text, external_text, keyword_at, keyword_before, keyword_in, has_keyword, fits, own_line, lines_from, line_behind, lines_looked}
 use Rattle.match_rules.specs.Marks.{Mark}
 use Rattle.match_rules.specs.Visits.{tried, behind_fit}
 use Rattle.match_rules.proofs.Outset.{looks-here, line_behind-later}
 use Rattle.match_rules.proofs.SameMarks.{Same, Same-one}
 use Rattle.match_rules.proofs.Sides.{Two, other, shift, IsLineOf, AgreesOn, AgreesOver, Moved, SameLine, same_line, same_before, first_line}
 use Rattle.match_rules.proofs.Steps.{FitMoved, AgreesUpTo, stay-moved, no_step, further, character-same, behind_one-moved, behind_end-moved, behind_one_or_end-moved, pieces-moved, same_eq}
+use Rattle.match_rules.proofs.Hulls.{low_least, high_most, one_line-moved, hull-both, hull-parts}
 use Rattle.match_rules.proofs.SideWays.{WayMoved, ReachedWay, group_text-same}
 
 -- the lines looked at are the same, moved, where the texts agree on them
@@ -30,15 +31,33 @@ Local two R ms ns = Same (AgreesOver two) (LooksMoved two) R ms ns
 pub moved-line : (two : Two) (k j : ℕ) → IsLineOf two k j → pos j ≡ pos k +ℤ shift two
 moved-line two k j h = omega (arith, ints)
 
+pub line-moved : (two : Two) (k j : ℕ) → IsLineOf two k j →
+    one_line (pos j) ≡ moved_by (one_line (pos k)) (shift two)
+line-moved two k j h = one_line-moved (pos k) (pos j) (shift two) (moved-line two k j h)
+
 pub lines_from-moved : (two : Two) (k j m n : ℕ) → IsLineOf two k j → IsLineOf two m n → lines_from j n ≡ moved_by (lines_from k m) (shift two)
-lines_from-moved two k j m n h g = λ i. record { low = moved-line two k j h i; high = moved-line two m n g i }
+lines_from-moved two k j m n h g =
+    hull-both (one_line (pos k)) (one_line (pos m)) (one_line (pos j)) (one_line (pos n)) (shift two)
+    (line-moved two k j h) (line-moved two m n g)
 
 -- the atom's own line is among them
-pub own_line : (two : Two) (w : Way) (a : Atom) → AgreesOver two (lines_looked two.x w a) → AgreesOn two (pos w.at.line)
-own_line two w a ok = let c = looks-here two.x w a in ok (pos w.at.line) c.0 c.1
+pub agrees_here : (two : Two) (w : Way) (a : Atom) →
+    AgreesOver two (lines_looked two.x w a) → AgreesOn two (pos w.at.line)
+agrees_here two w a ok = let c = looks-here two.x w a in ok.each_line (pos w.at.line) c.0 c.1
+
+-- and where the line before is looked at too, that one
+pub agrees_before : (two : Two) (p : Place) (l : Looked) →
+    AgreesOver two (hull_of l (one_line (pos p.line -ℤ pos 1))) → AgreesOn two (pos p.line -ℤ pos 1)
+agrees_before two p l ok =
+    let before : AgreesOver two (one_line (pos p.line -ℤ pos 1)) =
+    (hull-parts two l (one_line (pos p.line -ℤ pos 1)) ok).1 in
+    before.each_line (pos p.line -ℤ pos 1) (omega (arith, ints)) (omega (arith, ints))
 
 up_to : (two : Two) (low high : ℕ) → AgreesOver two (lines_from low high) → AgreesUpTo two low high
-up_to two low high ok = λ l a b. ok (pos l) (omega (arith, ints)) (omega (arith, ints))
+up_to two low high ok = λ l a b.
+    let least = low_least (one_line (pos low)) (one_line (pos high)) in
+    let most = high_most (one_line (pos low)) (one_line (pos high)) in
+    ok.each_line (pos l) (omega (arith, ints, least.0)) (omega (arith, ints, most.1))
 
 -- ---- words
 
@@ -102,7 +121,7 @@ file_stop-moved two p q m ok s =
 -- ---- where an atom leads
 
 this_line : (two : Two) (w v : Way) (a : Atom) → WayMoved two w v → AgreesOver two (lines_looked two.x w a) → SameLine two w.at.line v.at.line
-this_line two w v a m ok = same_line two w.at.line v.at.line m.at.line (own_line two w a ok)
+this_line two w v a m ok = same_line two w.at.line v.at.line m.at.line (agrees_here two w a ok)
 
 fits-moved : (two : Two) (w v : Way) (a : Atom) → WayMoved two w v → AgreesOver two (lines_looked two.x w a) → FitMoved two w.at v.at (fits two.x w a) (fits (other two) v a)
 fits-moved two w v (Char c) m ok = behind_one-moved two _ w.at v.at m.at (this_line two w v (Char c) m ok)
@@ -118,7 +137,8 @@ fits-moved two w v WordStart m ok =
 fits-moved two w v WordStop m ok =
     let s : SameLine two w.at.line v.at.line = this_line two w v WordStop m ok in
     stay-moved two w.at v.at _ _ m.at (both-same (keyword_before two.x w.at) (not (keyword_at two.x w.at)) (keyword_before (other two) v.at) (not (keyword_at (other two) v.at)) (keyword_before-moved two w.at v.at m.at s) (ap not (keyword_at-moved two w.at v.at m.at s)))
-fits-moved two w v FileStart m ok = file_start-moved two w.at v.at m.at (ok (pos w.at.line -ℤ pos 1) (omega (arith, ints)) (omega (arith, ints)))
+fits-moved two w v FileStart m ok =
+    file_start-moved two w.at v.at m.at (agrees_before two w.at (own_line w) ok)
 fits-moved two w v FileStop m ok = file_stop-moved two w.at v.at m.at (up_to two w.at.line (line_behind two.x.text w.at.line) ok) (this_line two w v FileStop m ok)
 fits-moved two w v MatchStart m ok = (m.at, no_step two w.at v.at)
 fits-moved two w v MatchStop m ok = (m.at, no_step two w.at v.at)
@@ -131,14 +151,22 @@ fits-moved two w v (ExternalRef number) m ok = (pieces-moved two (external_text 
 pub before-moved : (two : Two) (k j : ℕ) → IsLineOf two k j → pos j -ℤ pos 1 ≡ (pos k -ℤ pos 1) +ℤ shift two
 before-moved two k j h = omega (arith, ints)
 
+pub before_line-moved : (two : Two) (k j : ℕ) → IsLineOf two k j →
+    one_line (pos j -ℤ pos 1) ≡ moved_by (one_line (pos k -ℤ pos 1)) (shift two)
+before_line-moved two k j h =
+    one_line-moved (pos k -ℤ pos 1) (pos j -ℤ pos 1) (shift two) (before-moved two k j h)
+
 looks-moved : (two : Two) (w v : Way) (a : Atom) → WayMoved two w v → LooksMoved two (lines_looked two.x w a) (lines_looked (other two) v a)
-looks-moved two w v FileStart m ok = λ i. record { low = before-moved two w.at.line v.at.line m.at.line i; high = moved-line two w.at.line v.at.line m.at.line i }
+looks-moved two w v FileStart m ok =
+    hull-both (own_line w) (one_line (pos w.at.line -ℤ pos 1)) (own_line v) (one_line (pos v.at.line -ℤ pos 1))
+    (shift two) (line-moved two w.at.line v.at.line m.at.line)
+    (before_line-moved two w.at.line v.at.line m.at.line)
 looks-moved two w v FileStop m ok = lines_from-moved two w.at.line v.at.line _ _ m.at.line (line_behind-moved two w.at v.at m.at (this_line two w v FileStop m ok))
 looks-moved two w v (Ref number) m ok =
     rw (group_text-same two w v number m) (lines_from-moved two w.at.line v.at.line _ _ m.at.line (pieces-moved two (group_text two.x w number) w.at v.at m.at (up_to two w.at.line _ ok)).1)
 looks-moved two w v (ExternalRef number) m ok =
     lines_from-moved two w.at.line v.at.line _ _ m.at.line (pieces-moved two (external_text two.x number) w.at v.at m.at (up_to two w.at.line _ ok)).1
-looks-moved two w v _ m ok = lines_from-moved two w.at.line v.at.line w.at.line v.at.line m.at.line m.at.line
+looks-moved two w v _ m ok = line-moved two w.at.line v.at.line m.at.line
 
 -- ---- the way behind it
 
@@ -168,5 +196,5 @@ atom-moved two p q w v a m = (
   behind_fit v a (fits (other two) v a),
   refl,
   looks-moved two w v a m.way,
-  λ ok. behind_fit-moved two p q w v a m (own_line two w a ok) (fits two.x w a) (fits (other two) v a) (fits-moved two w v a m.way ok),
+  λ ok. behind_fit-moved two p q w v a m (agrees_here two w a ok) (fits two.x w a) (fits (other two) v a) (fits-moved two w v a m.way ok),
 )

@@ -19,7 +19,7 @@ use Rattle.match_rules.proofs.Outset.{Covers, Outset, outset}
 use Rattle.match_rules.proofs.Sides.{Two, other, shift, AgreesOn, AgreesOver, Moved}
 use Rattle.match_rules.proofs.Steps.{no_step, after-moved}
 use Rattle.match_rules.proofs.SideWays.{CaptureMoved, StartMoved, StopMoved, WayMoved, ReachedWay, captures-none, captures-get, externals-same}
-use Rattle.match_rules.proofs.AtomsMoved.{Local, moved-line}
+use Rattle.match_rules.proofs.AtomsMoved.{Local, moved-line, line-moved}
 
 -- ---- the match of a way
 
@@ -95,19 +95,19 @@ answer_from-moved two p q cost l (Tick a ∷ ms) ns m here h ok =
     (answer_from-moved two p q (suc cost) (hull_of l a) ms h.1 m here (h.4 agrees) ok))
 
 start_line-moved : (two : Two) (p q : Place) → Moved two p q → one_line (pos q.line) ≡ moved_by (one_line (pos p.line)) (shift two)
-start_line-moved two p q m = λ i. record { low = moved-line two p.line q.line m.line i; high = moved-line two p.line q.line m.line i }
+start_line-moved two p q m = line-moved two p.line q.line m.line
 
 -- the first tick looks at the start's line; where there is none, that line is what was looked at
 answer-moved : (two : Two) (p q : Place) (ms ns : List Mark) → Moved two p q → Outset two.x.text two.x.text p p ms ms → Local two (ReachedWay two p q) ms ns → AgreesOver two (lines_of p (answer_of ms)) →
     IsMovedAnswer two.x (other two) (shift two) p q (answer_of ms) (answer_of ns)
 answer-moved two p q [] ns m begins h ok = rw h (record { cost = refl; looked = start_line-moved two p q m; way = tt })
 answer-moved two p q (Reach w ∷ ms) ns m begins h ok =
-    rw h.2 (record { cost = refl; looked = start_line-moved two p q m; way = match-moved two p q w h.0 m (ok (pos p.line) (omega (arith, ints)) (omega (arith, ints))) h.3.way })
+    rw h.2 (record { cost = refl; looked = start_line-moved two p q m; way = match-moved two p q w h.0 m (ok.each_line (pos p.line) (omega (arith, ints)) (omega (arith, ints))) h.3.way })
 answer-moved two p q (Tick a ∷ ms) ns m begins h ok =
     let all : AgreesOver two (hull_to a ms) = subst (AgreesOver two) (looked-is p 1 a ms) ok in
     let agrees : AgreesOver two a = hull_to-covers two a ms all in
     let covers : Covers p.line a = begins.3 in
-    let here : AgreesOn two (pos p.line) = agrees (pos p.line) covers.0 covers.1 in
+    let here : AgreesOn two (pos p.line) = agrees.each_line (pos p.line) covers.0 covers.1 in
     rw h.2
     (subst (λ (k : Looked). IsMovedAnswer two.x (other two) (shift two) p q (answer_from 1 (Some a) ms) (answer_from 1 (Some k) h.1)) (sym (h.3 agrees))
     (answer_from-moved two p q 1 a ms h.1 m here (h.4 agrees) all))

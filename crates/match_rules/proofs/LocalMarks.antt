@@ -1,7 +1,6 @@
 -- A pattern makes the same marks in two texts, moved, as long as they agree on the lines looked at.
-use Rattle.std.proofs.Common.{◌≡◌, ℕ, zero, suc, ◌<◌, ◌≤◌, false, List, [], ◌∷◌, ◌++◌, length, take, refl, sym, ap, ◌∙◌, arith, subst}
+use Rattle.std.proofs.Common.{◌≡◌, ℕ, zero, suc, ◌<◌, ◌≤◌, false, List, [], ◌∷◌, ◌++◌, length, take, refl, sym, arith, subst}
 use Rattle.std.specs.Prelude.{pos, ◌-ℤ◌}
-use Rattle.std.proofs.lemmas.Int.{ints}
 use Rattle.syn_base.specs.declared.looked.Looked.{Looked}
 use Rattle.syn_base.specs.declared.places.Place.{Place}
 use Rattle.syn_base.specs.Looked.{hull_of, moved_by, one_line}
@@ -19,8 +18,8 @@ use Rattle.match_rules.proofs.Outset.{outset, nowhere_else}
 use Rattle.match_rules.proofs.Sides.{Two, other, shift, AgreesOn, AgreesOver, Moved, SameBefore, same_before}
 use Rattle.match_rules.proofs.Steps.{no_step, further, after-moved, same_place-moved}
 use Rattle.match_rules.proofs.SideWays.{NotesMoved, WayMoved, ReachedWay, with_capture-moved}
-use Rattle.match_rules.proofs.AtomsMoved.{LooksMoved, Local, before-moved, atom-moved}
-use Rattle.match_rules.proofs.Hulls.{hull-moved, hull-parts}
+use Rattle.match_rules.proofs.AtomsMoved.{LooksMoved, Local, agrees_before, before_line-moved, atom-moved}
+use Rattle.match_rules.proofs.Hulls.{hull-both, hull-parts}
 
 -- ---- the starts of a look behind
 
@@ -121,15 +120,9 @@ noted_external-moved two number p q w v w' v' m n =
 
 -- ---- looks behind
 
-line_before-looked : (two : Two) (p q : Place) → Moved two p q → one_line (pos q.line -ℤ pos 1) ≡ moved_by (one_line (pos p.line -ℤ pos 1)) (shift two)
-line_before-looked two p q m = λ i. record { low = before-moved two p.line q.line m.line i; high = before-moved two p.line q.line m.line i }
-
 hull-looked : (two : Two) (m n : Looked) → n ≡ moved_by m (shift two) → (l k : Looked) → LooksMoved two l k → LooksMoved two (hull_of l m) (hull_of k n)
 hull-looked two m n e l k h ok =
-    ap (λ a. hull_of a n) (h (hull-parts two l m ok).0) ∙ (ap (λ b. hull_of (moved_by l (shift two)) b) e ∙ hull-moved l m (shift two))
-
-on_before : (two : Two) (p : Place) (l : Looked) → AgreesOver two (hull_of l (one_line (pos p.line -ℤ pos 1))) → AgreesOn two (pos p.line -ℤ pos 1)
-on_before two p l ok = (hull-parts two l (one_line (pos p.line -ℤ pos 1)) ok).1 (pos p.line -ℤ pos 1) (omega (arith, ints)) (omega (arith, ints))
+    hull-both l m k n (shift two) (h (hull-parts two l m ok).0) e
 
 abbrev PartMoved : Two → Shape → Type 0
 PartMoved two part = (p q : Place) (w v : Way) → ReachedWay two p q w v → Local two (ReachedWay two p q) (visits two.x part w) (visits (other two) part v)
@@ -154,9 +147,9 @@ tried_behind-moved : (two : Two) (part : Shape) (limit : Behind) → PartMoved t
 tried_behind-moved two part limit same w v m =
     rw (tried_behind-split two.x.text (visits two.x part) limit w, tried_behind-split two.text (visits (other two) part) limit v)
     (Same-behind (AgreesOver two) (LooksMoved two) (one_line (pos w.at.line -ℤ pos 1)) (one_line (pos v.at.line -ℤ pos 1))
-    (hull-looked two (one_line (pos w.at.line -ℤ pos 1)) (one_line (pos v.at.line -ℤ pos 1)) (line_before-looked two w.at v.at m.at))
+    (hull-looked two (one_line (pos w.at.line -ℤ pos 1)) (one_line (pos v.at.line -ℤ pos 1)) (before_line-moved two w.at.line v.at.line m.at.line))
     (λ l ok. (hull-parts two l (one_line (pos w.at.line -ℤ pos 1)) ok).0)
-    (WayMoved two) (AgreesOn two (pos w.at.line -ℤ pos 1)) (on_before two w.at)
+    (WayMoved two) (AgreesOn two (pos w.at.line -ℤ pos 1)) (agrees_before two w.at)
     (ending_at w.at (visits two.x part w)) (ending_at w.at (from_each (visits two.x part) w (other_starts two.x.text limit w.at)))
     (ending_at v.at (visits (other two) part v)) (ending_at v.at (from_each (visits (other two) part) v (other_starts two.text limit v.at)))
     (ending-moved two w v (visits two.x part w) (visits (other two) part v) m (from_start two part same w v m))

@@ -11,7 +11,7 @@ use Rattle.pattern_items.specs.declared.atom.Atom.{Atom}
 use Rattle.pattern_items.specs.declared.atom.Atom.TheVariants.{FileStart, FileStop, Ref, ExternalRef}
 use Rattle.vim_pattern.specs.Shape.{Shape, empty, one, seq, or, and, group, external, repeat, ahead, before, whole}
 use Rattle.match_rules.specs.Ways.{Text, Context, Way, IsPlaceOf, is_after, is_same_place, behind_character}
-use Rattle.match_rules.specs.Atoms.{character_at, is_line_end, only_if, behind_if, Piece, character, line_end, behind_piece, last_line_of, group_text, external_text, fits, lines_from, line_behind, lines_looked}
+use Rattle.match_rules.specs.Atoms.{character_at, is_line_end, only_if, behind_if, Piece, character, line_end, behind_piece, last_line_of, group_text, external_text, fits, own_line, lines_from, line_behind, lines_looked}
 use Rattle.match_rules.specs.Marks.{Mark, Tick, Reach}
 use Rattle.match_rules.specs.Looks.{ending_at, from_each, tried_behind}
 use Rattle.match_rules.specs.Visits.{visits, behind_fit, noted, noted_external}
@@ -56,15 +56,19 @@ last_line-later x (piece ∷ pieces) p =
 pub line_behind-later : (text : Text) (l : ℕ) → l ≤ line_behind text l
 line_behind-later text l = grind (arith, nat_tests)
 
-covers-from : (l high : ℕ) → l ≤ high → Covers l (lines_from l high)
-covers-from l high h = (omega (arith, ints), omega (arith, ints))
+covers-one : (l : ℕ) → Covers l (one_line (pos l))
+covers-one l = (omega (arith, ints), omega (arith, ints))
+
+covers-from : (l high : ℕ) → Covers l (lines_from l high)
+covers-from l high = covers-hull l (one_line (pos l)) (one_line (pos high)) (covers-one l)
 
 pub looks-here : (x : Context) (w : Way) (a : Atom) → Covers w.at.line (lines_looked x w a)
-looks-here x w FileStart = (omega (arith, ints), omega (arith, ints))
-looks-here x w FileStop = covers-from w.at.line (line_behind x.text w.at.line) (line_behind-later x.text w.at.line)
-looks-here x w (Ref number) = covers-from w.at.line _ (last_line-later x (group_text x w number) w.at)
-looks-here x w (ExternalRef number) = covers-from w.at.line _ (last_line-later x (external_text x number) w.at)
-looks-here x w _ = covers-from w.at.line w.at.line (omega arith)
+looks-here x w FileStart =
+    covers-hull w.at.line (own_line w) (one_line (pos w.at.line -ℤ pos 1)) (covers-one w.at.line)
+looks-here x w FileStop = covers-from w.at.line (line_behind x.text w.at.line)
+looks-here x w (Ref number) = covers-from w.at.line (last_line_of x (group_text x w number) w.at)
+looks-here x w (ExternalRef number) = covers-from w.at.line (last_line_of x (external_text x number) w.at)
+looks-here x w _ = covers-one w.at.line
 
 -- ---- before the first tick
 
