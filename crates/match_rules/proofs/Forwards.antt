@@ -35,13 +35,16 @@ abbrev pub IsForwardsOrNone : Place → Option Place → Type 0
 IsForwardsOrNone p None = Unit {0}
 IsForwardsOrNone p (Some q) = IsForwards p q
 
-only_if-forwards : (p : Place) (b : Bool) (q : Place) → IsForwards p q → IsForwardsOrNone p (only_if b q)
+only_if-forwards : (p : Place) (b : Bool) (q : Place) → IsForwards p q →
+    IsForwardsOrNone p (only_if b q)
 only_if-forwards p true q h = h
 only_if-forwards p false q h = tt
 
-behind_if-forwards : (test : ℕ → Bool) (o : Option ℕ) (p : Place) → IsForwardsOrNone p (behind_if test o p)
+behind_if-forwards : (test : ℕ → Bool) (o : Option ℕ) (p : Place) →
+    IsForwardsOrNone p (behind_if test o p)
 behind_if-forwards test None p = tt
-behind_if-forwards test (Some c) p = only_if-forwards p (test c) (behind_character p) (past_character p)
+behind_if-forwards test (Some c) p = only_if-forwards p (test c) (behind_character p)
+    (past_character p)
 
 by_end-forwards : (text : Text) (test : ℕ → Bool) (p : Place) (b : Bool) →
     IsForwardsOrNone p (if b then Some (behind_line_end p) else behind_one text test p)
@@ -53,12 +56,14 @@ behind_one_or_end-forwards : (text : Text) (takes_end : Bool) (test : ℕ → Bo
 behind_one_or_end-forwards text takes_end test p =
     by_end-forwards text test p (takes_end && is_line_end text p)
 
-behind_piece-forwards : (x : Context) (piece : Piece) (p : Place) → IsForwardsOrNone p (behind_piece x piece p)
+behind_piece-forwards : (x : Context) (piece : Piece) (p : Place) →
+    IsForwardsOrNone p (behind_piece x piece p)
 behind_piece-forwards x (character c) p = behind_if-forwards _ (character_at x.text p) p
 behind_piece-forwards x line_end p =
     only_if-forwards p (is_line_end x.text p) (behind_line_end p) (past_line_end p)
 
-or_further : (p q : Place) (o : Option Place) → IsForwards p q → IsForwardsOrNone q o → IsForwardsOrNone p o
+or_further : (p q : Place) (o : Option Place) → IsForwards p q → IsForwardsOrNone q o →
+    IsForwardsOrNone p o
 or_further p q None h k = tt
 or_further p q (Some r) h k = further_on p q r h k
 
@@ -66,9 +71,12 @@ behind_pieces-forwards : (x : Context) (pieces : List Piece) (p : Place) →
     IsForwardsOrNone p (behind_pieces x pieces p)
 behind_pieces-forwards x [] p = stays p
 behind_pieces-forwards x (piece ∷ pieces) p =
-    elim (behind_piece x piece p) as (λ o. IsForwardsOrNone p o → IsForwardsOrNone p (elim o as (λ _. Option Place) [ None ↦ None | Some q ↦ behind_pieces x pieces q ])) [
+    elim (behind_piece x piece p) as (λ o. IsForwardsOrNone p o →
+    IsForwardsOrNone p (elim o as (λ _. Option Place)
+    [ None ↦ None | Some q ↦ behind_pieces x pieces q ])) [
       | None ↦ λ _. tt
-      | Some q ↦ λ k. or_further p q (behind_pieces x pieces q) k (behind_pieces-forwards x pieces q)
+      | Some q ↦ λ k. or_further p q (behind_pieces x pieces q) k
+          (behind_pieces-forwards x pieces q)
     ] (behind_piece-forwards x piece p)
 
 pub fits-forwards : (x : Context) (w : Way) (a : Atom) → IsForwardsOrNone w.at (fits x w a)

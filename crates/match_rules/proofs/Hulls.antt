@@ -18,8 +18,12 @@ lesser-moved a b d = grind (arith, ints)
 greater-moved : (a b d : ℤ) → greater (a +ℤ d) (b +ℤ d) ≡ greater a b +ℤ d
 greater-moved a b d = grind (arith, ints)
 
-pub hull-moved : (a b : Looked) (d : ℤ) → hull_of (moved_by a d) (moved_by b d) ≡ moved_by (hull_of a b) d
-hull-moved a b d = λ i. record { low = lesser-moved a.low b.low d i; high = greater-moved a.high b.high d i }
+pub hull-moved : (a b : Looked) (d : ℤ) →
+    hull_of (moved_by a d) (moved_by b d) ≡ moved_by (hull_of a b) d
+hull-moved a b d = λ i. record {
+  low = lesser-moved a.low b.low d i;
+  high = greater-moved a.high b.high d i;
+}
 
 -- a line, moved, is one line
 pub one_line-moved : (a b d : ℤ) → b ≡ a +ℤ d → one_line b ≡ moved_by (one_line a) d
@@ -32,10 +36,17 @@ hull-both a b a' b' d h k =
     ap (λ l. hull_of l b') h ∙ (ap (λ l. hull_of (moved_by a d) l) k ∙ hull-moved a b d)
 
 -- texts that agree on a hull agree on both its parts
-pub hull-parts : (two : Two) (a b : Looked) → AgreesOver two (hull_of a b) → AgreesOver two a × AgreesOver two b
+pub hull-parts : (two : Two) (a b : Looked) → AgreesOver two (hull_of a b) →
+    AgreesOver two a × AgreesOver two b
 hull-parts two a b ok =
     let l = low_least a b in
     let h = high_most a b in (
-      record { each_line = λ k x y. ok.each_line k (omega (arith, ints, l.0)) (omega (arith, ints, h.0)) },
-      record { each_line = λ k x y. ok.each_line k (omega (arith, ints, l.1)) (omega (arith, ints, h.1)) },
+      record {
+        each_line = λ k x y. ok.each_line k (omega (arith, ints, l.0))
+            (omega (arith, ints, h.0));
+      },
+      record {
+        each_line = λ k x y. ok.each_line k (omega (arith, ints, l.1))
+            (omega (arith, ints, h.1));
+      },
     )

@@ -112,8 +112,10 @@ abbrev pub fits : Context → Way → Atom → Option Place
 fits x w (Char c) = behind_one x.text (λ d. is_same c d x.ignore) w.at
 fits x w (Any takes_end) = behind_one_or_end x.text takes_end (λ c. true) w.at
 fits x w (Is class negative takes_end) =
-    behind_one_or_end x.text takes_end (λ c. turned_round negative (class_holds class c x.sets)) w.at
-fits x w (Set ranges) = behind_one_or_end x.text ranges.line_end (λ c. collection_holds ranges c x.sets x.ignore) w.at
+    behind_one_or_end x.text takes_end (λ c. turned_round negative (class_holds class c x.sets))
+    w.at
+fits x w (Set ranges) = behind_one_or_end x.text ranges.line_end
+    (λ c. collection_holds ranges c x.sets x.ignore) w.at
 fits x w LineEnd = only_if (is_line_end x.text w.at) (behind_line_end w.at)
 fits x w LineStart = only_if (nat_eq w.at.col 0) w.at
 fits x w LineStop = only_if (nat_eq w.at.col (length (line_at x.text w.at.line))) w.at
@@ -121,7 +123,8 @@ fits x w WordStart = only_if (keyword_at x w.at && not (keyword_before x w.at)) 
 fits x w WordStop = only_if (keyword_before x w.at && not (keyword_at x w.at)) w.at
 fits x w FileStart = only_if (nat_eq w.at.line 0 && nat_eq w.at.col 0) w.at
 fits x w FileStop =
-    only_if (nat_eq (w.at.line + 1) (length x.text) && nat_eq w.at.col (length (line_at x.text w.at.line))) w.at
+    only_if (nat_eq (w.at.line + 1) (length x.text)
+    && nat_eq w.at.col (length (line_at x.text w.at.line))) w.at
 fits x w MatchStart = Some w.at
 fits x w MatchStop = Some w.at
 fits x w (Ref number) = behind_pieces x (group_text x w number) w.at
@@ -145,7 +148,8 @@ abbrev pub lines_looked : Context → Way → Atom → Looked
 lines_looked x w FileStart = hull_of (own_line w) (one_line (pos w.at.line -ℤ pos 1))
 lines_looked x w FileStop = lines_from w.at.line (line_behind x.text w.at.line)
 lines_looked x w (Ref number) = lines_from w.at.line (last_line_of x (group_text x w number) w.at)
-lines_looked x w (ExternalRef number) = lines_from w.at.line (last_line_of x (external_text x number) w.at)
+lines_looked x w (ExternalRef number) = lines_from w.at.line
+    (last_line_of x (external_text x number) w.at)
 lines_looked x w (Char c) = own_line w
 lines_looked x w (Any takes_end) = own_line w
 lines_looked x w (Is class negative takes_end) = own_line w

@@ -40,4 +40,5 @@ pub record StaysOn (text : Text) (start : Place) (answer : Answer) : Type 0 wher
 -- the law: from a place of the text, which may be that of the line behind the last
 abbrev pub StaysOnText : PatternTree → Type 0
 StaysOnText tree =
-    (x : Context) (start : Place) → IsPlaceOf x.text start → StaysOn x.text start (attempt tree x start)
+    (x : Context) (start : Place) → IsPlaceOf x.text start →
+    StaysOn x.text start (attempt tree x start)
