@@ -1,15 +1,15 @@
 -- Hulls of lines, moved and covered.
-use Rattle.std.proofs.Common.{◌≡◌, arith}
+use Rattle.std.proofs.Common.{◌≡◌, ap, ◌∙◌, arith}
 use Rattle.std.specs.Prelude.{ℤ, ◌+ℤ◌, ◌≤ℤ◌}
 use Rattle.std.proofs.lemmas.Int.{ints}
 use Rattle.syn_base.specs.declared.looked.Looked.{Looked}
-use Rattle.syn_base.specs.Looked.{hull_of, moved_by, lesser, greater}
+use Rattle.syn_base.specs.Looked.{hull_of, moved_by, one_line, lesser, greater}
 use Rattle.match_rules.proofs.Sides.{Two, AgreesOver}
 
-low_least : (a b : Looked) → ((hull_of a b).low ≤ℤ a.low) × ((hull_of a b).low ≤ℤ b.low)
+pub low_least : (a b : Looked) → ((hull_of a b).low ≤ℤ a.low) × ((hull_of a b).low ≤ℤ b.low)
 low_least a b = (grind (arith, ints), grind (arith, ints))
 
-high_most : (a b : Looked) → (a.high ≤ℤ (hull_of a b).high) × (b.high ≤ℤ (hull_of a b).high)
+pub high_most : (a b : Looked) → (a.high ≤ℤ (hull_of a b).high) × (b.high ≤ℤ (hull_of a b).high)
 high_most a b = (grind (arith, ints), grind (arith, ints))
 
 lesser-moved : (a b d : ℤ) → lesser (a +ℤ d) (b +ℤ d) ≡ lesser a b +ℤ d
@@ -18,12 +18,35 @@ lesser-moved a b d = grind (arith, ints)
 greater-moved : (a b d : ℤ) → greater (a +ℤ d) (b +ℤ d) ≡ greater a b +ℤ d
 greater-moved a b d = grind (arith, ints)
 
-pub hull-moved : (a b : Looked) (d : ℤ) → hull_of (moved_by a d) (moved_by b d) ≡ moved_by (hull_of a b) d
-hull-moved a b d = λ i. record { low = lesser-moved a.low b.low d i; high = greater-moved a.high b.high d i }
+pub hull-moved : (a b : Looked) (d : ℤ) →
+    hull_of (moved_by a d) (moved_by b d) ≡ moved_by (hull_of a b) d
+hull-moved a b d = λ i. record {
+  low = lesser-moved a.low b.low d i;
+  high = greater-moved a.high b.high d i;
+}
+
+-- a line, moved, is one line
+pub one_line-moved : (a b d : ℤ) → b ≡ a +ℤ d → one_line b ≡ moved_by (one_line a) d
+one_line-moved a b d h = ap one_line h
+
+-- the hull of two ranges that are moved alike
+pub hull-both : (a b a' b' : Looked) (d : ℤ) → a' ≡ moved_by a d → b' ≡ moved_by b d →
+    hull_of a' b' ≡ moved_by (hull_of a b) d
+hull-both a b a' b' d h k =
+    ap (λ l. hull_of l b') h ∙ (ap (λ l. hull_of (moved_by a d) l) k ∙ hull-moved a b d)
 
 -- texts that agree on a hull agree on both its parts
-pub hull-parts : (two : Two) (a b : Looked) → AgreesOver two (hull_of a b) → AgreesOver two a × AgreesOver two b
+pub hull-parts : (two : Two) (a b : Looked) → AgreesOver two (hull_of a b) →
+    AgreesOver two a × AgreesOver two b
 hull-parts two a b ok =
     let l = low_least a b in
-    let h = high_most a b in
-    (λ k x y. ok k (omega (arith, ints, l.0)) (omega (arith, ints, h.0)), λ k x y. ok k (omega (arith, ints, l.1)) (omega (arith, ints, h.1)))
+    let h = high_most a b in (
+      record {
+        each_line = λ k x y. ok.each_line k (omega (arith, ints, l.0))
+            (omega (arith, ints, h.0));
+      },
+      record {
+        each_line = λ k x y. ok.each_line k (omega (arith, ints, l.1))
+            (omega (arith, ints, h.1));
+      },
+    )

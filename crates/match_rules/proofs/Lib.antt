@@ -13,4 +13,7 @@ pub mod AtomsMoved
 pub mod Hulls
 pub mod LocalMarks
 pub mod LocalAnswer
+pub mod Forwards
+pub mod AllMarks
+pub mod OnText
 mod Rows

@@ -1,8 +1,7 @@
 -- Worked rows: what patterns answer in small texts, with the cost and the lines looked at.
-use Rattle.std.specs.Prelude.{◌≡◌, ℕ, ℤ, pos, negsuc, Bool, true, false, List, [], ◌∷◌, Option, Some, None, codes, replicate, set, refl}
+use Rattle.std.specs.Prelude.{◌≡◌, ℕ, ℤ, pos, negsuc, true, false, List, [], ◌∷◌, Option, Some, None, codes, replicate, set, refl}
 use Rattle.char_class.specs.CharSet.{set_has, is_member}
 use Rattle.char_class.specs.Folds.{is_same, range_holds}
-use Rattle.char_class.specs.declared.sets.Sets.{Sets}
 use Rattle.ucd_case.proofs.Computing.{ucd_case}
 use Rattle.syn_base.specs.declared.class.Class.TheVariants.{White, Alpha}
 use Rattle.syn_base.specs.declared.looked.Looked.{Looked}
@@ -13,7 +12,7 @@ use Rattle.pattern_items.specs.declared.item.Behind.TheVariants as Behind
 use Rattle.pattern_items.specs.declared.item.Behind.TheVariants.{Most}
 use Rattle.vim_pattern.specs.Shape.{Shape, empty, one, seq, or, and, group, external, repeat, ahead, before, whole}
 use Rattle.match_rules.specs.Ways.{Text, Context, Capture, Way, place, with_capture}
-use Rattle.match_rules.specs.Attempt.{Answer, search, lines_of, match_from, match_to, externals_of}
+use Rattle.match_rules.specs.Attempt.{search, lines_of, match_from, match_to, externals_of}
 
 abbrev pub ch : ℕ → Shape
 ch c = one (Char c)

@@ -72,7 +72,7 @@ same_slice two k j e = record {
 pub same_line : (two : Two) (k j : ℕ) → IsLineOf two k j → AgreesOn two (pos k) → SameLine two k j
 same_line two k j m h =
     let e : pos k +ℤ shift two ≡ pos j = omega (arith, ints) in
-    same_slice two k j (or_behind-same _ _ (subst (λ l. seen_at two.text l ≡ seen_at two.x.text (pos k)) e h))
+    same_slice two k j (or_behind-same _ _ (subst (λ l. seen_at two.text l ≡ seen_at two.x.text (pos k)) e h.same))
 
 -- ---- the line before
 
@@ -90,11 +90,11 @@ same_before two (suc k) (suc j) m h =
     (line, same_line two k j line (subst (AgreesOn two) e h))
 same_before two zero (suc j) m h =
     let e : (pos 0 -ℤ pos 1) +ℤ shift two ≡ pos j = omega (arith, ints) in
-    absurd (or_behind-is (slice_get two.text j) (subst (λ l. seen_at two.text l ≡ before_first) e h))
+    absurd (or_behind-is (slice_get two.text j) (subst (λ l. seen_at two.text l ≡ before_first) e h.same))
 same_before two (suc k) zero m h =
     let e : pos (suc k) -ℤ pos 1 ≡ pos k = omega (arith, ints) in
     let f : pos k +ℤ shift two ≡ negsuc 0 = omega (arith, ints) in
-    absurd (or_behind-is (slice_get two.x.text k) (sym (subst (λ l. seen_at two.text l ≡ seen_at two.x.text (pos k)) f (subst (AgreesOn two) e h))))
+    absurd (or_behind-is (slice_get two.x.text k) (sym (subst (λ l. seen_at two.text l ≡ seen_at two.x.text (pos k)) f (subst (AgreesOn two) e h).same)))
 
 pub first_line : (two : Two) (k j : ℕ) → SameBefore two k j → nat_eq j 0 ≡ nat_eq k 0
 first_line two zero zero h = refl

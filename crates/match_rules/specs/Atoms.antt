@@ -7,6 +7,7 @@ use Rattle.char_class.specs.declared.sets.Sets.{Sets}
 use Rattle.syn_base.specs.declared.class.Class.TheVariants.{Keyword}
 use Rattle.syn_base.specs.declared.looked.Looked.{Looked}
 use Rattle.syn_base.specs.declared.places.Place.{Place}
+use Rattle.syn_base.specs.Looked.{one_line, hull_of}
 use Rattle.pattern_items.specs.declared.atom.Atom.{Atom}
 use Rattle.pattern_items.specs.declared.atom.Atom.TheVariants.{Char, Any, Is, Set, LineEnd, LineStart, LineStop, WordStart, WordStop, FileStart, FileStop, MatchStart, MatchStop, Ref, ExternalRef}
 use Rattle.match_rules.specs.Ways.{Text, Context, Capture, Way, capture_of, line_at, behind_character, behind_line_end}
@@ -111,8 +112,10 @@ abbrev pub fits : Context → Way → Atom → Option Place
 fits x w (Char c) = behind_one x.text (λ d. is_same c d x.ignore) w.at
 fits x w (Any takes_end) = behind_one_or_end x.text takes_end (λ c. true) w.at
 fits x w (Is class negative takes_end) =
-    behind_one_or_end x.text takes_end (λ c. turned_round negative (class_holds class c x.sets)) w.at
-fits x w (Set ranges) = behind_one_or_end x.text ranges.line_end (λ c. collection_holds ranges c x.sets x.ignore) w.at
+    behind_one_or_end x.text takes_end (λ c. turned_round negative (class_holds class c x.sets))
+    w.at
+fits x w (Set ranges) = behind_one_or_end x.text ranges.line_end
+    (λ c. collection_holds ranges c x.sets x.ignore) w.at
 fits x w LineEnd = only_if (is_line_end x.text w.at) (behind_line_end w.at)
 fits x w LineStart = only_if (nat_eq w.at.col 0) w.at
 fits x w LineStop = only_if (nat_eq w.at.col (length (line_at x.text w.at.line))) w.at
@@ -120,7 +123,8 @@ fits x w WordStart = only_if (keyword_at x w.at && not (keyword_before x w.at)) 
 fits x w WordStop = only_if (keyword_before x w.at && not (keyword_at x w.at)) w.at
 fits x w FileStart = only_if (nat_eq w.at.line 0 && nat_eq w.at.col 0) w.at
 fits x w FileStop =
-    only_if (nat_eq (w.at.line + 1) (length x.text) && nat_eq w.at.col (length (line_at x.text w.at.line))) w.at
+    only_if (nat_eq (w.at.line + 1) (length x.text)
+    && nat_eq w.at.col (length (line_at x.text w.at.line))) w.at
 fits x w MatchStart = Some w.at
 fits x w MatchStop = Some w.at
 fits x w (Ref number) = behind_pieces x (group_text x w number) w.at
@@ -128,8 +132,11 @@ fits x w (ExternalRef number) = behind_pieces x (external_text x number) w.at
 
 -- ---- the lines that an atom looks at
 
+abbrev pub own_line : Way → Looked
+own_line w = one_line (pos w.at.line)
+
 abbrev pub lines_from : ℕ → ℕ → Looked
-lines_from low high = record { low = pos low; high = pos high }
+lines_from low high = hull_of (one_line (pos low)) (one_line (pos high))
 
 -- the line behind a line that is there; behind the last one nothing is looked at
 abbrev pub line_behind : Text → ℕ → ℕ
@@ -138,11 +145,22 @@ line_behind text l = if nat_lt l (length text) then l + 1 else l
 -- its own line; the file's start looks at the line before too, the file's stop at the one behind, and
 -- a reference at the lines up to the one in which its text ends or fails to stand
 abbrev pub lines_looked : Context → Way → Atom → Looked
-lines_looked x w FileStart = record { low = pos w.at.line -ℤ pos 1; high = pos w.at.line }
+lines_looked x w FileStart = hull_of (own_line w) (one_line (pos w.at.line -ℤ pos 1))
 lines_looked x w FileStop = lines_from w.at.line (line_behind x.text w.at.line)
 lines_looked x w (Ref number) = lines_from w.at.line (last_line_of x (group_text x w number) w.at)
-lines_looked x w (ExternalRef number) = lines_from w.at.line (last_line_of x (external_text x number) w.at)
-lines_looked x w _ = lines_from w.at.line w.at.line
+lines_looked x w (ExternalRef number) = lines_from w.at.line
+    (last_line_of x (external_text x number) w.at)
+lines_looked x w (Char c) = own_line w
+lines_looked x w (Any takes_end) = own_line w
+lines_looked x w (Is class negative takes_end) = own_line w
+lines_looked x w (Set ranges) = own_line w
+lines_looked x w LineEnd = own_line w
+lines_looked x w LineStart = own_line w
+lines_looked x w LineStop = own_line w
+lines_looked x w WordStart = own_line w
+lines_looked x w WordStop = own_line w
+lines_looked x w MatchStart = own_line w
+lines_looked x w MatchStop = own_line w
 
 -- ---- the way behind an atom that fits
 

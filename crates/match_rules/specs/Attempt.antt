@@ -44,7 +44,8 @@ attempt tree x start = search (for_tree tree x) tree.node start
 
 -- the lines looked at; that of the start where there was no tick
 abbrev pub lines_of : Place → Answer → Looked
-lines_of start answer = elim answer.looked [ None ↦ one_line (pos start.line) | Some looked ↦ looked ]
+lines_of start answer = elim answer.looked
+    [ None ↦ one_line (pos start.line) | Some looked ↦ looked ]
 
 -- ---- the match of a way
 
@@ -65,7 +66,8 @@ match_to start w = not_before (match_from start w) (or_place w.stop w.at)
 -- the text of an external group: empty where it goes over a line end, or didn't match
 abbrev pub text_in_line : Text → Place → Place → List ℕ
 text_in_line text from to =
-    if nat_eq from.line to.line then take (to.col - from.col) (drop from.col (line_at text from.line)) else []
+    if nat_eq from.line to.line then take (to.col - from.col)
+    (drop from.col (line_at text from.line)) else []
 
 abbrev pub external_of : Text → Capture → List ℕ
 external_of text None = []

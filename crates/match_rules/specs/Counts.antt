@@ -34,7 +34,9 @@ free_turns part lazy zero most w = Reach w ∷ []
 free_turns part lazy (suc left) most w =
     elim (is_spent most) [
       | true ↦ Reach w ∷ []
-      | false ↦ in_order lazy (followed (part w) (λ v. elim (is_after v.at w.at) [ true ↦ free_turns part lazy left (one_less most) v | false ↦ [] ])) (Reach w ∷ [])
+      | false ↦ in_order lazy (followed (part w)
+          (λ v. elim (is_after v.at w.at)
+          [ true ↦ free_turns part lazy left (one_less most) v | false ↦ [] ])) (Reach w ∷ [])
     ]
 
 abbrev pub unforced : Text → (Way → List Mark) → Bool → Option ℕ → Way → List Mark
@@ -46,7 +48,10 @@ turns text part lazy zero most w = unforced text part lazy most w
 turns text part lazy (suc least) most w =
     elim (is_spent most) [
       | true ↦ Reach w ∷ []
-      | false ↦ followed (part w) (λ v. elim (is_after v.at w.at) [ true ↦ turns text part lazy least (one_less most) v | false ↦ unforced text part lazy (less_by most (suc least)) v ])
+      | false ↦ followed (part w) (λ v. elim (is_after v.at w.at) [
+        | true ↦ turns text part lazy least (one_less most) v
+        | false ↦ unforced text part lazy (less_by most (suc least)) v
+      ])
     ]
 
 -- ---- a count is its own next turn and the rest (a law: `a_count_is_its_next_turn`)
@@ -56,7 +61,10 @@ abbrev pub after_turn : Text → (Way → List Mark) → Bool → ℕ → Option
 after_turn text part lazy zero most from v =
     elim (is_after v.at from) [ true ↦ turns text part lazy zero (one_less most) v | false ↦ [] ]
 after_turn text part lazy (suc least) most from v =
-    elim (is_after v.at from) [ true ↦ turns text part lazy least (one_less most) v | false ↦ turns text part lazy zero (less_by most (suc least)) v ]
+    elim (is_after v.at from) [
+      | true ↦ turns text part lazy least (one_less most) v
+      | false ↦ turns text part lazy zero (less_by most (suc least)) v
+    ]
 
 abbrev pub or_stop : ℕ → Bool → List Mark → Way → List Mark
 or_stop zero lazy more w = in_order lazy more (Reach w ∷ [])

@@ -22,7 +22,8 @@ pub record IsMoved (shift : ℤ) (p q : Place) : Type 0 where
 
 abbrev pub IsMovedCapture : ℤ → Capture → Capture → Type 0
 IsMovedCapture shift None None = Unit {0}
-IsMovedCapture shift (Some places) (Some others) = IsMoved shift places.0 others.0 × IsMoved shift places.1 others.1
+IsMovedCapture shift (Some places) (Some others) =
+    IsMoved shift places.0 others.0 × IsMoved shift places.1 others.1
 IsMovedCapture shift None (Some others) = ⊥
 IsMovedCapture shift (Some places) None = ⊥
 
@@ -31,7 +32,8 @@ pub record IsMovedMatch (x y : Context) (shift : ℤ) (p q : Place) (w v : Way) 
   pub from : IsMoved shift (match_from p w) (match_from q v)
   pub from_line : AgreeAt x.text y.text shift (pos (match_from p w).line)
   pub to : IsMoved shift (match_to p w) (match_to q v)
-  pub captures : (i : ℕ) → IsMovedCapture shift (get_or w.captures i None) (get_or v.captures i None)
+  pub captures : (i : ℕ) → IsMovedCapture shift (get_or w.captures i None)
+      (get_or v.captures i None)
   pub externals : externals_of y.text v ≡ externals_of x.text w
 
 abbrev pub IsMovedWay : Context → Context → ℤ → Place → Place → Option Way → Option Way → Type 0
@@ -40,10 +42,11 @@ IsMovedWay x y shift p q (Some w) (Some v) = IsMovedMatch x y shift p q w v
 IsMovedWay x y shift p q None (Some v) = ⊥
 IsMovedWay x y shift p q (Some w) None = ⊥
 
-pub record IsMovedAnswer (x y : Context) (shift : ℤ) (p q : Place) (answer other : Answer) : Type 0 where
-  pub cost : other.cost ≡ answer.cost
-  pub looked : lines_of q other ≡ moved_by (lines_of p answer) shift
-  pub way : IsMovedWay x y shift p q answer.way other.way
+pub record IsMovedAnswer (x y : Context) (shift : ℤ) (p q : Place) (answer other : Answer) : Type 0
+  where
+    pub cost : other.cost ≡ answer.cost
+    pub looked : lines_of q other ≡ moved_by (lines_of p answer) shift
+    pub way : IsMovedWay x y shift p q answer.way other.way
 
 -- the law: from a place of the one text and the same place, moved, of the other
 abbrev pub IsLocal : PatternTree → Type 0

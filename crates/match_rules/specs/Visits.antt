@@ -22,7 +22,10 @@ abbrev pub noted : ℕ → Place → Way → List Mark
 noted number from w = Reach (record w { captures = with_capture w.captures number from w.at }) ∷ []
 
 abbrev pub noted_external : ℕ → Place → Way → List Mark
-noted_external number from w = Reach (record w { externals = with_capture w.externals number from w.at }) ∷ []
+noted_external number from w = Reach (record w {
+  externals = with_capture w.externals number from
+      w.at;
+}) ∷ []
 
 abbrev pub visits : Context → Shape → Way → List Mark
 visits x empty w = Reach w ∷ []
@@ -34,5 +37,6 @@ visits x (group part number) w = followed (visits x part w) (noted number w.at)
 visits x (external part number) w = followed (visits x part w) (noted_external number w.at)
 visits x (repeat part least most lazy) w = turns x.text (visits x part) lazy least most w
 visits x (ahead part negative) w = look negative w (visits x part w)
-visits x (before part negative limit) w = look negative w (tried_behind x.text (visits x part) limit w)
+visits x (before part negative limit) w =
+    look negative w (tried_behind x.text (visits x part) limit w)
 visits x (whole part) w = ticks_first (visits x part w) ++ reach_if (first_way (visits x part w))

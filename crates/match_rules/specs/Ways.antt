@@ -29,7 +29,13 @@ pub record Way : Type 0 where
 
 -- the way at the place where an attempt starts
 abbrev pub way_from : Place → Way
-way_from p = record { at = p; captures = replicate 9 None; externals = replicate 9 None; start = None; stop = None }
+way_from p = record {
+  at = p;
+  captures = replicate 9 None;
+  externals = replicate 9 None;
+  start = None;
+  stop = None;
+}
 
 -- the capture of a group, from 1
 abbrev pub capture_of : List Capture → ℕ → Capture

@@ -10,6 +10,7 @@ ghost use Rattle.vim_pattern.specs.Tree.{PatternTree};
 ghost use Rattle.match_rules.specs.Ways.{Context};
 ghost use Rattle.match_rules.specs.CountLaw.{CountsByTurns};
 ghost use Rattle.match_rules.specs.Locality.{IsLocal};
+ghost use Rattle.match_rules.specs.OnText.{StaysOnText};
 
 /// From a place of the text, a count is its next turn, with what follows each way of it, and its stop.
 pub fn a_count_is_its_next_turn()
@@ -20,4 +21,10 @@ pub fn a_count_is_its_next_turn()
 /// both, moved.
 pub fn attempts_are_local()
     ensures { (tree : PatternTree) → IsLocal tree }
+{}
+
+/// From a place of the text, that of the line behind the last one too, the match of an attempt and its
+/// groups go from place to place of the text, and the lines looked at are its lines, or beside them.
+pub fn attempts_stay_on_the_text()
+    ensures { (tree : PatternTree) → StaysOnText tree }
 {}

@@ -10,21 +10,21 @@ use Rattle.match_rules.specs.Visits.{visits}
 use Rattle.match_rules.proofs.MarkLaws.{followed-append}
 use Rattle.match_rules.proofs.TurnLaws.{turns-spent, turns-free, turns-forced, after_turn-took, after_turn-empty, after_turn-dropped}
 use Rattle.match_rules.proofs.Kept.{visits-kept}
-use Rattle.pattern_match.specs.declared.item.Item.{Item}
-use Rattle.pattern_match.specs.declared.item.Item.TheVariants.{Count, Turn, AfterTurn}
-use Rattle.pattern_match.specs.declared.item.Turns.{Turns}
-use Rattle.pattern_match.specs.declared.item.Next.TheVariants as at_once
-use Rattle.pattern_match.specs.declared.item.Went.{Went}
-use Rattle.pattern_match.specs.declared.item.Went.TheVariants.{GoesOn, Does, Ends}
+use Rattle.pattern_match.specs.declared.task.Task.{Task}
+use Rattle.pattern_match.specs.declared.task.Task.TheVariants.{Count, Turn, AfterTurn}
+use Rattle.pattern_match.specs.declared.task.Turns.{Turns}
+use Rattle.pattern_match.specs.declared.task.Next.TheVariants as at_once
+use Rattle.pattern_match.specs.declared.task.Went.{Went}
+use Rattle.pattern_match.specs.declared.task.Went.TheVariants.{GoesOn, Does, Ends}
 use Rattle.pattern_match.specs.declared.spent.Spent.{Spent}
 use Rattle.pattern_match.specs.Steps.{shape_of}
-use Rattle.pattern_match.specs.Threads.{Ways}
-use Rattle.pattern_match.specs.Machine.{item_marks, marks_with}
+use Rattle.pattern_match.specs.Ways.{Ways}
+use Rattle.pattern_match.specs.Machine.{task_marks, marks_with}
 use Rattle.pattern_match.specs.Heights.{height}
 use Rattle.pattern_match.specs.Search.{Leads, Goes, IsStep, marks_first}
 use Rattle.pattern_match.proofs.Leading.{silent, leads_on, leads_do, leads_two, leads_stop, leads_nowhere, step_before}
 
-module _ (x : Context) (t : Turns) (old : Ways Item) (numbers : HasNumbers (shape_of t.part.now)) where
+module _ (x : Context) (t : Turns) (old : Ways Task) (numbers : HasNumbers (shape_of t.part.now)) where
   -- behind a turn that began at a place
   pub turn_took : (from : Place) (least : ℕ) (most : Option ℕ) → is_after old.here.way.at from ≡ true → least ≡ t.least - 1 → most ≡ one_less t.most →
       Leads x (height (shape_of t.part.now) + 1) (marks_first x (AfterTurn t from) old) old old (Does (at_once.Count (record { part = t.part; least = least; most = most; lazy = t.lazy })))
@@ -44,10 +44,10 @@ module _ (x : Context) (t : Turns) (old : Ways Item) (numbers : HasNumbers (shap
       let e : after_turn x.text (visits x (shape_of t.part.now)) t.lazy t.least t.most from old.here.way ≡ [] = rw l (after_turn-dropped x.text (visits x (shape_of t.part.now)) t.lazy t.most from old.here.way after) in
       rw e (leads_nowhere x (height (shape_of t.part.now) + 1) old)
 
-  pub push_turn : (new : Ways Item) (from : Place) → from ≡ old.here.way.at → new ≡ record old { here = record old.here { todo = AfterTurn t from ∷ old.here.todo } } →
+  pub push_turn : (new : Ways Task) (from : Place) → from ≡ old.here.way.at → new ≡ record old { here = record old.here { todo = AfterTurn t from ∷ old.here.todo } } →
       Leads x (height (shape_of t.part.now) + 1) (marks_first x (Turn t) old) old new (Does (at_once.Visit t.part))
   push_turn new from e n =
-      subst (λ p. Leads x (height (shape_of t.part.now) + 1) (followed (followed (visits x (shape_of t.part.now) old.here.way) (item_marks x (AfterTurn t p))) (marks_with x old.here.todo)) old new (Does (at_once.Visit t.part))) e
+      subst (λ p. Leads x (height (shape_of t.part.now) + 1) (followed (followed (visits x (shape_of t.part.now) old.here.way) (task_marks x (AfterTurn t p))) (marks_with x old.here.todo)) old new (Does (at_once.Visit t.part))) e
       (leads_two x (height (shape_of t.part.now) + 1) old new (at_once.Visit t.part) (AfterTurn t from) n numbers (omega arith) numbers (omega arith))
 
   module _ (on_text : IsPlaceOf x.text old.here.way.at) where
@@ -59,22 +59,22 @@ module _ (x : Context) (t : Turns) (old : Ways Item) (numbers : HasNumbers (shap
     pub count_forced : is_spent t.most ≡ false → 0 < t.least → marks_first x (Count t) old ≡ marks_first x (Turn t) old
     count_forced e l = rw (turns-forced x.text (visits x (shape_of t.part.now)) t.lazy t.least t.most old.here.way e l) refl
 
-    free_marks : is_spent t.most ≡ false → t.least ≡ 0 → item_marks x (Count t) old.here.way ≡ in_order t.lazy (item_marks x (Turn t) old.here.way) (Reach old.here.way ∷ [])
+    free_marks : is_spent t.most ≡ false → t.least ≡ 0 → task_marks x (Count t) old.here.way ≡ in_order t.lazy (task_marks x (Turn t) old.here.way) (Reach old.here.way ∷ [])
     free_marks e l = rw l (turns-free x.text (visits x (shape_of t.part.now)) t.lazy (visits-kept x (shape_of t.part.now)) t.most old.here.way on_text e)
 
-    pub count_lazy : (new : Ways Item) (s : Spent) → s.cost ≤ s.budget → is_spent t.most ≡ false → t.least ≡ 0 → t.lazy ≡ true →
+    pub count_lazy : (new : Ways Task) (s : Spent) → s.cost ≤ s.budget → is_spent t.most ≡ false → t.least ≡ 0 → t.lazy ≡ true →
         new ≡ record old { pending = record old.here { todo = Turn t ∷ old.here.todo } ∷ old.pending } →
         Goes x (height (shape_of t.part.now) + 1) (marks_first x (Count t) old) old new s s GoesOn
     count_lazy new s h e l lazy n =
-        let k : item_marks x (Count t) old.here.way ≡ Reach old.here.way ∷ item_marks x (Turn t) old.here.way = free_marks e l ∙ ap (λ b. in_order b (item_marks x (Turn t) old.here.way) (Reach old.here.way ∷ [])) lazy in
+        let k : task_marks x (Count t) old.here.way ≡ Reach old.here.way ∷ task_marks x (Turn t) old.here.way = free_marks e l ∙ ap (λ b. in_order b (task_marks x (Turn t) old.here.way) (Reach old.here.way ∷ [])) lazy in
         rw k (silent x (height (shape_of t.part.now) + 1) _ old new s GoesOn h (leads_stop x (height (shape_of t.part.now) + 1) old new (Turn t) n numbers (omega arith)))
 
     greedy_marks : is_spent t.most ≡ false → t.least ≡ 0 → t.lazy ≡ false → marks_first x (Count t) old ≡ marks_first x (Turn t) old ++ marks_with x old.here.todo old.here.way
     greedy_marks e l lazy =
-        let k : item_marks x (Count t) old.here.way ≡ item_marks x (Turn t) old.here.way ++ Reach old.here.way ∷ [] = free_marks e l ∙ ap (λ b. in_order b (item_marks x (Turn t) old.here.way) (Reach old.here.way ∷ [])) lazy in
+        let k : task_marks x (Count t) old.here.way ≡ task_marks x (Turn t) old.here.way ++ Reach old.here.way ∷ [] = free_marks e l ∙ ap (λ b. in_order b (task_marks x (Turn t) old.here.way) (Reach old.here.way ∷ [])) lazy in
         rw (k, followed-append, append-nil) refl
 
-    pub count_greedy : (aside new : Ways Item) (earlier later : Spent) (went : Went) → is_spent t.most ≡ false → t.least ≡ 0 → t.lazy ≡ false → aside ≡ record old { pending = old.here ∷ old.pending } →
+    pub count_greedy : (aside new : Ways Task) (earlier later : Spent) (went : Went) → is_spent t.most ≡ false → t.least ≡ 0 → t.lazy ≡ false → aside ≡ record old { pending = old.here ∷ old.pending } →
         IsStep x (height (shape_of t.part.now) + 1) (marks_first x (Turn t) aside) aside new earlier later went → IsStep x (height (shape_of t.part.now) + 1) (marks_first x (Count t) old) old new earlier later went
     count_greedy aside new earlier later went e l lazy a step =
         let k : marks_first x (Turn t) aside ≡ marks_first x (Turn t) old = rw a refl in

@@ -3,10 +3,10 @@ use Rattle.std.proofs.Common.{◌≡◌, ℕ, List, [], ◌∷◌, refl}
 use Rattle.std.specs.Prelude.{Some, None, replicate}
 use Rattle.match_rules.specs.Ways.{capture_of, place}
 use Rattle.pattern_match.specs.Entries.{entries_from}
-use Rattle.pattern_match.specs.Threads.{with_notes, with_earlier, with_last}
-use Rattle.pattern_match.specs.declared.threads.Note.{Note}
-use Rattle.pattern_match.specs.declared.threads.Note.TheVariants.{Captured, Stop}
-use Rattle.pattern_match.specs.declared.threads.Noted.{Noted}
+use Rattle.pattern_match.specs.Ways.{with_notes, with_earlier, with_last}
+use Rattle.pattern_match.specs.declared.ways.Note.{Note}
+use Rattle.pattern_match.specs.declared.ways.Note.TheVariants.{Captured, Stop}
+use Rattle.pattern_match.specs.declared.ways.Noted.{Noted}
 
 -- a number, and that of the entry behind it
 abbrev Entry : Type 0

@@ -1,6 +1,6 @@
 pub mod LastPartLaws
 pub mod EntryLaws
-pub mod ThreadLaws
+pub mod WayLaws
 pub mod Leading
 pub mod Counting
 pub mod Stepping
@@ -18,3 +18,4 @@ mod KnownWays
 pub mod CodeLaws
 pub mod TableLaws
 pub mod CaseLaws
+pub mod AnswerLaws

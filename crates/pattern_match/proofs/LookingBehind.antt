@@ -14,11 +14,11 @@ use Rattle.match_rules.specs.Looks.{from_each, ending_at, starts_behind, looking
 use Rattle.match_rules.specs.Attempt.{Answer, answer_from, joined}
 use Rattle.match_rules.specs.Visits.{visits}
 use Rattle.pattern_match.specs.declared.behind.Starts.{Starts}
-use Rattle.pattern_match.specs.declared.item.Item.{Item}
+use Rattle.pattern_match.specs.declared.task.Task.{Task}
 use Rattle.pattern_match.specs.declared.spent.Spent.{Spent}
 use Rattle.pattern_match.specs.Spending.{looking_too, looking_at_too}
 use Rattle.pattern_match.specs.Starts.{starts_left, AreStarts}
-use Rattle.pattern_match.specs.Threads.{Ways}
+use Rattle.pattern_match.specs.Ways.{Ways}
 use Rattle.pattern_match.specs.Search.{HasEnded}
 use Rattle.pattern_match.proofs.Looping.{cost_up}
 
@@ -26,7 +26,7 @@ use Rattle.pattern_match.proofs.Looping.{cost_up}
 abbrev pub marks_from : Context → Shape → Way → List Place → List Mark
 marks_from x part w places = ending_at w.at (from_each (visits x part) w places)
 
-pub record IsBehind (x : Context) (part : Shape) (limit : Behind) (old : Ways Item) (earlier : Spent) (ways : Ways Item) (spent : Spent) (starts : Starts) : Type 0 where
+pub record IsBehind (x : Context) (part : Shape) (limit : Behind) (old : Ways Task) (earlier : Spent) (ways : Ways Task) (spent : Spent) (starts : Starts) : Type 0 where
   pub here : ways.here ≡ old.here
   pub pending : ways.pending ≡ old.here ∷ old.pending
   pub told : answer_from spent.cost spent.looked (marks_from x part old.here.way (starts_left x.text starts)) ≡ answer_from earlier.cost earlier.looked (marks_from x part old.here.way (starts_behind x.text limit old.here.way.at))
@@ -114,12 +114,12 @@ looking-from n l m (Tick k ∷ marks) =
     let e : nat_lt n (answer_from (suc n) (joined l k) marks).cost ≡ true = grind (arith, nat_tests) in
     started n l k m marks ∙ sym (ap (λ b. looking_if b m (answer_from (suc n) (joined l k) marks)) e)
 
-module _ (x : Context) (part : Shape) (limit : Behind) (old : Ways Item) (earlier : Spent) where
+module _ (x : Context) (part : Shape) (limit : Behind) (old : Ways Task) (earlier : Spent) where
   abbrev pub all_marks : List Mark
   all_marks = marks_from x part old.here.way (starts_behind x.text limit old.here.way.at)
 
   -- a search of all starts that has ended, and the line before
-  pub behind_ended : (new : Ways Item) (spent later : Spent) (way : Option Way) →
+  pub behind_ended : (new : Ways Task) (spent later : Spent) (way : Option Way) →
       answer_from earlier.cost earlier.looked all_marks ≡ record { way = way; cost = spent.cost; looked = spent.looked } →
       spent.budget ≡ earlier.budget → spent.cost ≤ spent.budget → new.pending ≡ old.pending →
       later ≡ looking_too earlier.cost (one_line (pos old.here.way.at.line -ℤ pos 1)) spent →
@@ -149,10 +149,10 @@ module _ (x : Context) (part : Shape) (limit : Behind) (old : Ways Item) (earlie
       (elim (nat_lt earlier.cost (answer_from earlier.cost earlier.looked all_marks).cost) as (λ b. earlier.budget < (looking_if b m (answer_from earlier.cost earlier.looked all_marks)).cost) [ true ↦ h | false ↦ h ])
 
   -- where no start is left
-  pub starts_over : (ways : Ways Item) (spent : Spent) (starts : Starts) → IsBehind x part limit old earlier ways spent starts → starts_left x.text starts ≡ [] → answer_from earlier.cost earlier.looked all_marks ≡ record { way = None; cost = spent.cost; looked = spent.looked }
+  pub starts_over : (ways : Ways Task) (spent : Spent) (starts : Starts) → IsBehind x part limit old earlier ways spent starts → starts_left x.text starts ≡ [] → answer_from earlier.cost earlier.looked all_marks ≡ record { way = None; cost = spent.cost; looked = spent.looked }
   starts_over ways spent starts b e = sym b.told ∙ ap (λ places. answer_from spent.cost spent.looked (marks_from x part old.here.way places)) e
 
-  module _ (ways : Ways Item) (spent : Spent) (starts : Starts) (b : IsBehind x part limit old earlier ways spent starts) (p : Place) (next : Starts) (is : starts_left x.text starts ≡ p ∷ starts_left x.text next) where
+  module _ (ways : Ways Task) (spent : Spent) (starts : Starts) (b : IsBehind x part limit old earlier ways spent starts) (p : Place) (next : Starts) (is : starts_left x.text starts ≡ p ∷ starts_left x.text next) where
     -- the rest of the answer, from this start and from the others
     told_first : answer_from spent.cost spent.looked (ending_at old.here.way.at (visits x part (record old.here.way { at = p })) ++ marks_from x part old.here.way (starts_left x.text next)) ≡ answer_from earlier.cost earlier.looked all_marks
     told_first =
@@ -165,7 +165,7 @@ module _ (x : Context) (part : Shape) (limit : Behind) (old : Ways Item) (earlie
         answer_from earlier.cost earlier.looked all_marks ≡ record { way = Some w; cost = later.cost; looked = later.looked }
     start_found w later h = sym told_first ∙ (some_first spent.cost spent.looked one_marks (marks_from x part old.here.way (starts_left x.text next)) w (ap (λ a. a.way) h) ∙ h)
 
-    pub start_absent : (new : Ways Item) (later : Spent) → answer_from spent.cost spent.looked one_marks ≡ record { way = None; cost = later.cost; looked = later.looked } →
+    pub start_absent : (new : Ways Task) (later : Spent) → answer_from spent.cost spent.looked one_marks ≡ record { way = None; cost = later.cost; looked = later.looked } →
         later.budget ≡ spent.budget → later.cost ≤ later.budget → new ≡ record { here = old.here; pending = old.here ∷ old.pending } → AreStarts x.text next →
         IsBehind x part limit old earlier new later next
     start_absent new later h budget within n on_text = record {
@@ -186,12 +186,12 @@ module _ (x : Context) (part : Shape) (limit : Behind) (old : Ways Item) (earlie
         omega (arith, b.budget)
 
 -- the pending ways but for the copy
-pub copy_dropped : (old ways new : Ways Item) (floor : ℕ) → new ≡ record ways { pending = drop (length ways.pending - floor) ways.pending } → floor ≡ length old.pending → ways.pending ≡ old.here ∷ old.pending → (new.pending ≡ old.pending) × (new.here ≡ ways.here)
+pub copy_dropped : (old ways new : Ways Task) (floor : ℕ) → new ≡ record ways { pending = drop (length ways.pending - floor) ways.pending } → floor ≡ length old.pending → ways.pending ≡ old.here ∷ old.pending → (new.pending ≡ old.pending) × (new.here ≡ ways.here)
 copy_dropped old ways new floor e f p =
     let k : length (old.here ∷ old.pending) - length old.pending ≡ 1 = omega arith in
     (rw (e, f, p, k) refl, rw e refl)
 
 -- what is searched from a start
-pub start_marks : (x : Context) (part : Shape) (old ways moved : Ways Item) (p at : Place) → moved ≡ record ways { here = record ways.here { way = record ways.here.way { at = p } } } → ways.here ≡ old.here → at ≡ old.here.way.at →
+pub start_marks : (x : Context) (part : Shape) (old ways moved : Ways Task) (p at : Place) → moved ≡ record ways { here = record ways.here { way = record ways.here.way { at = p } } } → ways.here ≡ old.here → at ≡ old.here.way.at →
     ending_at at (visits x part moved.here.way) ≡ ending_at old.here.way.at (visits x part (record old.here.way { at = p }))
 start_marks x part old ways moved p at e h k = rw (e, h, k) refl

@@ -11,18 +11,18 @@ use Rattle.match_rules.proofs.MarkLaws.{followed-reach}
 use Rattle.std.specs.Borrow.{Bor}
 use Rattle.vim_pattern.specs.GroupNumbers.{HasNumbers}
 use Rattle.match_rules.specs.Visits.{visits}
-use Rattle.pattern_match.specs.declared.item.Item.{Item}
+use Rattle.pattern_match.specs.declared.task.Task.{Task}
 use Rattle.pattern_match.specs.declared.step.Step.{Step}
 use Rattle.pattern_match.specs.Steps.{shape_of}
-use Rattle.pattern_match.specs.declared.item.Next.{Next}
-use Rattle.pattern_match.specs.declared.item.Next.TheVariants as at_once
-use Rattle.pattern_match.specs.declared.item.Went.{Went}
-use Rattle.pattern_match.specs.declared.item.Went.TheVariants.{GoesOn, Does, Ends, TooCostly as NoMore}
+use Rattle.pattern_match.specs.declared.task.Next.{Next}
+use Rattle.pattern_match.specs.declared.task.Next.TheVariants as at_once
+use Rattle.pattern_match.specs.declared.task.Went.{Went}
+use Rattle.pattern_match.specs.declared.task.Went.TheVariants.{GoesOn, Does, Ends, TooCostly as NoMore}
 use Rattle.pattern_match.specs.declared.spent.Spent.{Spent}
-use Rattle.pattern_match.specs.Threads.{Thread, Ways}
+use Rattle.pattern_match.specs.Ways.{Thread, Ways}
 use Rattle.pattern_match.specs.Machine.{marks_to_come}
 use Rattle.pattern_match.specs.Heights.{height, height_of, AreSound}
-use Rattle.pattern_match.specs.Search.{item_of, going, Goes, IsOver, IsStep, marks_first, wanted_marks, is_wanted}
+use Rattle.pattern_match.specs.Search.{task_of, going, Goes, IsOver, IsStep, marks_first, wanted_marks, is_wanted}
 use Rattle.pattern_match.proofs.Leading.{marks_to_come-append, going-append, AreSound-append}
 
 -- ---- answers
@@ -68,8 +68,8 @@ wanted-none (Some p) = refl
 -- ---- the loop
 
 -- what a search has come to: the ways that it has put before the pending ones, and how this one goes on
-pub record Running (x : Context) (n : ℕ) (wanted : Option Place) (answer : Answer) (budget : ℕ) (floor : List (Thread Item)) (ways : Ways Item) (spent : Spent) (went : Went) : Type 0 where
-  pub more : List (Thread Item)
+pub record Running (x : Context) (n : ℕ) (wanted : Option Place) (answer : Answer) (budget : ℕ) (floor : List (Thread Task)) (ways : Ways Task) (spent : Spent) (went : Went) : Type 0 where
+  pub more : List (Thread Task)
   pub pending : ways.pending ≡ more ++ floor
   pub told : answer_from spent.cost spent.looked (wanted_marks wanted (marks_to_come x (going went ways.here more))) ≡ answer
   pub sound : AreSound x.text n (going went ways.here more)
@@ -77,20 +77,20 @@ pub record Running (x : Context) (n : ℕ) (wanted : Option Place) (answer : Ans
   pub budget_is : spent.budget ≡ budget
 
 -- the same, where a thing is to be done before all that is to be done on the way
-pub record Doing (x : Context) (n : ℕ) (wanted : Option Place) (answer : Answer) (budget : ℕ) (floor : List (Thread Item)) (ways : Ways Item) (spent : Spent) (item : Item) : Type 0 where
-  pub more : List (Thread Item)
+pub record Doing (x : Context) (n : ℕ) (wanted : Option Place) (answer : Answer) (budget : ℕ) (floor : List (Thread Task)) (ways : Ways Task) (spent : Spent) (item : Task) : Type 0 where
+  pub more : List (Thread Task)
   pub pending : ways.pending ≡ more ++ floor
   pub told : answer_from spent.cost spent.looked (wanted_marks wanted (marks_to_come x (record ways.here { todo = item ∷ ways.here.todo } ∷ more))) ≡ answer
   pub sound : AreSound x.text n (record ways.here { todo = item ∷ ways.here.todo } ∷ more)
   pub within : spent.cost ≤ spent.budget
   pub budget_is : spent.budget ≡ budget
 
-abbrev pub IsRunning : Context → ℕ → Option Place → Answer → ℕ → List (Thread Item) → Ways Item → Spent → Went → Type 0
+abbrev pub IsRunning : Context → ℕ → Option Place → Answer → ℕ → List (Thread Task) → Ways Task → Spent → Went → Type 0
 IsRunning x n wanted answer budget floor ways spent NoMore = budget < answer.cost
 IsRunning x n wanted answer budget floor ways spent went = Running x n wanted answer budget floor ways spent went
 
-module _ (x : Context) (n : ℕ) (wanted : Option Place) (answer : Answer) (budget : ℕ) (floor : List (Thread Item)) (ways : Ways Item) (spent : Spent) where
-  module _ (new : Ways Item) (later : Spent) (item : Item) (r : Doing x n wanted answer budget floor ways spent item) where
+module _ (x : Context) (n : ℕ) (wanted : Option Place) (answer : Answer) (budget : ℕ) (floor : List (Thread Task)) (ways : Ways Task) (spent : Spent) where
+  module _ (new : Ways Task) (later : Spent) (item : Task) (r : Doing x n wanted answer budget floor ways spent item) where
     told_goes : (went : Went) (s : Goes x (height_of item) (marks_first x item ways) ways new spent later went) → answer_from later.cost later.looked (wanted_marks wanted (marks_to_come x (going went new.here (s.leads.more ++ r.more)))) ≡ answer
     told_goes went s =
         let a : marks_to_come x (going went new.here (s.leads.more ++ r.more)) ≡ s.left ++ marks_to_come x r.more =
@@ -137,11 +137,11 @@ module _ (x : Context) (n : ℕ) (wanted : Option Place) (answer : Answer) (budg
     stepped NoMore s = over s
 
   -- what is done at once
-  pub at_once_done : (next : Next) → Running x n wanted answer budget floor ways spent (Does next) → Doing x n wanted answer budget floor ways spent (item_of next)
+  pub at_once_done : (next : Next) → Running x n wanted answer budget floor ways spent (Does next) → Doing x n wanted answer budget floor ways spent (task_of next)
   at_once_done next r = record { more = r.more; pending = r.pending; told = r.told; sound = r.sound; within = r.within; budget_is = r.budget_is }
 
   -- where there is something to be done
-  pub taken : (new : Ways Item) (item : Item) → Running x n wanted answer budget floor ways spent GoesOn → ways.here.todo ≡ item ∷ new.here.todo → new.here.way ≡ ways.here.way → new.pending ≡ ways.pending →
+  pub taken : (new : Ways Task) (item : Task) → Running x n wanted answer budget floor ways spent GoesOn → ways.here.todo ≡ item ∷ new.here.todo → new.here.way ≡ ways.here.way → new.pending ≡ ways.pending →
       Doing x n wanted answer budget floor new spent item
   taken new item r e w p =
       let h : record new.here { todo = item ∷ new.here.todo } ≡ ways.here = rw (← e, w) refl in
@@ -166,7 +166,7 @@ module _ (x : Context) (n : ℕ) (wanted : Option Place) (answer : Answer) (budg
   }
 
   -- one is pending that is not among those at the call
-  pub one_pending : (new : Ways Item) (b : Bool) → Running x n wanted answer budget floor ways spent Ends → length ways.pending ≢ length floor →
+  pub one_pending : (new : Ways Task) (b : Bool) → Running x n wanted answer budget floor ways spent Ends → length ways.pending ≢ length floor →
       (IsFalse b → (ways.pending ≡ []) × (new ≡ ways)) → (IsTrue b → ways.pending ≡ new.here ∷ new.pending) → ways.pending ≡ new.here ∷ new.pending
   one_pending new true r far none next = next (search rules)
   one_pending new false r far none next =
@@ -175,7 +175,7 @@ module _ (x : Context) (n : ℕ) (wanted : Option Place) (answer : Answer) (budg
       absurd (far (omega arith))
 
   -- where a way ends, the next one is taken up
-  pub next_one : (new : Ways Item) → Running x n wanted answer budget floor ways spent Ends → length ways.pending ≢ length floor → ways.pending ≡ new.here ∷ new.pending → Running x n wanted answer budget floor new spent GoesOn
+  pub next_one : (new : Ways Task) → Running x n wanted answer budget floor ways spent Ends → length ways.pending ≢ length floor → ways.pending ≡ new.here ∷ new.pending → Running x n wanted answer budget floor new spent GoesOn
   next_one new r far e =
       elim r.more as (λ more. ways.pending ≡ more ++ floor → answer_from spent.cost spent.looked (wanted_marks wanted (marks_to_come x more)) ≡ answer → AreSound x.text n more → Running x n wanted answer budget floor new spent GoesOn) [
         | [] ↦ λ p t s. absurd (far (ap length p))
@@ -193,7 +193,7 @@ module _ (x : Context) (n : ℕ) (wanted : Option Place) (answer : Answer) (budg
       ] r.pending r.told r.sound
 
 -- at the start
-pub started : (x : Context) (part : Bor Step) (wanted : Option Place) (old ways : Ways Item) (spent : Spent) → IsPlaceOf x.text old.here.way.at → HasNumbers (shape_of part.now) → spent.cost ≤ spent.budget →
+pub started : (x : Context) (part : Bor Step) (wanted : Option Place) (old ways : Ways Task) (spent : Spent) → IsPlaceOf x.text old.here.way.at → HasNumbers (shape_of part.now) → spent.cost ≤ spent.budget →
     ways ≡ record old { here = record old.here { todo = [] } } →
     Running x (height (shape_of part.now)) wanted (answer_from spent.cost spent.looked (wanted_marks wanted (visits x (shape_of part.now) old.here.way))) spent.budget old.pending ways spent (Does (at_once.Visit part))
 started x part wanted old ways spent on_text numbers within e =

@@ -7,10 +7,10 @@ use Rattle.std.proofs.lemmas.List.{length-set, get_or-set_same, get_or-set_other
 use Rattle.syn_base.specs.declared.places.Place.{Place}
 use Rattle.match_rules.specs.Ways.{Way, Capture, capture_of, place, way_from}
 use Rattle.pattern_match.specs.Entries.{entries_from, AreLinked}
-use Rattle.pattern_match.specs.Threads.{before_of, with_note, with_notes, with_earlier, capture_in, IsNumbered}
-use Rattle.pattern_match.specs.declared.threads.Note.{Note}
-use Rattle.pattern_match.specs.declared.threads.Note.TheVariants.{Captured, External, Start, Stop}
-use Rattle.pattern_match.specs.declared.threads.Noted.{Noted}
+use Rattle.pattern_match.specs.Ways.{before_of, with_note, with_notes, with_earlier, capture_in, IsNumbered}
+use Rattle.pattern_match.specs.declared.ways.Note.{Note}
+use Rattle.pattern_match.specs.declared.ways.Note.TheVariants.{Captured, External, Start, Stop}
+use Rattle.pattern_match.specs.declared.ways.Noted.{Noted}
 use Rattle.pattern_match.proofs.EntryLaws.{entries_from-none, from-at}
 
 -- what the notes from one on make

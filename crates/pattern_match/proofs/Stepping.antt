@@ -10,15 +10,15 @@ use Rattle.match_rules.specs.Marks.{Mark, Tick, followed}
 use Rattle.match_rules.specs.Visits.{visits, tried, behind_fit}
 use Rattle.vim_pattern.specs.Shape.{one}
 use Rattle.match_rules.proofs.MarkLaws.{followed-assoc}
-use Rattle.pattern_match.specs.declared.item.Item.{Item}
-use Rattle.pattern_match.specs.declared.item.Item.TheVariants.{Turn, AfterTurn}
-use Rattle.pattern_match.specs.declared.item.Turns.{Turns}
+use Rattle.pattern_match.specs.declared.task.Task.{Task}
+use Rattle.pattern_match.specs.declared.task.Task.TheVariants.{Turn, AfterTurn}
+use Rattle.pattern_match.specs.declared.task.Turns.{Turns}
 use Rattle.pattern_match.specs.Steps.{shape_of}
-use Rattle.pattern_match.specs.declared.item.Went.{Went}
-use Rattle.pattern_match.specs.declared.item.Went.TheVariants.{GoesOn, Does, Ends, TooCostly as NoMore}
+use Rattle.pattern_match.specs.declared.task.Went.{Went}
+use Rattle.pattern_match.specs.declared.task.Went.TheVariants.{GoesOn, Does, Ends, TooCostly as NoMore}
 use Rattle.pattern_match.specs.declared.spent.Spent.{Spent}
-use Rattle.pattern_match.specs.Threads.{Ways}
-use Rattle.pattern_match.specs.Machine.{item_marks, marks_with}
+use Rattle.pattern_match.specs.Ways.{Ways}
+use Rattle.pattern_match.specs.Machine.{task_marks, marks_with}
 use Rattle.pattern_match.specs.Search.{Leads, Goes, IsOver, IsStep, IsLed, marks_first, IsTicked, IsTick}
 use Rattle.pattern_match.proofs.Leading.{led, leads_on, leads_nowhere}
 
@@ -27,7 +27,7 @@ way_behind-kept text w p MatchStart h k = h
 way_behind-kept text w p MatchStop h k = h
 way_behind-kept text w p _ h k = k
 
-module _ (x : Context) (a : Atom) (old new : Ways Item) (earlier later : Spent) where
+module _ (x : Context) (a : Atom) (old new : Ways Task) (earlier later : Spent) where
   -- what follows the atom where it has led to a place, and where it hasn't
   pub behind : (next : Way → List Mark) (p : Place) → fits x old.here.way a ≡ Some p → followed (tried x old.here.way a) next ≡ Tick (lines_looked x old.here.way a) ∷ next (way_behind old.here.way p a)
   behind next p e = rw e (ap (λ r. Tick (lines_looked x old.here.way a) ∷ r) (append-nil (next (way_behind old.here.way p a))))
@@ -74,17 +74,17 @@ module _ (x : Context) (a : Atom) (old new : Ways Item) (earlier later : Spent) 
 
     -- a turn of a count whose part is an atom
     module _ (t : Turns) (part : shape_of t.part.now ≡ one a) where
-      pub turn_marks : marks_first x (Turn t) old ≡ followed (tried x old.here.way a) (λ v. followed (item_marks x (AfterTurn t old.here.way.at) v) (marks_with x old.here.todo))
+      pub turn_marks : marks_first x (Turn t) old ≡ followed (tried x old.here.way a) (λ v. followed (task_marks x (AfterTurn t old.here.way.at) v) (marks_with x old.here.todo))
       turn_marks =
-          followed-assoc (visits x (shape_of t.part.now) old.here.way) (item_marks x (AfterTurn t old.here.way.at)) (marks_with x old.here.todo)
-          ∙ ap (λ s. followed (visits x s old.here.way) (λ v. followed (item_marks x (AfterTurn t old.here.way.at) v) (marks_with x old.here.todo))) part
+          followed-assoc (visits x (shape_of t.part.now) old.here.way) (task_marks x (AfterTurn t old.here.way.at)) (marks_with x old.here.todo)
+          ∙ ap (λ s. followed (visits x s old.here.way) (λ v. followed (task_marks x (AfterTurn t old.here.way.at) v) (marks_with x old.here.todo))) part
 
       taken : (from : Place) (went : Went) (p : Place) → from ≡ old.here.way.at → IsTicked x a old new earlier later (Some p) (way_behind old.here.way p a) → IsPlaceOf x.text p →
           Leads x high (marks_first x (AfterTurn t from) new) new new went → Goes x high (marks_first x (Turn t) old) old new earlier later went
       taken from went p e i on_text l = record {
         made = Tick (lines_looked x old.here.way a) ∷ [];
-        left = followed (item_marks x (AfterTurn t old.here.way.at) (way_behind old.here.way p a)) (marks_with x old.here.todo);
-        all = turn_marks ∙ behind (λ v. followed (item_marks x (AfterTurn t old.here.way.at) v) (marks_with x old.here.todo)) p i.place_is;
+        left = followed (task_marks x (AfterTurn t old.here.way.at) (way_behind old.here.way p a)) (marks_with x old.here.todo);
+        all = turn_marks ∙ behind (λ v. followed (task_marks x (AfterTurn t old.here.way.at) v) (marks_with x old.here.todo)) p i.place_is;
         spent = i.spent;
         within = i.within;
         leads = record {
@@ -102,5 +102,5 @@ module _ (x : Context) (a : Atom) (old new : Ways Item) (earlier later : Spent) 
       pub turn_over : (went : Went) → IsTick x a old new earlier later went → (went ≡ GoesOn → ⊥) → IsStep x high (marks_first x (Turn t) old) old new earlier later went
       turn_over GoesOn i h = absurd (h refl)
       turn_over (Does item) i h = absurd i
-      turn_over Ends i h = rw turn_marks (failed (λ v. followed (item_marks x (AfterTurn t old.here.way.at) v) (marks_with x old.here.todo)) i)
-      turn_over NoMore i h = rw turn_marks (over i (λ v. followed (item_marks x (AfterTurn t old.here.way.at) v) (marks_with x old.here.todo)))
+      turn_over Ends i h = rw turn_marks (failed (λ v. followed (task_marks x (AfterTurn t old.here.way.at) v) (marks_with x old.here.todo)) i)
+      turn_over NoMore i h = rw turn_marks (over i (λ v. followed (task_marks x (AfterTurn t old.here.way.at) v) (marks_with x old.here.todo)))

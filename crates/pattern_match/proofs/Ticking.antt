@@ -14,25 +14,25 @@ use Rattle.match_rules.specs.Counts.{turns, after_turn, one_less, is_spent}
 use Rattle.match_rules.specs.Visits.{visits, tried}
 use Rattle.match_rules.proofs.MarkLaws.{followed-assoc}
 use Rattle.match_rules.proofs.TurnLaws.{after_turn-took}
-use Rattle.pattern_match.specs.declared.item.Item.{Item}
-use Rattle.pattern_match.specs.declared.item.Item.TheVariants.{Visit, Count, Turn, AfterTurn}
-use Rattle.pattern_match.specs.declared.item.Turns.{Turns}
-use Rattle.pattern_match.specs.declared.item.Next.TheVariants as at_once
-use Rattle.pattern_match.specs.declared.item.Went.{Went}
-use Rattle.pattern_match.specs.declared.item.Went.TheVariants.{GoesOn, Does, Ends, TooCostly as NoMore}
+use Rattle.pattern_match.specs.declared.task.Task.{Task}
+use Rattle.pattern_match.specs.declared.task.Task.TheVariants.{Visit, Count, Turn, AfterTurn}
+use Rattle.pattern_match.specs.declared.task.Turns.{Turns}
+use Rattle.pattern_match.specs.declared.task.Next.TheVariants as at_once
+use Rattle.pattern_match.specs.declared.task.Went.{Went}
+use Rattle.pattern_match.specs.declared.task.Went.TheVariants.{GoesOn, Does, Ends, TooCostly as NoMore}
 use Rattle.pattern_match.specs.declared.spent.Spent.{Spent}
 use Rattle.pattern_match.specs.declared.step.Step.{Step}
 use Rattle.pattern_match.specs.Steps.{shape_of}
 use Rattle.pattern_match.specs.Spending.{spent_on}
-use Rattle.pattern_match.specs.Threads.{Ways}
-use Rattle.pattern_match.specs.Machine.{item_marks, marks_with}
+use Rattle.pattern_match.specs.Ways.{Ways}
+use Rattle.pattern_match.specs.Machine.{task_marks, marks_with}
 use Rattle.pattern_match.specs.Heights.{height}
 use Rattle.pattern_match.specs.Search.{Goes, IsOver, IsStep, marks_first, IsTick}
 use Rattle.pattern_match.proofs.Leading.{silent, leads_do}
 use Rattle.pattern_match.proofs.Counting.{count_spent, count_greedy, turn_dropped}
 use Rattle.pattern_match.proofs.Stepping.{way_behind-kept, behind, over, failed, turn_marks, turn_taken, turn_over}
 
-module _ (x : Context) (high : ℕ) (marks left : List Mark) (looked : Looked) (old mid new : Ways Item) (earlier between later : Spent)
+module _ (x : Context) (high : ℕ) (marks left : List Mark) (looked : Looked) (old mid new : Ways Task) (earlier between later : Spent)
     (all : marks ≡ Tick looked ∷ left) (spent : between ≡ spent_on earlier (Tick looked ∷ [])) (pending : mid.pending ≡ old.pending)
     (todo : mid.here.todo ≡ old.here.todo) (kept : IsPlaceOf x.text old.here.way.at → IsPlaceOf x.text mid.here.way.at) where
   pub ticked_goes : (went : Went) → Goes x high left mid new between later went → Goes x high marks old new earlier later went
@@ -63,11 +63,11 @@ module _ (x : Context) (high : ℕ) (marks left : List Mark) (looked : Looked) (
 
 -- ---- two parts
 
-module _ (x : Context) (i j : Bor Step) (old : Ways Item) where
+module _ (x : Context) (i j : Bor Step) (old : Ways Task) where
   abbrev both : List Mark
   both = followed (visits x (seq (shape_of i.now) (shape_of j.now)) old.here.way) (marks_with x old.here.todo)
 
-  module _ (a : Atom) (k : shape_of i.now ≡ one a) (mid : Ways Item) (earlier between : Spent) where
+  module _ (a : Atom) (k : shape_of i.now ≡ one a) (mid : Ways Task) (earlier between : Spent) where
     abbrev behind_it : Way → List Mark
     behind_it v = followed (visits x (shape_of j.now) v) (marks_with x old.here.todo)
 
@@ -112,17 +112,17 @@ module _ (x : Context) (i j : Bor Step) (old : Ways Item) where
 -- ---- the turns of a greedy count of an atom
 
 -- what the count has come to: a step from there is one of the whole count
-pub record IsCounting (x : Context) (t : Turns) (old : Ways Item) (earlier : Spent) (most : Option ℕ) (ways : Ways Item) (spent : Spent) : Type 0 where
+pub record IsCounting (x : Context) (t : Turns) (old : Ways Task) (earlier : Spent) (most : Option ℕ) (ways : Ways Task) (spent : Spent) : Type 0 where
   pub on_text : IsPlaceOf x.text ways.here.way.at
   pub within : spent.cost ≤ spent.budget
-  pub leads : (new : Ways Item) (later : Spent) (went : Went) →
+  pub leads : (new : Ways Task) (later : Spent) (went : Went) →
       IsStep x (height (shape_of t.part.now) + 1) (marks_first x (Count (record t { most = most })) ways) ways new spent later went →
       IsStep x (height (shape_of t.part.now) + 1) (marks_first x (Count t) old) old new earlier later went
 
-pub counting_starts : (x : Context) (t : Turns) (old : Ways Item) (earlier : Spent) → IsPlaceOf x.text old.here.way.at → earlier.cost ≤ earlier.budget → IsCounting x t old earlier t.most old earlier
+pub counting_starts : (x : Context) (t : Turns) (old : Ways Task) (earlier : Spent) → IsPlaceOf x.text old.here.way.at → earlier.cost ≤ earlier.budget → IsCounting x t old earlier t.most old earlier
 counting_starts x t old earlier on_text within = record { on_text = on_text; within = within; leads = λ new later went step. step }
 
-module _ (x : Context) (t : Turns) (old : Ways Item) (earlier : Spent) (most : Option ℕ) (ways : Ways Item) (spent : Spent) (c : IsCounting x t old earlier most ways spent) (numbers : HasNumbers (shape_of t.part.now)) where
+module _ (x : Context) (t : Turns) (old : Ways Task) (earlier : Spent) (most : Option ℕ) (ways : Ways Task) (spent : Spent) (c : IsCounting x t old earlier most ways spent) (numbers : HasNumbers (shape_of t.part.now)) where
   abbrev turn_on : Turns
   turn_on = record t { most = most }
 
@@ -130,7 +130,7 @@ module _ (x : Context) (t : Turns) (old : Ways Item) (earlier : Spent) (most : O
   counting_spent e = c.leads ways spent GoesOn (count_spent x turn_on ways numbers c.on_text spent c.within e)
 
   module _ (a : Atom) (k : shape_of t.part.now ≡ one a) (unspent : is_spent most ≡ false) (free : t.least ≡ 0) (greedy : t.lazy ≡ false)
-      (aside mid : Ways Item) (between : Spent) (put : aside ≡ record ways { pending = ways.here ∷ ways.pending }) (from : Place) (from_is : from ≡ aside.here.way.at) where
+      (aside mid : Ways Task) (between : Spent) (put : aside ≡ record ways { pending = ways.here ∷ ways.pending }) (from : Place) (from_is : from ≡ aside.here.way.at) where
     abbrev high : ℕ
     high = height (shape_of t.part.now) + 1
 
@@ -156,7 +156,7 @@ module _ (x : Context) (t : Turns) (old : Ways Item) (earlier : Spent) (most : O
         let part = visits x (shape_of t.part.now) in
         let took = after_turn-took x.text (visits x (shape_of t.part.now)) t.lazy t.least most aside.here.way.at mid.here.way (rw from_is at after) in
         turn_marks x a aside mid spent between high turn_on k
-        ∙ behind x a aside mid spent between (λ v. followed (item_marks x (AfterTurn turn_on aside.here.way.at) v) (marks_with x aside.here.todo)) tick.0 told.place_is
+        ∙ behind x a aside mid spent between (λ v. followed (task_marks x (AfterTurn turn_on aside.here.way.at) v) (marks_with x aside.here.todo)) tick.0 told.place_is
         ∙ ap (λ w. first ∷ followed (after_turn x.text part t.lazy t.least most aside.here.way.at w) (marks_with x aside.here.todo)) (sym way)
         ∙ ap (λ m. first ∷ followed m (marks_with x aside.here.todo)) took
         ∙ ap (λ n. first ∷ followed (turns x.text part t.lazy n (one_less most) mid.here.way) (marks_with x aside.here.todo)) low

@@ -1,9 +1,6 @@
 -- Nodes, and how a way goes on behind a look.
 use Rattle.std.proofs.Common.{◌≡◌, ℕ, ◌+◌, ◌<◌, ◌≤◌, Bool, true, false, List, [], ◌∷◌, ◌++◌, refl, sym, ap, ◌∙◌, arith, subst}
 use Rattle.std.specs.Prelude.{Option, Some, None, max}
-use Rattle.std.specs.Prelude.{Result, IfOk}
-use Rattle.std.proofs.lemmas.Result.{IfOk-weaker}
-use Rattle.syn_base.specs.declared.want_of_memory.Memory.{Memory}
 use Rattle.std.specs.Borrow.{Bor}
 use Rattle.std.specs.Prelude.{pos, ◌-ℤ◌}
 use Rattle.std.proofs.lemmas.Bool.Decides.{nat_tests}
@@ -16,31 +13,32 @@ use Rattle.vim_pattern.specs.GroupNumbers.{HasNumbers}
 use Rattle.vim_pattern.specs.Shape.{Shape, empty, seq, or, and, group, external, repeat}
 use Rattle.match_rules.specs.Ways.{Text, Context, Way, IsPlaceOf, is_same_place}
 use Rattle.match_rules.specs.Marks.{Mark, Tick, Reach, followed, ticks_first, first_way}
-use Rattle.match_rules.specs.Looks.{look, from_each, starts_behind, ending_at, looking_at}
+use Rattle.match_rules.specs.Looks.{from_each, starts_behind, ending_at, looking_at}
 use Rattle.match_rules.specs.Visits.{visits}
-use Rattle.match_rules.proofs.MarkLaws.{followed-assoc, AllWays}
+use Rattle.match_rules.proofs.MarkLaws.{AllWays}
 use Rattle.match_rules.proofs.TurnLaws.{IsWayOf}
 use Rattle.match_rules.proofs.Kept.{visits-kept}
-use Rattle.pattern_match.specs.declared.item.Item.{Item}
-use Rattle.pattern_match.specs.declared.item.Item.TheVariants.{Visit, Close, CloseExternal}
-use Rattle.pattern_match.specs.declared.item.Turns.{Turns}
-use Rattle.pattern_match.specs.declared.item.Next.TheVariants as at_once
-use Rattle.pattern_match.specs.declared.item.Went.{Went}
-use Rattle.pattern_match.specs.declared.item.Went.TheVariants.{GoesOn, Does, Ends, TooCostly as NoMore}
-use Rattle.pattern_match.specs.declared.search.Ending.{Ending}
-use Rattle.pattern_match.specs.declared.search.Ending.TheVariants as ending
+use Rattle.pattern_match.specs.declared.task.Task.{Task}
+use Rattle.pattern_match.specs.declared.task.Task.TheVariants.{Visit, Look, Close, CloseExternal}
+use Rattle.pattern_match.specs.declared.task.Turns.{Turns}
+use Rattle.pattern_match.specs.declared.task.Next.TheVariants as at_once
+use Rattle.pattern_match.specs.declared.task.Went.{Went}
+use Rattle.pattern_match.specs.declared.task.Went.TheVariants.{GoesOn, Does, Ends, TooCostly as NoMore}
+use Rattle.pattern_match.specs.declared.look.Look.{Look as LookOf}
+use Rattle.pattern_match.specs.declared.look.Ending.{Ending}
+use Rattle.pattern_match.specs.declared.look.Ending.TheVariants as ending
 use Rattle.pattern_match.specs.declared.step.Step.{Step}
 use Rattle.pattern_match.specs.declared.spent.Spent.{Spent}
 use Rattle.pattern_match.specs.Steps.{shape_of}
 use Rattle.pattern_match.specs.Spending.{spent_on}
-use Rattle.pattern_match.specs.Threads.{Thread, Ways}
-use Rattle.pattern_match.specs.Machine.{marks_with, marks_to_come}
-use Rattle.pattern_match.specs.Heights.{height, height_of, IsNumbered, AreItems, AreSound}
-use Rattle.pattern_match.specs.Search.{going, Leads, Goes, IsOver, IsStep, HasEnded, part_marks, look_marks, end_marks, behind_look}
+use Rattle.pattern_match.specs.Ways.{Thread, Ways}
+use Rattle.pattern_match.specs.Machine.{task_marks, part_marks, end_marks, marks_with, marks_to_come}
+use Rattle.pattern_match.specs.Heights.{height, AreTasks, AreSound}
+use Rattle.pattern_match.specs.Search.{going, Leads, Goes, IsOver, IsStep, HasEnded, behind_look}
 use Rattle.pattern_match.proofs.Leading.{silent, leads_on, leads_do, leads_two, leads_or}
 use Rattle.pattern_match.proofs.Looping.{way_is}
 
-module _ (x : Context) (node : Shape) (old new : Ways Item) (s : Spent) (numbers : HasNumbers node) (within : s.cost ≤ s.budget) where
+module _ (x : Context) (node : Shape) (old new : Ways Task) (s : Spent) (numbers : HasNumbers node) (within : s.cost ≤ s.budget) where
   pub follow_empty : node ≡ empty → new ≡ old → Goes x (height node) (followed (visits x node old.here.way) (marks_with x old.here.todo)) old new s s GoesOn
   follow_empty k e = rw k (silent x 0 _ old new s GoesOn within (leads_on x 0 old new old.here.way e (λ p. p)))
 
@@ -92,6 +90,34 @@ module _ (x : Context) (node : Shape) (old new : Ways Item) (s : Spent) (numbers
       (subst (λ w. Leads x (height node) (followed (visits x node old.here.way) (marks_with x old.here.todo)) old w (Does (at_once.Count t))) (sym e)
       (subst (λ n. Leads x (height node) (followed (visits x n old.here.way) (marks_with x old.here.todo)) old old (Does (at_once.Count t))) (sym k) l))
 
+  -- a part that is searched
+  pub follow_looks : (l : LookOf) (n : Shape) → node ≡ n →
+      ((w : Way) → visits x n w ≡ task_marks x (Look l) w) → (HasNumbers n → HasNumbers (shape_of l.part.now)) →
+      height n ≡ height (shape_of l.part.now) + 1 → new ≡ old →
+      Goes x (height node) (followed (visits x node old.here.way) (marks_with x old.here.todo)) old new s s
+      (Does (at_once.Look l))
+  follow_looks l n k same num high e =
+      let h : HasNumbers n = rw k at numbers in
+      let m : height node ≡ height n = ap height k in
+      let d = leads_do x (height node) old (at_once.Look l) (num h) (omega arith) in
+      silent x (height node) _ old new s (Does (at_once.Look l)) within
+      (subst (λ v. Leads x (height node) (followed (visits x node old.here.way) (marks_with x old.here.todo)) old v (Does (at_once.Look l))) (sym e)
+      (subst (λ a. Leads x (height node) (followed a (marks_with x old.here.todo)) old old (Does (at_once.Look l)))
+      (sym (ap (λ n. visits x n old.here.way) k ∙ same old.here.way)) d))
+
+  -- a part that is searched before another is followed
+  pub follow_and : (i j : Bor Step) → node ≡ and (shape_of i.now) (shape_of j.now) →
+      new ≡ record old { here = record old.here { todo = Visit j ∷ old.here.todo } } →
+      Goes x (height node) (followed (visits x node old.here.way) (marks_with x old.here.todo)) old new s s
+      (Does (at_once.Look (record { part = i; behind = None; ending = ending.Look false })))
+  follow_and i j k e =
+      let l : LookOf = record { part = i; behind = None; ending = ending.Look false } in
+      let h : HasNumbers (shape_of i.now) × HasNumbers (shape_of j.now) = rw k at numbers in
+      let m : height node ≡ max (height (shape_of i.now)) (height (shape_of j.now)) + 1 = rw k refl in
+      let d = leads_two x (height node) old new (at_once.Look l) (Visit j) e h.0 (omega arith) h.1 (omega arith) in
+      silent x (height node) _ old new s (Does (at_once.Look l)) within
+      (subst (λ n. Leads x (height node) (followed (visits x n old.here.way) (marks_with x old.here.todo)) old new (Does (at_once.Look l))) (sym k) d)
+
 -- ---- behind a look
 
 followed-ticks : (marks k : List Mark) (next : Way → List Mark) → followed (ticks_first marks ++ k) next ≡ ticks_first marks ++ followed k next
@@ -103,7 +129,7 @@ abbrev pub found_if : Bool → Way → Option Way
 found_if true w = Some w
 found_if false w = None
 
-behind-same : (x : Context) (e : Ending) (found : Bool) (t : Thread Item) (v : Way) → marks_to_come x (behind_look e found t v) ≡ followed (end_marks e t.way (found_if found v)) (marks_with x t.todo)
+behind-same : (x : Context) (e : Ending) (found : Bool) (t : Thread Task) (v : Way) → marks_to_come x (behind_look e found t v) ≡ followed (end_marks e t.way (found_if found v)) (marks_with x t.todo)
 behind-same x (ending.Look true) true t v = refl
 behind-same x (ending.Look true) false t v = refl
 behind-same x (ending.Look false) true t v = refl
@@ -111,7 +137,7 @@ behind-same x (ending.Look false) false t v = refl
 behind-same x ending.Whole true t v = refl
 behind-same x ending.Whole false t v = refl
 
-behind-sound : (text : Text) (n : ℕ) (e : Ending) (found : Bool) (t : Thread Item) (v : Way) → IsPlaceOf text t.way.at → AreItems n t.todo → (found ≡ true → e ≡ ending.Whole → IsPlaceOf text v.at) → AreSound text n (behind_look e found t v)
+behind-sound : (text : Text) (n : ℕ) (e : Ending) (found : Bool) (t : Thread Task) (v : Way) → IsPlaceOf text t.way.at → AreTasks n t.todo → (found ≡ true → e ≡ ending.Whole → IsPlaceOf text v.at) → AreSound text n (behind_look e found t v)
 behind-sound text n (ending.Look true) true t v p s h = tt
 behind-sound text n (ending.Look true) false t v p s h = ((p, s), tt)
 behind-sound text n (ending.Look false) true t v p s h = ((p, s), tt)
@@ -124,8 +150,8 @@ first-of-all P [] v h e = absurd (cc)
 first-of-all P (Tick l ∷ marks) v h e = first-of-all P marks v h e
 first-of-all P (Reach w ∷ marks) v h e = let k : w ≡ v = cc in subst P k h.0
 
-module _ (x : Context) (e : Ending) (old : Ways Item) (marks : List Mark) where
-  pub look_goes : AllWays (IsWayOf x.text) marks → (found : Bool) (aside ways new : Ways Item) (earlier later : Spent) (went : Went) →
+module _ (x : Context) (e : Ending) (old : Ways Task) (marks : List Mark) where
+  pub look_goes : AllWays (IsWayOf x.text) marks → (found : Bool) (aside ways new : Ways Task) (earlier later : Spent) (went : Went) →
       HasEnded marks aside ways earlier later (found_if found ways.here.way) → new.pending ≡ old.pending → going went new.here [] ≡ behind_look e found old.here ways.here.way →
       Goes x 0 (followed (ticks_first marks ++ end_marks e old.here.way (first_way marks)) (marks_with x old.here.todo)) old new earlier later went
   look_goes kept found aside ways new earlier later went h p g =
@@ -181,60 +207,15 @@ part-kept x part (Some limit) w h = looking-kept (IsWayOf x.text) (one_line (pos
 
 -- ---- a step of a part of what is to be done
 
-leads-higher : (x : Context) (high : ℕ) (marks : List Mark) (old new : Ways Item) (went : Went) → Leads x 0 marks old new went → Leads x high marks old new went
+leads-higher : (x : Context) (high : ℕ) (marks : List Mark) (old new : Ways Task) (went : Went) → Leads x 0 marks old new went → Leads x high marks old new went
 leads-higher x high marks old new went l = record { more = l.more; pending = l.pending; same = l.same; sound = λ n h p s. l.sound n (omega arith) p s }
 
-goes-higher : (x : Context) (high : ℕ) (marks : List Mark) (old new : Ways Item) (earlier later : Spent) (went : Went) → Goes x 0 marks old new earlier later went → Goes x high marks old new earlier later went
+goes-higher : (x : Context) (high : ℕ) (marks : List Mark) (old new : Ways Task) (earlier later : Spent) (went : Went) → Goes x 0 marks old new earlier later went → Goes x high marks old new earlier later went
 goes-higher x high marks old new earlier later went g =
     record { made = g.made; left = g.left; all = g.all; spent = g.spent; within = g.within; leads = leads-higher x high g.left old new went g.leads }
 
-pub higher : (x : Context) (high : ℕ) (marks : List Mark) (old new : Ways Item) (earlier later : Spent) (went : Went) → IsStep x 0 marks old new earlier later went → IsStep x high marks old new earlier later went
+pub higher : (x : Context) (high : ℕ) (marks : List Mark) (old new : Ways Task) (earlier later : Spent) (went : Went) → IsStep x 0 marks old new earlier later went → IsStep x high marks old new earlier later went
 higher x high marks old new earlier later GoesOn g = goes-higher x high marks old new earlier later GoesOn g
 higher x high marks old new earlier later (Does item) g = goes-higher x high marks old new earlier later (Does item) g
 higher x high marks old new earlier later Ends g = goes-higher x high marks old new earlier later Ends g
 higher x high marks old new earlier later NoMore o = o
-
-module _ (x : Context) (high : ℕ) (marks : List Mark) (old pushed new : Ways Item) (j : Item) (earlier later : Spent) (num : IsNumbered j) (low : height_of j ≤ high)
-    (e : pushed ≡ record old { here = record old.here { todo = j ∷ old.here.todo } }) where
-  goes-pushed : (went : Went) → Goes x 0 marks pushed new earlier later went → Goes x high marks old new earlier later went
-  goes-pushed went g = record {
-    made = g.made;
-    left = g.left;
-    all = g.all;
-    spent = g.spent;
-    within = g.within;
-    leads = record {
-      more = g.leads.more;
-      pending = g.leads.pending ∙ rw e refl;
-      same = g.leads.same;
-      sound = λ n h p s.
-          let s' : AreItems n pushed.here.todo = rw e ((num, omega arith), s) in
-          g.leads.sound n (omega arith) (rw e p) s';
-    };
-  }
-
-  pub pushed_step : (went : Went) → IsStep x 0 marks pushed new earlier later went → IsStep x high marks old new earlier later went
-  pushed_step GoesOn g = goes-pushed GoesOn g
-  pushed_step (Does item) g = goes-pushed (Does item) g
-  pushed_step Ends g = goes-pushed Ends g
-  pushed_step NoMore o = o
-
--- a part that is looked for before another is followed
-and_marks : (x : Context) (i j : Bor Step) (old pushed : Ways Item) → pushed ≡ record old { here = record old.here { todo = Visit j ∷ old.here.todo } } →
-    look_marks x (record { part = i; behind = None; ending = ending.Look false }) pushed ≡ followed (visits x (and (shape_of i.now) (shape_of j.now)) old.here.way) (marks_with x old.here.todo)
-and_marks x i j old pushed e =
-    rw e (sym (followed-assoc (look false old.here.way (visits x (shape_of i.now) old.here.way)) (visits x (shape_of j.now)) (marks_with x old.here.todo)))
-
-pub and_step : (x : Context) (node : Shape) (i j : Bor Step) → node ≡ and (shape_of i.now) (shape_of j.now) → HasNumbers node → (old pushed : Ways Item) → pushed ≡ record old { here = record old.here { todo = Visit j ∷ old.here.todo } } →
-    (new : Ways Item) (earlier later : Spent) (result : Result Went Memory) →
-    IfOk result (IsStep x 0 (look_marks x (record { part = i; behind = None; ending = ending.Look false }) pushed) pushed new earlier later) →
-    IfOk result (IsStep x (height node) (followed (visits x node old.here.way) (marks_with x old.here.todo)) old new earlier later)
-and_step x node i j k numbers old pushed e new earlier later result h =
-    let num : HasNumbers (shape_of i.now) × HasNumbers (shape_of j.now) = rw k at numbers in
-    let m : height node ≡ max (height (shape_of i.now)) (height (shape_of j.now)) + 1 = rw k refl in
-    let same : look_marks x (record { part = i; behind = None; ending = ending.Look false }) pushed ≡ followed (visits x node old.here.way) (marks_with x old.here.todo) =
-    and_marks x i j old pushed e ∙ sym (ap (λ n. followed (visits x n old.here.way) (marks_with x old.here.todo)) k) in
-    IfOk-weaker result _ _
-    (λ went s. pushed_step x (height node) (followed (visits x node old.here.way) (marks_with x old.here.todo)) old pushed new (Visit j) earlier later num.1 (omega arith) e went
-    (subst (λ marks. IsStep x 0 marks pushed new earlier later went) same s))
-    h

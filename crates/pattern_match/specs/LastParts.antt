@@ -1,8 +1,10 @@
 -- A ready node's last children, one below the other.
 use Rattle.std.specs.Prelude.{List, [], ◌∷◌}
-use Rattle.vim_pattern.specs.Shape.{Shape, seq, or, and, group, external, repeat, ahead, before, whole}
+use Rattle.vim_pattern.specs.Shape.{Shape, bare, seq, or, and, group, external, repeat, ahead, before, whole}
 use Rattle.pattern_match.specs.declared.ready.Above.{Above}
 use Rattle.pattern_match.specs.declared.ready.Above.TheVariants as above
+use Rattle.pattern_match.specs.declared.ready.Parted.{Parted}
+use Rattle.pattern_match.specs.declared.ready.Parted.TheVariants.{Leaf, Under}
 use Rattle.pattern_match.specs.Steps.{shape_of}
 
 -- a node's parts but for its last child, with that child
@@ -21,3 +23,8 @@ over above.Whole t = whole t
 abbrev pub all_over : List Above → Shape → Shape
 all_over [] t = t
 all_over (a ∷ below) t = over a (all_over below t)
+
+-- the node that was parted from its last child
+abbrev pub whole_of : Parted → Shape
+whole_of (Leaf leaf) = shape_of leaf
+whole_of (Under above last) = over above (bare last.now)

@@ -1,8 +1,12 @@
+-- what a reader must believe
 pub mod Contexts
+pub mod Answers
+pub mod OnText
+-- what only code and proofs cite
 pub mod Steps
 pub mod LastParts
 pub mod Entries
-pub mod Threads
+pub mod Ways
 pub mod Machine
 pub mod Spending
 pub mod Heights
@@ -12,5 +16,4 @@ pub mod Standing
 pub mod Walks
 pub mod Tried
 pub mod FirstAtom
-pub mod Answers
 pub mod ReadyParts

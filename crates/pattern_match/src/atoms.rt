@@ -1,5 +1,6 @@
 //! An atom at the place of the present way: where it leads, and which lines it looks at.
 ghost use Rattle.std.specs.Prelude.{◌≡◌, ◌==◌, ◌≤◌, ◌+◌, ◌-ℤ◌, ◌&&◌, IfSome, true, pos, nat_eq, length};
+ghost use Rattle.syn_base.specs.Looked.{hull_of, one_line};
 ghost use Rattle.pattern_items.specs.GroupNumbers.{HasNumber, IsOneToNine};
 ghost use Rattle.char_class.specs.Classes.{class_holds};
 ghost use Rattle.match_rules.specs.Ways.{IsPlaceOf, line_at};
@@ -15,8 +16,8 @@ use crate::standing::{
     Standing, behind_character, behind_line_end, character_at, only_if, standing_at,
 };
 use crate::step::Test;
-use crate::threads::Threads;
 use crate::walks::{Walked, walk_between, walk_characters};
+use crate::ways::Ways;
 use crate::words::{is_word_start, is_word_stop};
 use char_class::{Sets, class_has};
 use syn_base::{Class, Lines, Looked, Place};
@@ -34,7 +35,7 @@ pub(crate) struct Tried {
 pub(crate) fn try_atom<T: Lines, I: Copy>(
     lines: &T,
     context: &Context,
-    ways: &Threads<I>,
+    ways: &Ways<I>,
     test: &Test,
 ) -> Tried
     requires on_text { IsPlaceOf (T.lines lines.now) ways.now.here.way.at }
@@ -86,12 +87,22 @@ fn numbered<T: Lines>(lines: &T, line: usize) -> i64
 fn in_line<T: Lines>(lines: &T, at: Place, place: Option<Place>) -> Tried
     requires { IsPlaceOf (T.lines lines.now) at }
     ensures place { result.place ≡ place }
-    ensures looked { result.looked ≡ lines_from at.line at.line }
+    ensures looked { result.looked ≡ one_line (pos at.line) }
 {
     Tried {
         place,
         looked: Looked::one(numbered(lines, at.line)),
     }
+}
+
+/// The lines from one to another.
+#[inline(always)]
+fn lines_from<T: Lines>(lines: &T, low: usize, high: usize) -> Looked
+    requires low { low ≤ length (T.lines lines.now) }
+    requires high { high ≤ length (T.lines lines.now) }
+    ensures { result ≡ lines_from low high }
+{
+    Looked::one(numbered(lines, low)).join(Looked::one(numbered(lines, high)))
 }
 
 /// The place behind any character, or behind a line end where that is taken too.
@@ -163,15 +174,12 @@ fn is_line_stop<T: Lines>(lines: &T, at: Place) -> bool
 fn file_start<T: Lines>(lines: &T, at: Place) -> Tried
     requires { IsPlaceOf (T.lines lines.now) at }
     ensures place { result.place ≡ only_if (nat_eq at.line 0 && nat_eq at.col 0) at }
-    ensures looked { result.looked ≡ record { low = pos at.line -ℤ pos 1; high = pos at.line } }
+    ensures looked { result.looked ≡ hull_of (one_line (pos at.line)) (one_line (pos at.line -ℤ pos 1)) }
 {
     let line = numbered(lines, at.line);
     Tried {
         place: only_if(at.line == 0 && at.col == 0, at),
-        looked: Looked {
-            low: line - 1,
-            high: line,
-        },
+        looked: Looked::one(line).join(Looked::one(line - 1)),
     }
 }
 
@@ -190,10 +198,7 @@ fn file_stop<T: Lines>(lines: &T, at: Place) -> Tried
     };
     Tried {
         place: only_if(is_last && is_line_stop(lines, at), at),
-        looked: Looked {
-            low: numbered(lines, at.line),
-            high: numbered(lines, behind),
-        },
+        looked: lines_from(lines, at.line, behind),
     }
 }
 
@@ -232,9 +237,6 @@ fn over<T: Lines>(lines: &T, at: Place, walked: Walked) -> Tried
 {
     Tried {
         place: only_if(walked.whole, walked.at),
-        looked: Looked {
-            low: numbered(lines, at.line),
-            high: numbered(lines, walked.at.line),
-        },
+        looked: lines_from(lines, at.line, walked.at.line),
     }
 }

@@ -7,7 +7,7 @@ ghost use Rattle.pattern_match.specs.ReadyParts.{some_fixed_holds, some_optional
 use crate::codes::Codes;
 use crate::tables::{some_is_optional, some_optional_has, some_part_has, table_of};
 use char_class::Sets;
-use pattern_items::{CharRanges, SetPart};
+use pattern_items::CharRanges;
 use std::alloc::Global;
 use std::marker::Model;
 use syn_base::{List, Memory};
@@ -48,7 +48,7 @@ impl Collection {
             ranges: CharRanges {
                 not: ranges.not,
                 line_end: ranges.line_end,
-                parts: copied(alloc, parts)?,
+                parts: List::from_slice(alloc, parts)?,
             },
         })
     }
@@ -94,14 +94,4 @@ impl Collection {
     {
         self.has_optional && some_optional_has(self.ranges.parts.as_slice(), c, sets, ignore)
     }
-}
-
-fn copied(alloc: Global, parts: &[SetPart]) -> Result<List<SetPart>, Memory>
-    ensures { IfOk result (λ all. all ≡ parts.now) }
-{
-    let mut all = List::new(alloc);
-    for part in parts {
-        all.push(*part)?;
-    }
-    Ok(all)
 }

@@ -13,19 +13,19 @@ ghost use Rattle.pattern_match.specs.Search.{IsStep};
 
 use crate::atoms::try_atom;
 use crate::context::Context;
-use crate::item::{Item, Next, Went};
 use crate::spent::Spent;
 use crate::step::{Step, first_test};
-use crate::threads::Threads;
+use crate::task::{Next, Task, Went};
 use crate::tick::tick;
 use crate::turns::put_aside_with;
+use crate::ways::Ways;
 use syn_base::{Lines, Looked, Memory};
 
 /// The lines looked at where the first atom that every way tries doesn't fit: that is the one tick then.
 pub(crate) fn fails_at_once<T: Lines>(
     lines: &T,
     context: &Context,
-    ways: &Threads<Item>,
+    ways: &Ways<Task>,
     step: &Step,
 ) -> Option<Looked>
     requires place { IsPlaceOf (T.lines lines.now) ways.now.here.way.at }
@@ -45,7 +45,7 @@ pub(crate) fn fails_at_once<T: Lines>(
 pub(crate) fn follow_both<'p, T: Lines>(
     lines: &T,
     context: &Context<'_>,
-    ways: &mut Threads<Item<'p>>,
+    ways: &mut Ways<Task<'p>>,
     first: &'p Step,
     second: &'p Step,
     spent: &mut Spent,
@@ -63,7 +63,7 @@ pub(crate) fn follow_both<'p, T: Lines>(
             went => Ok(went),
         },
         _ => {
-            ways.put_first(Item::Visit(second))?;
+            ways.put_first(Task::Visit(second))?;
             Ok(Went::Does(Next::Visit(first)))
         }
     }
@@ -74,7 +74,7 @@ pub(crate) fn follow_both<'p, T: Lines>(
 pub(crate) fn follow_either<'p, T: Lines>(
     lines: &T,
     context: &Context<'_>,
-    ways: &mut Threads<Item<'p>>,
+    ways: &mut Ways<Task<'p>>,
     first: &'p Step,
     second: &'p Step,
     spent: &mut Spent,
@@ -87,7 +87,7 @@ pub(crate) fn follow_either<'p, T: Lines>(
         IfOk result (IsStep x (height node) (followed (visits x node ways.old.here.way) (marks_with x ways.old.here.todo)) ways.old ways.new spent.old spent.new) }
 {
     let Some(looked) = fails_at_once(lines, context, ways, first) else {
-        put_aside_with(ways, Item::Visit(second))?;
+        put_aside_with(ways, Task::Visit(second))?;
         return Ok(Went::Does(Next::Visit(first)));
     };
     if spent.cost >= spent.budget {

@@ -1,25 +1,27 @@
 //! Patterns that are ready, by number.
-ghost use Rattle.std.specs.Prelude.{◌≡◌, ◌<◌, ◌≤◌, ◌^◌, ◌-◌, [], ◌∷◌, ◌++◌, length, map, IfOk, OnOk, OnErr, IfSome};
+ghost use Rattle.std.specs.Prelude.{◌≡◌, ◌<◌, ◌≤◌, ◌^◌, ◌-◌, [], ◌∷◌, ◌++◌, List, length, map, IfOk, OnOk, OnErr, IfSome};
 ghost use Rattle.vim_pattern.specs.GroupNumbers.{HasNumbers};
+ghost use Rattle.vim_pattern.specs.Tree.{PatternTree};
 ghost use Rattle.match_rules.specs.Ways.{IsPlaceOf, way_from};
 ghost use Rattle.match_rules.specs.Marks.{Tick};
 ghost use Rattle.match_rules.specs.Visits.{visits};
 ghost use Rattle.match_rules.specs.Attempt.{answer_of, not_before, external_of};
 ghost use Rattle.pattern_match.specs.Contexts.{context_in};
 ghost use Rattle.pattern_match.specs.Steps.{shape_of};
-ghost use Rattle.pattern_match.specs.Threads.{found_way};
+ghost use Rattle.pattern_match.specs.Ways.{found_way};
 ghost use Rattle.pattern_match.specs.Answers.{answered, lines_or_start, match_of, IsAttempt};
+ghost use Rattle.pattern_match.specs.OnText.{AnswersStayOnText};
 
 use crate::answer::{Attempt, Caps, GROUPS, Match};
 use crate::context::Context;
-use crate::item::Item;
 use crate::parts::fails_at_once;
 use crate::ready::ready;
 use crate::search::{Sought, search};
 use crate::spent::Spent;
 use crate::step::Step;
-use crate::threads::{FoundWay, Threads};
+use crate::task::Task;
 use crate::walks::part_of_line;
+use crate::ways::{FoundWay, Ways};
 use std::alloc::Global;
 use std::marker::Model;
 use syn_base::{Externals, Lines, List, Looked, Memory, PatternId, Place};
@@ -119,6 +121,12 @@ impl Programs {
     }
 }
 
+/// What `Programs::attempt` answers stays on the text: the match and its groups go from place to place
+/// of it, and the lines looked at are its lines, or beside them.
+pub fn answers_stay_on_the_text()
+    ensures { (trees : List PatternTree) → AnswersStayOnText trees }
+{}
+
 /// Tries a node at a place.
 fn attempt_of<T: Lines>(
     alloc: Global,
@@ -134,7 +142,7 @@ fn attempt_of<T: Lines>(
     ensures { let x = context_in (T.lines lines.now) context.now in
         IfOk result (λ told. told ≡ answered budget (T.lines lines.now) start (answer_of (visits x (shape_of step.now) (way_from start)))) }
 {
-    let mut ways: Threads<Item> = Threads::new(alloc, start);
+    let mut ways: Ways<Task> = Ways::new(alloc, start);
     if let Some(looked) = fails_at_once(lines, context, &ways, step) {
         return Ok(Attempt::Absent(looked));
     }
@@ -211,18 +219,8 @@ fn external_of<T: Lines>(
 {
     match group {
         Some((from, to)) if from.line == to.line => {
-            copied(alloc, part_of_line(lines, from, to.col))
+            List::from_slice(alloc, part_of_line(lines, from, to.col))
         }
         _ => Ok(List::new(alloc)),
     }
-}
-
-fn copied(alloc: Global, line: &[char]) -> Result<List<char>, Memory>
-    ensures { IfOk result (λ text. text ≡ line.now) }
-{
-    let mut text = List::new(alloc);
-    for c in line {
-        text.push(*c)?;
-    }
-    Ok(text)
 }

@@ -1,7 +1,7 @@
 //! A pattern's nodes, made ready for the matcher.
 ghost use Rattle.std.specs.Prelude.{◌≡◌, IfOk};
 ghost use Rattle.vim_pattern.specs.Shape.{bare};
-ghost use Rattle.pattern_match.specs.LastParts.{all_over, over};
+ghost use Rattle.pattern_match.specs.LastParts.{all_over, over, whole_of};
 ghost use Rattle.pattern_match.specs.Steps.{atom_of, shape_of};
 
 use crate::collection::Collection;
@@ -70,8 +70,56 @@ fn put_all_over(alloc: Global, all: Vec<Above>, step: Step) -> Result<Step, Memo
     Ok(step)
 }
 
+/// A node, parted from its last child.
+#[derive(Drop)]
+enum Parted<'n> {
+    /// One that has no child, made ready.
+    Leaf(Step),
+    /// The other parts of a node, made ready, and its last child.
+    Under(Above, &'n Node),
+}
+
+/// Parts a node from its last child, and makes the rest of it ready.
+#[cycle(ready)]
+fn taken_apart<'n>(alloc: Global, node: &'n Node) -> Result<Parted<'n>, Memory>
+    ensures { IfOk result (λ parted. whole_of parted ≡ bare node.now) }
+{
+    match node {
+        Node::Empty => Ok(Parted::Leaf(Step::Empty)),
+        Node::One(atom) => Ok(Parted::Leaf(Step::One(ready_atom(alloc, atom)?))),
+        Node::Seq(a, b) => Ok(Parted::Under(Above::Seq(ready(alloc, a)?), b)),
+        Node::Or(a, b) => Ok(Parted::Under(Above::Or(ready(alloc, a)?), b)),
+        Node::And(a, b) => Ok(Parted::Under(Above::And(ready(alloc, a)?), b)),
+        Node::Group(a, number) => Ok(Parted::Under(Above::Group(*number), a)),
+        Node::External(a, number) => Ok(Parted::Under(Above::External(*number), a)),
+        Node::Repeat {
+            part,
+            least,
+            most,
+            lazy,
+        } => Ok(Parted::Under(
+            Above::Repeat {
+                least: *least,
+                most: *most,
+                lazy: *lazy,
+            },
+            part,
+        )),
+        Node::Ahead { part, not } => Ok(Parted::Under(Above::Ahead { not: *not }, part)),
+        Node::Before { part, not, limit } => Ok(Parted::Under(
+            Above::Before {
+                not: *not,
+                limit: *limit,
+            },
+            part,
+        )),
+        Node::Whole(a) => Ok(Parted::Under(Above::Whole, a)),
+    }
+}
+
 /// The ready node of a node. Only first children are made ready by a call of its own, and those nest
 /// no deeper than the levels of a pattern allow.
+#[cycle(ready)]
 #[tactic(auto, using(crate::proofs::LastPartLaws::over_last))]
 pub(crate) fn ready(alloc: Global, node: &Node) -> Result<Step, Memory>
     ensures { IfOk result (λ s. shape_of s ≡ bare node.now) }
@@ -79,59 +127,11 @@ pub(crate) fn ready(alloc: Global, node: &Node) -> Result<Step, Memory>
     let mut all = Vec::new(alloc);
     let mut rest = node;
     loop {
-        match rest {
-            Node::Empty => return put_all_over(alloc, all, Step::Empty),
-            Node::One(atom) => {
-                let leaf = Step::One(ready_atom(alloc, atom)?);
-                return put_all_over(alloc, all, leaf);
-            }
-            Node::Seq(a, b) => {
-                all.push(Above::Seq(ready(alloc, a)?))?;
-                rest = b;
-            }
-            Node::Or(a, b) => {
-                all.push(Above::Or(ready(alloc, a)?))?;
-                rest = b;
-            }
-            Node::And(a, b) => {
-                all.push(Above::And(ready(alloc, a)?))?;
-                rest = b;
-            }
-            Node::Group(a, number) => {
-                all.push(Above::Group(*number))?;
-                rest = a;
-            }
-            Node::External(a, number) => {
-                all.push(Above::External(*number))?;
-                rest = a;
-            }
-            Node::Repeat {
-                part,
-                least,
-                most,
-                lazy,
-            } => {
-                all.push(Above::Repeat {
-                    least: *least,
-                    most: *most,
-                    lazy: *lazy,
-                })?;
-                rest = part;
-            }
-            Node::Ahead { part, not } => {
-                all.push(Above::Ahead { not: *not })?;
-                rest = part;
-            }
-            Node::Before { part, not, limit } => {
-                all.push(Above::Before {
-                    not: *not,
-                    limit: *limit,
-                })?;
-                rest = part;
-            }
-            Node::Whole(a) => {
-                all.push(Above::Whole)?;
-                rest = a;
+        match taken_apart(alloc, rest)? {
+            Parted::Leaf(leaf) => return put_all_over(alloc, all, leaf),
+            Parted::Under(above, last) => {
+                all.push(above)?;
+                rest = last;
             }
         }
     }

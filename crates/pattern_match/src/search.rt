@@ -1,5 +1,5 @@
 //! The search for the first way of a part of a pattern.
-ghost use Rattle.std.specs.Prelude.{◌≡◌, ◌≤◌, ◌<◌, ◌^◌, ◌+◌, IfOk, OnOk, List, ◌∷◌, [], Some, None, pos, ◌-ℤ◌};
+ghost use Rattle.std.specs.Prelude.{◌≡◌, ◌≤◌, ◌<◌, ◌^◌, ◌-◌, IfOk, OnOk, List, ◌∷◌, [], drop, length, pos, ◌-ℤ◌};
 ghost use Rattle.syn_base.specs.Looked.{one_line};
 ghost use Rattle.vim_pattern.specs.GroupNumbers.{HasNumbers};
 ghost use Rattle.match_rules.specs.Ways.{IsPlaceOf};
@@ -7,20 +7,22 @@ ghost use Rattle.match_rules.specs.Visits.{visits};
 ghost use Rattle.match_rules.specs.Looks.{tried_behind};
 ghost use Rattle.pattern_match.specs.Contexts.{context_in};
 ghost use Rattle.pattern_match.specs.Steps.{shape_of};
-ghost use Rattle.pattern_match.specs.Threads.{Thread};
-ghost use Rattle.pattern_match.specs.declared.item.Item.{Item as AnyItem};
+ghost use Rattle.pattern_match.specs.Ways.{Thread};
+ghost use Rattle.pattern_match.specs.declared.task.Task.{Task as AnyTask};
 ghost use Rattle.pattern_match.specs.Heights.{height, height_of, IsNumbered};
-ghost use Rattle.pattern_match.specs.Search.{IsStep, marks_first, item_of, IsSearch, wanted_marks, is_wanted, look_marks, going, behind_look, IsLed};
+ghost use Rattle.pattern_match.specs.Spending.{looking_too};
+ghost use Rattle.pattern_match.specs.Search.{IsStep, marks_first, task_of, IsSearch, wanted_marks, is_wanted, going, behind_look, IsLed};
 
 use crate::behind::Starts;
 use crate::context::Context;
-use crate::item::{Item, Next, Turns, Went};
+use crate::look::{Ending, Look};
 use crate::parts::{follow_both, follow_either};
 use crate::spent::Spent;
 use crate::step::Step;
-use crate::threads::Threads;
+use crate::task::{Next, Task, Turns, Went};
 use crate::tick::tick;
 use crate::turns::{after_turn, count, turn};
+use crate::ways::Ways;
 use pattern_items::Behind;
 use syn_base::{Lines, Looked, Memory, Place};
 
@@ -33,58 +35,6 @@ pub(crate) enum Sought {
     Absent,
     /// Before its end: the budget is spent.
     TooCostly,
-}
-
-/// How a way goes on behind a part that was searched for its first way.
-#[derive(Clone, Copy)]
-enum Ending {
-    /// As behind a look: where it stood (`/\@=`, `/\@!`).
-    Look { not: bool },
-    /// As behind a part that isn't entered again: where that way leads (`/\@>`).
-    Whole,
-}
-
-/// A part that is searched for its first way, from the place of the present way or behind it.
-#[derive(Clone, Copy)]
-struct Look<'p> {
-    part: &'p Step,
-    behind: Option<Behind>,
-    ending: Ending,
-}
-
-impl<'p> Look<'p> {
-    /// A look ahead (`/\@=`, `/\@!`).
-    fn ahead(part: &'p Step, not: bool) -> Look<'p>
-        ensures { result ≡ record { part = part.entry; behind = None; ending = Ending.Look not } }
-    {
-        Look {
-            part,
-            behind: None,
-            ending: Ending::Look { not },
-        }
-    }
-
-    /// A look behind (`/\@<=`, `/\@<!`).
-    fn behind(part: &'p Step, not: bool, limit: Behind) -> Look<'p>
-        ensures { result ≡ record { part = part.entry; behind = Some limit; ending = Ending.Look not } }
-    {
-        Look {
-            part,
-            behind: Some(limit),
-            ending: Ending::Look { not },
-        }
-    }
-
-    /// A part that isn't entered again (`/\@>`).
-    fn whole(part: &'p Step) -> Look<'p>
-        ensures { result ≡ record { part = part.entry; behind = None; ending = Ending.Whole } }
-    {
-        Look {
-            part,
-            behind: None,
-            ending: Ending::Whole,
-        }
-    }
 }
 
 /// Whether a way that stands at a place is wanted: at that one, or at any.
@@ -103,7 +53,7 @@ fn is_wanted(wanted: Option<Place>, at: Place) -> bool
 pub(crate) fn search<'p, T: Lines>(
     lines: &T,
     context: &Context<'_>,
-    ways: &mut Threads<Item<'p>>,
+    ways: &mut Ways<Task<'p>>,
     part: &'p Step,
     wanted: Option<Place>,
     spent: &mut Spent,
@@ -145,8 +95,8 @@ pub(crate) fn search<'p, T: Lines>(
 fn step<'p, T: Lines>(
     lines: &T,
     context: &Context<'_>,
-    ways: &mut Threads<Item<'p>>,
-    item: Item<'p>,
+    ways: &mut Ways<Task<'p>>,
+    item: Task<'p>,
     spent: &mut Spent,
 ) -> Result<Went<'p>, Memory>
     requires on_text { IsPlaceOf (T.lines lines.now) ways.old.here.way.at }
@@ -156,48 +106,49 @@ fn step<'p, T: Lines>(
         IfOk result (IsStep x (height_of item.entry) (marks_first x item.entry ways.old) ways.old ways.new spent.old spent.new) }
 {
     match item {
-        Item::Visit(node) => Ok(Went::Does(Next::Visit(node))),
-        Item::Count(turns) => Ok(Went::Does(Next::Count(turns))),
-        Item::Turn(turns) => turn(lines, context, ways, turns, spent),
-        Item::AfterTurn { turns, from } => Ok(after_turn(ways, turns, from)),
-        Item::Close { number, from } => {
+        Task::Visit(node) => Ok(Went::Does(Next::Visit(node))),
+        Task::Count(turns) => Ok(Went::Does(Next::Count(turns))),
+        Task::Turn(turns) => turn(lines, context, ways, turns, spent),
+        Task::AfterTurn { turns, from } => Ok(after_turn(ways, turns, from)),
+        Task::Look(look) => Ok(Went::Does(Next::Look(look))),
+        Task::Close { number, from } => {
             ways.note_capture(number, from)?;
             Ok(Went::GoesOn)
         }
-        Item::CloseExternal { number, from } => {
+        Task::CloseExternal { number, from } => {
             ways.note_external(number, from)?;
             Ok(Went::GoesOn)
         }
     }
 }
 
-/// Follows a node from the present way, or makes the turns of a count.
+/// Does what is done at once on the present way.
 #[cycle(search)]
 fn follow<'p, T: Lines>(
     lines: &T,
     context: &Context<'_>,
-    ways: &mut Threads<Item<'p>>,
+    ways: &mut Ways<Task<'p>>,
     next: Next<'p>,
     spent: &mut Spent,
 ) -> Result<Went<'p>, Memory>
     requires on_text { IsPlaceOf (T.lines lines.now) ways.old.here.way.at }
-    requires numbers { IsNumbered (item_of next) }
+    requires numbers { IsNumbered (task_of next) }
     requires within { spent.old.cost ≤ spent.old.budget }
     ensures { let x = context_in (T.lines lines.now) context.now in
-        IfOk result (IsStep x (height_of (item_of next.entry)) (marks_first x (item_of next.entry) ways.old) ways.old ways.new spent.old spent.new) }
+        IfOk result (IsStep x (height_of (task_of next.entry)) (marks_first x (task_of next.entry) ways.old) ways.old ways.new spent.old spent.new) }
 {
     match next {
         Next::Visit(node) => visit(lines, context, ways, node, spent),
         Next::Count(turns) => count(lines, context, ways, turns, spent),
+        Next::Look(look) => follow_look(lines, context, ways, look, spent),
     }
 }
 
 /// Follows a node from the present way.
-#[cycle(search)]
 fn visit<'p, T: Lines>(
     lines: &T,
     context: &Context<'_>,
-    ways: &mut Threads<Item<'p>>,
+    ways: &mut Ways<Task<'p>>,
     node: &'p Step,
     spent: &mut Spent,
 ) -> Result<Went<'p>, Memory>
@@ -205,7 +156,7 @@ fn visit<'p, T: Lines>(
     requires numbers { HasNumbers (shape_of node.now) }
     requires within { spent.old.cost ≤ spent.old.budget }
     ensures { let x = context_in (T.lines lines.now) context.now in
-        IfOk result (IsStep x (height (shape_of node.now)) (marks_first x (Item.Visit node.entry) ways.old) ways.old ways.new spent.old spent.new) }
+        IfOk result (IsStep x (height (shape_of node.now)) (marks_first x (Task.Visit node.entry) ways.old) ways.old ways.new spent.old spent.new) }
 {
     match node {
         Step::Empty => Ok(Went::GoesOn),
@@ -213,8 +164,8 @@ fn visit<'p, T: Lines>(
         Step::Seq(a, b) => follow_both(lines, context, ways, a, b, spent),
         Step::Or(a, b) => follow_either(lines, context, ways, a, b, spent),
         Step::And(a, b) => {
-            ways.put_first(Item::Visit(b))?;
-            follow_look(lines, context, ways, Look::ahead(a, false), spent)
+            ways.put_first(Task::Visit(b))?;
+            Ok(Went::Does(Next::Look(Look::ahead(a, false))))
         }
         Step::Group(part, number) => {
             open_group(ways, *number)?;
@@ -229,42 +180,29 @@ fn visit<'p, T: Lines>(
             least,
             most,
             lazy,
-        } => Ok(Went::Does(Next::Count(Turns {
-            part,
-            least: *least,
-            most: *most,
-            lazy: *lazy,
-        }))),
-        Step::Ahead { part, not } => {
-            follow_look(lines, context, ways, Look::ahead(part, *not), spent)
-        }
+        } => Ok(Went::Does(Next::Count(Turns::new(part, *least, *most, *lazy)))),
+        Step::Ahead { part, not } => Ok(Went::Does(Next::Look(Look::ahead(part, *not)))),
         Step::Before { part, not, limit } => {
-            follow_look(
-                lines,
-                context,
-                ways,
-                Look::behind(part, *not, *limit),
-                spent,
-            )
+            Ok(Went::Does(Next::Look(Look::behind(part, *not, *limit))))
         }
-        Step::Whole(part) => follow_look(lines, context, ways, Look::whole(part), spent),
+        Step::Whole(part) => Ok(Went::Does(Next::Look(Look::whole(part)))),
     }
 }
 
 /// A counted group begins on the present way: it closes behind its part.
-fn open_group<'p>(ways: &mut Threads<Item<'p>>, number: u8) -> Result<(), Memory>
-    ensures { OnOk result (ways.new ≡ record ways.old { here = record ways.old.here { todo = Item.Close number ways.old.here.way.at ∷ ways.old.here.todo } }) }
+fn open_group<'p>(ways: &mut Ways<Task<'p>>, number: u8) -> Result<(), Memory>
+    ensures { OnOk result (ways.new ≡ record ways.old { here = record ways.old.here { todo = Task.Close number ways.old.here.way.at ∷ ways.old.here.todo } }) }
 {
     let from = ways.place();
-    ways.put_first(Item::Close { number, from })
+    ways.put_first(Task::Close { number, from })
 }
 
 /// An external group begins on the present way.
-fn open_external<'p>(ways: &mut Threads<Item<'p>>, number: u8) -> Result<(), Memory>
-    ensures { OnOk result (ways.new ≡ record ways.old { here = record ways.old.here { todo = Item.CloseExternal number ways.old.here.way.at ∷ ways.old.here.todo } }) }
+fn open_external<'p>(ways: &mut Ways<Task<'p>>, number: u8) -> Result<(), Memory>
+    ensures { OnOk result (ways.new ≡ record ways.old { here = record ways.old.here { todo = Task.CloseExternal number ways.old.here.way.at ∷ ways.old.here.todo } }) }
 {
     let from = ways.place();
-    ways.put_first(Item::CloseExternal { number, from })
+    ways.put_first(Task::CloseExternal { number, from })
 }
 
 /// Searches for the first way of a part, and goes on behind it.
@@ -272,7 +210,7 @@ fn open_external<'p>(ways: &mut Threads<Item<'p>>, number: u8) -> Result<(), Mem
 fn follow_look<'p, T: Lines>(
     lines: &T,
     context: &Context<'_>,
-    ways: &mut Threads<Item<'p>>,
+    ways: &mut Ways<Task<'p>>,
     look: Look<'p>,
     spent: &mut Spent,
 ) -> Result<Went<'p>, Memory>
@@ -280,7 +218,7 @@ fn follow_look<'p, T: Lines>(
     requires numbers { HasNumbers (shape_of look.part.now) }
     requires within { spent.old.cost ≤ spent.old.budget }
     ensures { let x = context_in (T.lines lines.now) context.now in
-        IfOk result (IsStep x 0 (look_marks x look.entry ways.old) ways.old ways.new spent.old spent.new) }
+        IfOk result (IsStep x (height_of (Task.Look look.entry)) (marks_first x (Task.Look look.entry) ways.old) ways.old ways.new spent.old spent.new) }
 {
     ways.put_aside()?;
     let sought = match look.behind {
@@ -300,7 +238,7 @@ fn follow_look<'p, T: Lines>(
 fn search_behind<'p, T: Lines>(
     lines: &T,
     context: &Context<'_>,
-    ways: &mut Threads<Item<'p>>,
+    ways: &mut Ways<Task<'p>>,
     part: &'p Step,
     limit: Behind,
     spent: &mut Spent,
@@ -312,26 +250,51 @@ fn search_behind<'p, T: Lines>(
         IfOk result (IsSearch (tried_behind x.text (visits x (shape_of part.now)) limit ways.old.here.way) ways.old ways.new spent.old spent.new) }
 {
     let at = ways.place();
-    let line_before = line_before(lines, at);
-    let cost = spent.cost;
-    let floor = ways.pending();
+    let begun = Begun {
+        line_before: line_before(lines, at),
+        cost: spent.cost,
+        pending: ways.pending(),
+    };
     ways.put_aside()?;
     let mut starts = Starts::new(at, limit);
     while let Some(start) = starts.next(lines) {
         ways.move_to(start);
         match search(lines, context, ways, part, Some(at), spent)? {
             Sought::Absent => take_up_copy(ways)?,
-            Sought::Found => {
-                ways.forget_to(floor);
-                spent.look_too(cost, line_before);
-                return Ok(Sought::Found);
-            }
+            Sought::Found => return Ok(begun.end(ways, spent, Sought::Found)),
             Sought::TooCostly => return Ok(Sought::TooCostly),
         }
     }
-    ways.forget_to(floor);
-    spent.look_too(cost, line_before);
-    Ok(Sought::Absent)
+    Ok(begun.end(ways, spent, Sought::Absent))
+}
+
+/// What was when a search behind a place began.
+#[derive(Clone, Copy)]
+struct Begun {
+    /// The line before that of the place.
+    line_before: Looked,
+    /// The ticks up to then.
+    cost: u64,
+    /// How many ways were pending.
+    pending: usize,
+}
+
+impl Begun {
+    /// Ends the search so: the ways that it put aside are forgotten, and its ticks, if it made any,
+    /// looked at the line before too, be it that it found a way or none.
+    fn end<'p>(&self, ways: &mut Ways<Task<'p>>, spent: &mut Spent, sought: Sought) -> Sought
+        requires { self.now.pending ≤ length ways.old.pending }
+        ensures sought { result ≡ sought }
+        ensures ways { ways.new ≡ record ways.old {
+          pending =
+              drop (length ways.old.pending - self.now.pending) ways.old.pending;
+        } }
+        ensures spent { spent.new ≡ looking_too self.now.cost self.now.line_before spent.old }
+    {
+        ways.forget_to(self.pending);
+        spent.look_too(self.cost, self.line_before);
+        sought
+    }
 }
 
 /// The line before a place.
@@ -344,8 +307,8 @@ fn line_before<T: Lines>(lines: &T, at: Place) -> Looked
 }
 
 /// Takes up a copy of the next pending way.
-fn take_up_copy<'p>(ways: &mut Threads<Item<'p>>) -> Result<(), Memory>
-    ensures { (t : Thread AnyItem) (others : List (Thread AnyItem)) → ways.old.pending ≡ t ∷ others → OnOk result (ways.new ≡ record { here = t; pending = ways.old.pending }) }
+fn take_up_copy<'p>(ways: &mut Ways<Task<'p>>) -> Result<(), Memory>
+    ensures { (t : Thread AnyTask) (others : List (Thread AnyTask)) → ways.old.pending ≡ t ∷ others → OnOk result (ways.new ≡ record { here = t; pending = ways.old.pending }) }
 {
     if ways.take_up() {
         ways.put_aside()?;
@@ -355,9 +318,9 @@ fn take_up_copy<'p>(ways: &mut Threads<Item<'p>>) -> Result<(), Memory>
 
 /// Goes on behind a look that has found a way, which is the present one, or none. The way that it
 /// began with is the next pending one.
-fn behind_look<'p>(ways: &mut Threads<Item<'p>>, ending: Ending, found: bool) -> Went<'p>
+fn behind_look<'p>(ways: &mut Ways<Task<'p>>, ending: Ending, found: bool) -> Went<'p>
     ensures led { IsLed result }
-    ensures leads { (t : Thread AnyItem) (others : List (Thread AnyItem)) → ways.old.pending ≡ t ∷ others →
+    ensures leads { (t : Thread AnyTask) (others : List (Thread AnyTask)) → ways.old.pending ≡ t ∷ others →
         (ways.new.pending ≡ others) × (going result ways.new.here [] ≡ behind_look ending found t ways.old.here.way) }
 {
     let goes_on = match (ending, found) {

@@ -9,14 +9,14 @@ ghost use Rattle.pattern_match.specs.Search.{IsTick, moved};
 
 use crate::atoms::try_atom;
 use crate::context::Context;
-use crate::item::{Item, Went};
 use crate::spent::Spent;
 use crate::step::Test;
-use crate::threads::Threads;
+use crate::task::{Task, Went};
+use crate::ways::Ways;
 use syn_base::{Lines, Memory, Place};
 
 /// The present way behind an atom that fits and leads to a place.
-fn pass<'p>(ways: &mut Threads<Item<'p>>, test: &Test, place: Place) -> Result<(), Memory>
+fn pass<'p>(ways: &mut Ways<Task<'p>>, test: &Test, place: Place) -> Result<(), Memory>
     ensures { OnOk result (ways.new ≡ moved ways.old (way_behind ways.old.here.way place (atom_of test.now))) }
 {
     match test {
@@ -34,7 +34,7 @@ fn pass<'p>(ways: &mut Threads<Item<'p>>, test: &Test, place: Place) -> Result<(
 pub(crate) fn tick<'p, T: Lines>(
     lines: &T,
     context: &Context<'_>,
-    ways: &mut Threads<Item<'p>>,
+    ways: &mut Ways<Task<'p>>,
     test: &Test,
     spent: &mut Spent,
 ) -> Result<Went<'p>, Memory>

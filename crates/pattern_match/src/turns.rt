@@ -10,11 +10,11 @@ ghost use Rattle.pattern_match.specs.Heights.{height};
 ghost use Rattle.pattern_match.specs.Search.{Leads, IsLed, IsStep, marks_first};
 
 use crate::context::Context;
-use crate::item::{Item, Next, Turns, Went};
 use crate::spent::Spent;
 use crate::step::{Step, Test};
-use crate::threads::Threads;
+use crate::task::{Next, Task, Turns, Went};
 use crate::tick::tick;
+use crate::ways::Ways;
 use syn_base::{Lines, Memory, Place};
 
 /// Whether a place stands behind another.
@@ -56,7 +56,7 @@ fn is_spent(most: Option<u32>) -> bool
 
 /// Puts a copy of the present way aside, on which one more thing is to be done first.
 #[inline(always)]
-pub(crate) fn put_aside_with<'p>(ways: &mut Threads<Item<'p>>, item: Item<'p>) -> Result<(), Memory>
+pub(crate) fn put_aside_with<'p>(ways: &mut Ways<Task<'p>>, item: Task<'p>) -> Result<(), Memory>
     ensures { OnOk result (ways.new ≡ record ways.old { pending = record ways.old.here { todo = item.entry ∷ ways.old.here.todo } ∷ ways.old.pending }) }
 {
     ways.put_first(item)?;
@@ -66,10 +66,10 @@ pub(crate) fn put_aside_with<'p>(ways: &mut Threads<Item<'p>>, item: Item<'p>) -
 }
 
 /// Goes on with a count, behind a turn that began at `from`.
-pub(crate) fn after_turn<'p>(ways: &Threads<Item<'p>>, turns: Turns<'p>, from: Place) -> Went<'p>
+pub(crate) fn after_turn<'p>(ways: &Ways<Task<'p>>, turns: Turns<'p>, from: Place) -> Went<'p>
     requires { HasNumbers (shape_of turns.part.now) }
     ensures led { IsLed result }
-    ensures leads { (x : AnyContext) → Leads x (height (shape_of turns.entry.part.now) + 1) (marks_first x (Item.AfterTurn turns.entry from) ways.now) ways.now ways.now result }
+    ensures leads { (x : AnyContext) → Leads x (height (shape_of turns.entry.part.now) + 1) (marks_first x (Task.AfterTurn turns.entry from) ways.now) ways.now ways.now result }
 {
     if is_after(ways.place(), from) {
         Went::Does(Next::Count(Turns {
@@ -93,7 +93,7 @@ pub(crate) fn after_turn<'p>(ways: &Threads<Item<'p>>, turns: Turns<'p>, from: P
 pub(crate) fn turn<'p, T: Lines>(
     lines: &T,
     context: &Context<'_>,
-    ways: &mut Threads<Item<'p>>,
+    ways: &mut Ways<Task<'p>>,
     turns: Turns<'p>,
     spent: &mut Spent,
 ) -> Result<Went<'p>, Memory>
@@ -101,7 +101,7 @@ pub(crate) fn turn<'p, T: Lines>(
     requires numbers { HasNumbers (shape_of turns.part.now) }
     requires within { spent.old.cost ≤ spent.old.budget }
     ensures { let x = context_in (T.lines lines.now) context.now in
-        IfOk result (IsStep x (height (shape_of turns.entry.part.now) + 1) (marks_first x (Item.Turn turns.entry) ways.old) ways.old ways.new spent.old spent.new) }
+        IfOk result (IsStep x (height (shape_of turns.entry.part.now) + 1) (marks_first x (Task.Turn turns.entry) ways.old) ways.old ways.new spent.old spent.new) }
 {
     let from = ways.place();
     match turns.part {
@@ -110,7 +110,7 @@ pub(crate) fn turn<'p, T: Lines>(
             went => Ok(went),
         },
         part => {
-            ways.put_first(Item::AfterTurn { turns, from })?;
+            ways.put_first(Task::AfterTurn { turns, from })?;
             Ok(Went::Does(Next::Visit(part)))
         }
     }
@@ -121,7 +121,7 @@ pub(crate) fn turn<'p, T: Lines>(
 pub(crate) fn count<'p, T: Lines>(
     lines: &T,
     context: &Context<'_>,
-    ways: &mut Threads<Item<'p>>,
+    ways: &mut Ways<Task<'p>>,
     turns: Turns<'p>,
     spent: &mut Spent,
 ) -> Result<Went<'p>, Memory>
@@ -129,14 +129,14 @@ pub(crate) fn count<'p, T: Lines>(
     requires numbers { HasNumbers (shape_of turns.part.now) }
     requires within { spent.old.cost ≤ spent.old.budget }
     ensures { let x = context_in (T.lines lines.now) context.now in
-        IfOk result (IsStep x (height (shape_of turns.entry.part.now) + 1) (marks_first x (Item.Count turns.entry) ways.old) ways.old ways.new spent.old spent.new) }
+        IfOk result (IsStep x (height (shape_of turns.entry.part.now) + 1) (marks_first x (Task.Count turns.entry) ways.old) ways.old ways.new spent.old spent.new) }
 {
     if is_spent(turns.most) {
         Ok(Went::GoesOn)
     } else if turns.least > 0 {
         turn(lines, context, ways, turns, spent)
     } else if turns.lazy {
-        put_aside_with(ways, Item::Turn(turns))?;
+        put_aside_with(ways, Task::Turn(turns))?;
         Ok(Went::GoesOn)
     } else if let Step::One(test) = turns.part {
         count_atoms(lines, context, ways, test, turns, spent)
@@ -150,7 +150,7 @@ pub(crate) fn count<'p, T: Lines>(
 fn count_atoms<'p, T: Lines>(
     lines: &T,
     context: &Context<'_>,
-    ways: &mut Threads<Item<'p>>,
+    ways: &mut Ways<Task<'p>>,
     test: &Test,
     turns: Turns<'p>,
     spent: &mut Spent,
@@ -162,7 +162,7 @@ fn count_atoms<'p, T: Lines>(
     requires greedy { turns.lazy ≡ false }
     requires within { spent.old.cost ≤ spent.old.budget }
     ensures { let x = context_in (T.lines lines.now) context.now in
-        IfOk result (IsStep x (height (shape_of turns.entry.part.now) + 1) (marks_first x (Item.Count turns.entry) ways.old) ways.old ways.new spent.old spent.new) }
+        IfOk result (IsStep x (height (shape_of turns.entry.part.now) + 1) (marks_first x (Task.Count turns.entry) ways.old) ways.old ways.new spent.old spent.new) }
 {
     let mut most = turns.most;
     for _ in 0..u64::MAX {

@@ -7,8 +7,6 @@
 
 mod attempt;
 mod case;
-#[cfg(test)]
-mod tests;
 mod trial;
 
 use case::write_case;

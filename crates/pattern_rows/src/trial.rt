@@ -139,11 +139,11 @@ fn read_external(option: &str) -> Option<(usize, &str)> {
 }
 
 /// The texts of the external groups that the options give; the others are empty.
-pub(crate) fn read_externals(alloc: Global, options: Option<&str>) -> Result<Externals, Memory> {
+fn read_externals(alloc: Global, options: Option<&str>) -> Result<Externals, Memory> {
     let mut texts = List::new(alloc);
     for index in 0..EXTERNALS {
         let text = external_of(options, index + 1);
-        texts.push(characters(alloc, text)?)?;
+        texts.push(List::from_chars(alloc, text)?)?;
     }
     Ok(Externals::from_parts(texts))
 }
@@ -160,12 +160,4 @@ fn external_of(options: Option<&str>, number: usize) -> &str {
         }
     }
     ""
-}
-
-fn characters(alloc: Global, text: &str) -> Result<List<char>, Memory> {
-    let mut all = List::new(alloc);
-    for c in text.chars() {
-        all.push(c)?;
-    }
-    Ok(all)
 }

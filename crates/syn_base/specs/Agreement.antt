@@ -2,7 +2,7 @@
 --
 -- A line's number may be -1 and the number of lines too: there, before the first line and behind the
 -- last one, a text has no line, and no two texts differ.
-use Rattle.std.specs.Prelude.{◌≡◌, ℕ, ℤ, pos, negsuc, ◌+ℤ◌, ◌≤ℤ◌, List, Option, Some, None, slice_get}
+use Rattle.std.specs.Prelude.{◌≡◌, ℕ, ℤ, pos, negsuc, ◌+ℤ◌, ◌≤ℤ◌, List, length, Option, Some, None, slice_get}
 use Rattle.syn_base.specs.declared.looked.Looked.{Looked}
 
 -- what stands at a number
@@ -20,10 +20,14 @@ seen_at text (pos l) = or_behind (slice_get text l)
 seen_at text (negsuc n) = before_first
 
 -- line l of the one text is line l + shift of the other
-abbrev pub AgreeAt : List (List ℕ) → List (List ℕ) → ℤ → ℤ → Type 0
-AgreeAt text other shift l = seen_at other (l +ℤ shift) ≡ seen_at text l
+pub record AgreeAt (text other : List (List ℕ)) (shift l : ℤ) : Type 0 where
+  -- it is the line before the other's first one, or a later one
+  pub from_before_first : negsuc 0 ≤ℤ (l +ℤ shift)
+  -- and the line behind the other's last one, or an earlier one
+  pub to_behind_last : (l +ℤ shift) ≤ℤ pos (length other)
+  -- the same stands there: both have no line, on the same side, or both have the same characters
+  pub same : seen_at other (l +ℤ shift) ≡ seen_at text l
 
--- so are all the lines of a range
-abbrev pub Agree : List (List ℕ) → List (List ℕ) → ℤ → Looked → Type 0
-Agree text other shift looked =
-    (l : ℤ) → looked.low ≤ℤ l → l ≤ℤ looked.high → AgreeAt text other shift l
+-- the two texts agree on a range of lines
+pub record Agree (text other : List (List ℕ)) (shift : ℤ) (looked : Looked) : Type 0 where
+  pub each_line : (l : ℤ) → looked.low ≤ℤ l → l ≤ℤ looked.high → AgreeAt text other shift l

@@ -3,7 +3,7 @@ use Rattle.vim_pattern.specs.Shape.{one, seq}
 use Rattle.match_rules.specs.Ways.{Context as AnyContext}
 use Rattle.pattern_match.specs.Contexts.{context_in}
 use Rattle.pattern_match.specs.Steps.{shape_of, atom_of}
-use Rattle.pattern_match.specs.declared.item.Went.TheVariants.{GoesOn}
+use Rattle.pattern_match.specs.declared.task.Went.TheVariants.{GoesOn}
 use Rattle.pattern_match.specs.Search.{IsTick}
 use Rattle.pattern_match.proofs.Ticking.{both_ticked, both_over}
 use Rattle.pattern_match.proofs.Visiting.{follow_seq}

@@ -1,96 +1,24 @@
-use Rattle.std.proofs.Common.{◌≡◌, ◌≢◌, ◌<◌, length, true, false, [], ◌∷◌, ◌∙◌, refl, sym, ap}
+use Rattle.std.proofs.Common.{◌≡◌, ◌≢◌, ◌<◌, ◌+◌, length, true, false, [], ◌∷◌, ◌∙◌, refl, sym, ap}
 use Rattle.std.specs.Prelude.{Some, None}
-use Rattle.std.proofs.lemmas.Result.{IfOk-weaker}
-use Rattle.vim_pattern.specs.Shape.{and}
 use Rattle.match_rules.specs.Ways.{Context as AnyContext}
 use Rattle.match_rules.specs.Looks.{ending_at}
 use Rattle.match_rules.specs.Visits.{visits}
 use Rattle.match_rules.specs.Attempt.{answer_from}
-use Rattle.pattern_match.specs.declared.item.Went.TheVariants.{GoesOn, Does, Ends}
+use Rattle.pattern_match.specs.declared.task.Went.TheVariants.{GoesOn, Does, Ends}
 use Rattle.pattern_match.specs.Contexts.{context_in}
-use Rattle.pattern_match.specs.Steps.{shape_of, atom_of}
-use Rattle.pattern_match.specs.declared.item.Item.{Item}
+use Rattle.pattern_match.specs.Steps.{shape_of}
+use Rattle.pattern_match.specs.declared.task.Task.{Task}
 use Rattle.pattern_match.specs.Heights.{height}
 use Rattle.pattern_match.specs.Starts.{starts_left}
-use Rattle.pattern_match.specs.Threads.{Ways}
-use Rattle.pattern_match.specs.Search.{IsSearch, HasEnded, part_marks, wanted_marks, is_wanted, item_of}
+use Rattle.pattern_match.specs.Ways.{Ways}
+use Rattle.pattern_match.specs.Machine.{part_marks}
+use Rattle.pattern_match.specs.Search.{IsSearch, HasEnded, wanted_marks, is_wanted, task_of}
 use Rattle.pattern_match.proofs.Leading.{led}
 use Rattle.pattern_match.proofs.Looping.{Running, stepped, at_once_done, taken, passed, one_pending, next_one, started}
-use Rattle.pattern_match.proofs.Stepping.{atom_step}
-use Rattle.pattern_match.proofs.Visiting.{follow_empty, follow_group, follow_external, follow_repeat, look_goes, look_over, part-kept, higher, and_step}
+use Rattle.pattern_match.proofs.Visiting.{look_goes, look_over, part-kept, higher}
 use Rattle.pattern_match.proofs.LookingBehind.{behind_ended, behind_over, start_found, start_absent, start_over, start_marks, copy_dropped, starts_over}
 use Rattle.pattern_match.proofs.search.+search.Goals as goal
 use Rattle.pattern_match.proofs.search.+search.Goals.{follow_look-in-None+in_ok-sought-in-None, follow_look-in-Some+in_ok-sought-in-Some, follow_look-in-Found, follow_look-in-Absent, follow_look-in-TooCostly, search-in-Does+in_ok-went-in-Does, search-in-GoesOn+in-Some+in_ok-went-in-Some, search-in-GoesOn+in-None-2, search-in-Ends+else-pending-floor}
-
-pub visit-returns-in-Empty : goal.visit-returns-in-Empty
-visit-returns-in-Empty g t c =
-    let x : AnyContext = context_in (g.T.Lines.lines c.args.lines.now) c.args.context.now in
-    follow_empty x (shape_of c.args.node.now) c.args.ways.now c.args.ways.now c.args.spent.now c.requires.numbers c.requires.within (rw c.in-Empty.is refl) refl
-
-pub visit-returns-in-One : goal.visit-returns-in-One
-visit-returns-in-One g t c =
-    let x : AnyContext = context_in (g.T.Lines.lines c.args.lines.now) c.args.context.now in
-    rw c.in-One.is
-    (IfOk-weaker c.tick.result _ _
-    (λ went h. atom_step x (atom_of c.in-One.test) c.args.ways.now c.tick.new.ways c.args.spent.now c.tick.new.spent 0 went h)
-    c.tick.ensures)
-
-pub visit-returns-in-Seq : goal.visit-returns-in-Seq
-visit-returns-in-Seq g t c =
-    rw c.in-Seq.is (rw (c.deref-in-Seq.ensures, c.deref.ensures) at c.follow_both.ensures)
-
-pub visit-returns-in-Or : goal.visit-returns-in-Or
-visit-returns-in-Or g t c =
-    rw c.in-Or.is (rw (c.deref-in-Or-2.ensures, c.deref-in-Or.ensures) at c.follow_either.ensures)
-
-pub visit-returns-in_ok-open_group-in-Group : goal.visit-returns-in_ok-open_group-in-Group
-visit-returns-in_ok-open_group-in-Group g t c =
-    let x : AnyContext = context_in (g.T.Lines.lines c.args.lines.now) c.args.context.now in
-    follow_group x (shape_of c.args.node.now) c.args.ways.now c.open_group.new.ways c.args.spent.now c.requires.numbers c.requires.within c.deref-in-Group.result c.in-Group.number c.args.ways.now.here.way.at
-    (rw (c.in-Group.is, c.deref-in-Group.ensures) refl) refl c.in_ok-open_group-in-Group.ensures
-
-pub visit-returns-in_ok-open_external-in-External : goal.visit-returns-in_ok-open_external-in-External
-visit-returns-in_ok-open_external-in-External g t c =
-    let x : AnyContext = context_in (g.T.Lines.lines c.args.lines.now) c.args.context.now in
-    follow_external x (shape_of c.args.node.now) c.args.ways.now c.open_external.new.ways c.args.spent.now c.requires.numbers c.requires.within c.deref-in-External.result c.in-External.number c.args.ways.now.here.way.at
-    (rw (c.in-External.is, c.deref-in-External.ensures) refl) refl c.in_ok-open_external-in-External.ensures
-
-pub visit-returns-in-Repeat : goal.visit-returns-in-Repeat
-visit-returns-in-Repeat g t c =
-    let x : AnyContext = context_in (g.T.Lines.lines c.args.lines.now) c.args.context.now in
-    follow_repeat x (shape_of c.args.node.now) c.args.ways.now c.args.ways.now c.args.spent.now c.requires.numbers c.requires.within
-    (record { part = c.deref-in-Repeat.result; least = c.in-Repeat.least; most = c.in-Repeat.most; lazy = c.in-Repeat.lazy }) (rw (c.in-Repeat.is, c.deref-in-Repeat.ensures) refl) refl
-
-pub visit-returns-in_ok-put_first-in-And : goal.visit-returns-in_ok-put_first-in-And
-visit-returns-in_ok-put_first-in-And g t c =
-    let x : AnyContext = context_in (g.T.Lines.lines c.args.lines.now) c.args.context.now in
-    let k : shape_of c.args.node.now ≡ and (shape_of c.deref-in-And-2.result.now) (shape_of c.deref-in-And.result.now) = rw (c.in-And.is, c.deref-in-And-2.ensures, c.deref-in-And.ensures) refl in
-    and_step x (shape_of c.args.node.now) c.deref-in-And-2.result c.deref-in-And.result k c.requires.numbers c.args.ways.now c.put_first.new.self c.in_ok-put_first-in-And.ensures
-    c.follow_look.new.ways c.args.spent.now c.follow_look.new.spent c.follow_look.result (rw c.ahead.ensures at c.follow_look.ensures)
-
-pub visit-returns-in-Before : goal.visit-returns-in-Before
-visit-returns-in-Before g t c =
-    let x : AnyContext = context_in (g.T.Lines.lines c.args.lines.now) c.args.context.now in
-    rw c.in-Before.is
-    (IfOk-weaker c.follow_look-in-Before.result _ _
-    (λ went h. higher x _ _ c.args.ways.now c.follow_look-in-Before.new.ways c.args.spent.now c.follow_look-in-Before.new.spent went (rw (c.behind.ensures, c.deref-in-Before.ensures) at h))
-    c.follow_look-in-Before.ensures)
-
-pub visit-returns-in-Ahead : goal.visit-returns-in-Ahead
-visit-returns-in-Ahead g t c =
-    let x : AnyContext = context_in (g.T.Lines.lines c.args.lines.now) c.args.context.now in
-    rw c.in-Ahead.is
-    (IfOk-weaker c.follow_look-in-Ahead.result _ _
-    (λ went h. higher x _ _ c.args.ways.now c.follow_look-in-Ahead.new.ways c.args.spent.now c.follow_look-in-Ahead.new.spent went (rw (c.ahead-in-Ahead.ensures, c.deref-in-Ahead.ensures) at h))
-    c.follow_look-in-Ahead.ensures)
-
-pub visit-returns-in-Whole : goal.visit-returns-in-Whole
-visit-returns-in-Whole g t c =
-    let x : AnyContext = context_in (g.T.Lines.lines c.args.lines.now) c.args.context.now in
-    rw c.in-Whole.is
-    (IfOk-weaker c.follow_look-in-Whole.result _ _
-    (λ went h. higher x _ _ c.args.ways.now c.follow_look-in-Whole.new.ways c.args.spent.now c.follow_look-in-Whole.new.spent went (rw (c.whole.ensures, c.deref-in-Whole.ensures) at h))
-    c.follow_look-in-Whole.ensures)
 
 pub search-loop-init : goal.search-loop-init
 search-loop-init g t c =
@@ -101,7 +29,7 @@ pub follow_look-returns : goal.follow_look-returns
 follow_look-returns g t c =
     let x : AnyContext = context_in (g.T.Lines.lines c.args.lines.now) c.args.context.now in
     let marks = part_marks x (shape_of c.args.look.part.now) c.args.look.behind c.args.ways.now.here.way in
-    let aside : Ways Item = record c.args.ways.now { pending = c.args.ways.now.here ∷ c.args.ways.now.pending } in
+    let aside : Ways Task = record c.args.ways.now { pending = c.args.ways.now.here ∷ c.args.ways.now.pending } in
     let e : c.put_aside.new.self ≡ aside = c.in_ok-put_aside.ensures in
     let sought : IsSearch marks aside c.match-look.ways c.args.spent.now c.match-look.spent c.match-look.sought =
     elim c.match-look.branch [
@@ -114,14 +42,16 @@ follow_look-returns g t c =
           (let h : HasEnded marks aside c.match-look.ways c.args.spent.now c.match-look.spent (Some c.match-look.ways.here.way) = rw w.in-Found.is at sought in
           let b = w.behind_look.ensures.leads c.args.ways.now.here c.args.ways.now.pending h.pending in
           rw (w.ways-is, w.result-is)
+          (higher x (height (shape_of c.args.look.part.now) + 1) _ c.args.ways.now w.behind_look.new.ways c.args.spent.now c.match-look.spent w.behind_look.result
           (led x 0 _ c.args.ways.now w.behind_look.new.ways c.args.spent.now c.match-look.spent w.behind_look.result w.behind_look.ensures.led
-          (look_goes x c.args.look.ending c.args.ways.now marks kept true aside c.match-look.ways w.behind_look.new.ways c.args.spent.now c.match-look.spent w.behind_look.result h b.0 b.1)))
+          (look_goes x c.args.look.ending c.args.ways.now marks kept true aside c.match-look.ways w.behind_look.new.ways c.args.spent.now c.match-look.spent w.behind_look.result h b.0 b.1))))
       | follow_look-in-Absent w ↦
           (let h : HasEnded marks aside c.match-look.ways c.args.spent.now c.match-look.spent None = rw w.in-Absent.is at sought in
           let b = w.behind_look-in-Absent.ensures.leads c.args.ways.now.here c.args.ways.now.pending h.pending in
           rw (w.ways-is, w.result-is)
+          (higher x (height (shape_of c.args.look.part.now) + 1) _ c.args.ways.now w.behind_look-in-Absent.new.ways c.args.spent.now c.match-look.spent w.behind_look-in-Absent.result
           (led x 0 _ c.args.ways.now w.behind_look-in-Absent.new.ways c.args.spent.now c.match-look.spent w.behind_look-in-Absent.result w.behind_look-in-Absent.ensures.led
-          (look_goes x c.args.look.ending c.args.ways.now marks kept false aside c.match-look.ways w.behind_look-in-Absent.new.ways c.args.spent.now c.match-look.spent w.behind_look-in-Absent.result h b.0 b.1)))
+          (look_goes x c.args.look.ending c.args.ways.now marks kept false aside c.match-look.ways w.behind_look-in-Absent.new.ways c.args.spent.now c.match-look.spent w.behind_look-in-Absent.result h b.0 b.1))))
       | follow_look-in-TooCostly w ↦ rw w.result-is (look_over x c.args.look.ending c.args.ways.now marks c.args.spent.now (rw w.in-TooCostly.is at sought))
     ]
 
@@ -132,10 +62,11 @@ search_behind-returns-in-Found g t c =
     let s : HasEnded (ending_at c.place-at.result (visits x part c.move_to.new.self.here.way)) c.move_to.new.self c.search.new.ways c.loop-start.spent c.search.new.spent (Some c.search.new.ways.here.way) = rw c.in-Found.is at c.in_ok-search.ensures in
     let places = rw c.in-Some.is at c.next.ensures.places in
     let m = start_marks x part c.args.ways.now c.loop-start.ways c.move_to.new.self c.in-Some.start c.place-at.result c.move_to.ensures c.loop-start.invariant.here c.place-at.ensures in
-    let d = copy_dropped c.args.ways.now c.search.new.ways c.forget_to.new.self c.pending-floor.result c.forget_to.ensures c.pending-floor.ensures (s.pending ∙ (rw c.move_to.ensures c.loop-start.invariant.pending)) in
+    let d = copy_dropped c.args.ways.now c.search.new.ways c.end.new.ways c.pending.result c.end.ensures.ways c.pending.ensures (s.pending ∙ (rw c.move_to.ensures c.loop-start.invariant.pending)) in
     let told = start_found x part c.args.limit c.args.ways.now c.args.spent.now c.loop-start.ways c.loop-start.spent c.loop-start.starts c.loop-start.invariant c.in-Some.start c.next.new.self places.0 c.search.new.ways.here.way c.search.new.spent (sym (ap (answer_from c.loop-start.spent.cost c.loop-start.spent.looked) m) ∙ s.answer) in
-    behind_ended x part c.args.limit c.args.ways.now c.args.spent.now c.forget_to.new.self c.search.new.spent c.look_too.new.self (Some c.forget_to.new.self.here.way)
-    (rw d.1 told) (s.budget ∙ c.loop-start.invariant.budget) s.within d.0 (c.look_too.ensures ∙ rw (c.line_before-line_before.ensures, c.place-at.ensures) refl)
+    rw c.end.ensures.sought
+    (behind_ended x part c.args.limit c.args.ways.now c.args.spent.now c.end.new.ways c.search.new.spent c.end.new.spent (Some c.end.new.ways.here.way)
+    (rw d.1 told) (s.budget ∙ c.loop-start.invariant.budget) s.within d.0 (c.end.ensures.spent ∙ rw (c.line_before.ensures, c.place-at.ensures) refl))
 
 pub search_behind-returns-in-TooCostly : goal.search_behind-returns-in-TooCostly
 search_behind-returns-in-TooCostly g t c =
@@ -152,10 +83,11 @@ search_behind-returns g t c =
     let x : AnyContext = context_in (g.T.Lines.lines c.args.lines.now) c.args.context.now in
     let part = shape_of c.args.part.now in
     let e : starts_left (g.T.Lines.lines c.args.lines.now) c.loop-start.starts ≡ [] = rw c.in_default.is at c.next.ensures.places in
-    let d = copy_dropped c.args.ways.now c.loop-start.ways c.forget_to-2.new.self c.pending-floor.result c.forget_to-2.ensures c.pending-floor.ensures c.loop-start.invariant.pending in
-    behind_ended x part c.args.limit c.args.ways.now c.args.spent.now c.forget_to-2.new.self c.loop-start.spent c.look_too-2.new.self None
+    let d = copy_dropped c.args.ways.now c.loop-start.ways c.end-2.new.ways c.pending.result c.end-2.ensures.ways c.pending.ensures c.loop-start.invariant.pending in
+    rw c.end-2.ensures.sought
+    (behind_ended x part c.args.limit c.args.ways.now c.args.spent.now c.end-2.new.ways c.loop-start.spent c.end-2.new.spent None
     (starts_over x part c.args.limit c.args.ways.now c.args.spent.now c.loop-start.ways c.loop-start.spent c.loop-start.starts c.loop-start.invariant e)
-    c.loop-start.invariant.budget c.loop-start.invariant.within d.0 (c.look_too-2.ensures ∙ rw (c.line_before-line_before.ensures, c.place-at.ensures) refl)
+    c.loop-start.invariant.budget c.loop-start.invariant.within d.0 (c.end-2.ensures.spent ∙ rw (c.line_before.ensures, c.place-at.ensures) refl))
 
 pub search_behind-loop-start-preserved : goal.search_behind-loop-start-preserved
 search_behind-loop-start-preserved g t c =
@@ -179,7 +111,7 @@ search-loop-preserved g t c =
       | search-in-Does+in_ok-went-in-Does w ↦
           (let r : Running x n c.args.wanted answer budget floor c.loop.ways c.loop.spent (Does w.in-Does.next) = rw w.in-Does.is at c.loop.invariant in
           rw (w.ways-is, w.spent-is, w.went-is)
-          (stepped x n c.args.wanted answer budget floor c.loop.ways c.loop.spent w.follow.new.ways w.follow.new.spent (item_of w.in-Does.next)
+          (stepped x n c.args.wanted answer budget floor c.loop.ways c.loop.spent w.follow.new.ways w.follow.new.spent (task_of w.in-Does.next)
           (at_once_done x n c.args.wanted answer budget floor c.loop.ways c.loop.spent w.in-Does.next r) w.in_ok-went-in-Does.went w.in_ok-went-in-Does.ensures))
       | search-in-GoesOn+in-Some+in_ok-went-in-Some w ↦
           (let r : Running x n c.args.wanted answer budget floor c.loop.ways c.loop.spent GoesOn = rw w.in-GoesOn.is at c.loop.invariant in

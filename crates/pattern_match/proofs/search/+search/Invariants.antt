@@ -4,7 +4,7 @@ use Rattle.match_rules.specs.Attempt.{answer_from}
 use Rattle.pattern_match.specs.Contexts.{context_in}
 use Rattle.pattern_match.specs.Steps.{shape_of}
 use Rattle.pattern_match.specs.Heights.{height, height_of}
-use Rattle.pattern_match.specs.Search.{wanted_marks, item_of}
+use Rattle.pattern_match.specs.Search.{wanted_marks, task_of}
 use Rattle.pattern_match.specs.Starts.{starts_left}
 use Rattle.pattern_match.proofs.Looping.{IsRunning}
 use Rattle.pattern_match.proofs.LookingBehind.{IsBehind}
@@ -15,10 +15,7 @@ abbrev pub decreases-search : goal.decreases-search
 decreases-search g l = 8 * height (shape_of l.part.now) + 3
 
 abbrev pub decreases-follow : goal.decreases-follow
-decreases-follow g l = 8 * height_of (item_of l.next) + 2
-
-abbrev pub decreases-visit : goal.decreases-visit
-decreases-visit g l = 8 * height (shape_of l.node.now) + 1
+decreases-follow g l = 8 * height_of (task_of l.next) + 2
 
 abbrev pub decreases-follow_look : goal.decreases-follow_look
 decreases-follow_look g l = 8 * height (shape_of l.look.part.now) + 5

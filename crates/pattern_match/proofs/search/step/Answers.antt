@@ -1,7 +1,7 @@
 use Rattle.std.proofs.Common.{arith}
 use Rattle.match_rules.specs.Ways.{Context as AnyContext, with_capture}
-use Rattle.pattern_match.specs.declared.item.Next.TheVariants as at_once
-use Rattle.pattern_match.specs.declared.item.Went.TheVariants.{GoesOn, Does}
+use Rattle.pattern_match.specs.declared.task.Next.TheVariants as at_once
+use Rattle.pattern_match.specs.declared.task.Went.TheVariants.{GoesOn, Does}
 use Rattle.pattern_match.specs.Contexts.{context_in}
 use Rattle.pattern_match.proofs.Leading.{silent, led, leads_on, leads_do}
 use Rattle.pattern_match.proofs.search.step.Goals as goal
@@ -19,6 +19,13 @@ returns-in-Count g c =
     rw c.in-Count.is
     (silent x _ _ c.args.ways.now c.args.ways.now c.args.spent.now (Does (at_once.Count c.in-Count.turns)) c.requires.within
     (leads_do x _ c.args.ways.now (at_once.Count c.in-Count.turns) (rw c.in-Count.is at c.requires.numbers) (omega arith)))
+
+pub returns-in-Look : goal.returns-in-Look
+returns-in-Look g c =
+    let x : AnyContext = context_in (g.T.Lines.lines c.args.lines.now) c.args.context.now in
+    rw c.in-Look.is
+    (silent x _ _ c.args.ways.now c.args.ways.now c.args.spent.now (Does (at_once.Look c.in-Look.look)) c.requires.within
+    (leads_do x _ c.args.ways.now (at_once.Look c.in-Look.look) (rw c.in-Look.is at c.requires.numbers) (omega arith)))
 
 pub returns-in-AfterTurn : goal.returns-in-AfterTurn
 returns-in-AfterTurn g c =

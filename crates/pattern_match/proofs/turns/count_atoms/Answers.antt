@@ -3,7 +3,7 @@ use Rattle.match_rules.specs.Ways.{Context as AnyContext, is_after}
 use Rattle.match_rules.specs.Counts.{is_spent}
 use Rattle.pattern_match.specs.Contexts.{context_in}
 use Rattle.pattern_match.specs.Steps.{atom_of}
-use Rattle.pattern_match.specs.declared.item.Went.TheVariants.{GoesOn}
+use Rattle.pattern_match.specs.declared.task.Went.TheVariants.{GoesOn}
 use Rattle.pattern_match.specs.Search.{IsTick}
 use Rattle.pattern_match.proofs.Ticking.{counting_spent, counting_over, counting_dropped, counting_on}
 use Rattle.pattern_match.proofs.turns.count_atoms.Goals as goal

@@ -1,7 +1,7 @@
 use Rattle.std.proofs.Common.{◌≡◌, ◌+◌, refl}
 use Rattle.vim_pattern.specs.Shape.{one}
 use Rattle.match_rules.specs.Ways.{Context as AnyContext}
-use Rattle.pattern_match.specs.declared.item.Went.TheVariants.{GoesOn}
+use Rattle.pattern_match.specs.declared.task.Went.TheVariants.{GoesOn}
 use Rattle.pattern_match.specs.Contexts.{context_in}
 use Rattle.pattern_match.specs.Steps.{shape_of, atom_of}
 use Rattle.pattern_match.specs.Heights.{height}
