@@ -15,7 +15,7 @@
 //!     settle 0        the clusters are settled
 //!     count 0         how many clusters there are, how many items were added and how many are live
 
-ghost use Rattle.std.specs.Prelude.{◌≡◌, ◌<◌, ◌→◌, IfOk, length};
+ghost use Rattle.std.specs.Prelude.{◌<◌, IfOk, length};
 
 use crate::fault::{Fault, add_answer, short_number_of, told, two_of};
 use std::alloc::Global;

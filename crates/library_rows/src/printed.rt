@@ -7,7 +7,7 @@
 //!     page TEXT A>B pre             the page of a line, titled `t`, in one span of the linked group, or in none
 //!                                   for a dash; other options are none and `number`
 
-ghost use Rattle.std.specs.Prelude.{◌<◌, ◌≡◌, [], ◌∷◌, length, All, IsTrue, ◌↔◌};
+ghost use Rattle.std.specs.Prelude.{◌<◌, [], ◌∷◌, length, All, IsTrue};
 ghost use Rattle.html_writer.specs.Page.{IsFromColumn};
 
 use crate::fault::{Fault, number_of, printed, two_of};
@@ -48,8 +48,8 @@ fn span_of(shown: &mut Shown, text: &str) -> Result<Span, Fault> {
 
 /// Whether a line and the columns of its spans have successors.
 fn are_countable(number: usize, spans: &[Span]) -> bool
-    ensures number { result ≡ true → number < usize.MAX }
-    ensures columns { result ≡ true → All (λ span. (span.first < usize.MAX) × (span.last < usize.MAX)) spans.now }
+    ensures number { IsTrue result → number < usize.MAX }
+    ensures columns { IsTrue result → All (λ span. (span.first < usize.MAX) × (span.last < usize.MAX)) spans.now }
 {
     number < usize::MAX
         && spans

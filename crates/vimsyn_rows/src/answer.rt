@@ -1,44 +1,54 @@
 //! What is printed of a session.
 
 use crate::mistake::out_of_memory;
-use crate::running::outcome_of;
+use crate::running::{Sinks, outcome_of};
 use crate::session::Session;
 use std::alloc::Global;
 use std::io;
 use std::io::Write;
 use vimsyn_cli::Status;
 
-/// Writes a line for each run of the session, or one for its mistake, or none if it has no line.
+/// Writes a line for each run of the session, or one for its mistake, and answers the last run's status.
+/// A session without a line writes nothing, and the status is the one before.
 pub(crate) fn write_answers<W: Write>(
     alloc: Global,
     out: &mut W,
     session: &Session,
-) -> io::Result<()> {
+    before: Status,
+) -> io::Result<Status> {
     if let Some((line, mistake)) = session.mistake {
-        return writeln!(out, "mistake in line {line}: {mistake}");
+        writeln!(out, "mistake in line {line}: {mistake}")?;
+        return Ok(Status::Usage);
     }
     if !session.is_begun {
-        return Ok(());
+        return Ok(before);
     }
     if session.each.is_empty() {
         return write_answer(alloc, out, session, None);
     }
+    let mut status = before;
     for call in session.each.as_slice() {
-        write_answer(alloc, out, session, Some(*call))?;
+        status = write_answer(alloc, out, session, Some(*call))?;
     }
-    Ok(())
+    Ok(status)
 }
 
-/// Writes the line of one run.
+/// Writes the line of one run, and answers its status.
 fn write_answer<W: Write>(
     alloc: Global,
     out: &mut W,
     session: &Session,
     call: Option<u64>,
-) -> io::Result<()> {
+) -> io::Result<Status> {
     let Ok((sinks, status)) = outcome_of(alloc, session, call) else {
         return Err(out_of_memory());
     };
+    write_outcome(out, &sinks, status)?;
+    Ok(status)
+}
+
+/// Writes a status, and what the sinks got.
+fn write_outcome<W: Write>(out: &mut W, sinks: &Sinks, status: Status) -> io::Result<()> {
     let word = word_of(status);
     let number = number_of(status);
     let told = sinks.out.bytes().escape_ascii();
@@ -59,7 +69,7 @@ fn word_of(status: Status) -> &'static str {
 }
 
 /// The status with which the program ends.
-fn number_of(status: Status) -> u8 {
+pub(crate) fn number_of(status: Status) -> u8 {
     match status {
         Status::Done => 0,
         Status::Refused => 1,

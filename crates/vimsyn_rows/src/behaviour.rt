@@ -60,6 +60,13 @@ pub(crate) struct Channels {
     pub(crate) err: bool,
 }
 
+impl Channels {
+    /// Whether there is none.
+    fn is_empty(&self) -> bool {
+        !(self.files || self.script || self.out || self.err)
+    }
+}
+
 /// What a line says of channels: which they are, and the numbers behind their names.
 #[derive(Drop)]
 pub(crate) struct Said {
@@ -81,6 +88,9 @@ impl Said {
         };
         for word in text.split(|byte: &u8| *byte == b' ') {
             said.add(word)?;
+        }
+        if said.channels.is_empty() {
+            return Err(Unread::Mistake(Mistake::Channel));
         }
         if said.numbers.is_empty() {
             return Err(Unread::Mistake(Mistake::Number));

@@ -30,6 +30,8 @@
 //! `out=` and what `out` got, `err=` and what `err` got, with escapes for all that isn't printable ASCII.
 //! A session with a mistake is answered by one line, which tells the first one with the number of its line
 //! within the session, from 1: `mistake in line 7: bad escape`.
+//!
+//! The program ends with the status of the last run, or with that of faulty words behind a mistake.
 #![tactic(auto)]
 
 mod answer;
@@ -39,24 +41,50 @@ mod running;
 mod session;
 mod text;
 
-use answer::write_answers;
+use answer::{number_of, write_answers};
 use session::Session;
+use std::alloc::Global;
 use std::io;
 use std::io::{BufRead, BufReader, BufWriter, Write};
+use std::process::ExitCode;
+use vimsyn_cli::Status;
 
-fn main(rt: HostRuntime) -> io::Result<()> {
+fn main(rt: HostRuntime) -> io::Result<ExitCode> {
     let input = BufReader::new(rt.alloc(), rt.reader())?;
     let mut output = BufWriter::new(rt.alloc(), io::writer(&rt))?;
-    let mut session = Session::new(rt.alloc());
-    for line in input.split(rt.alloc(), b'\n') {
-        let line = line?;
-        if line.is_empty() {
-            write_answers(rt.alloc(), &mut output, &session)?;
-            session = Session::new(rt.alloc());
-        } else {
-            session.read(rt.alloc(), line.as_slice())?;
-        }
+    let status = answer_all(rt.alloc(), input, &mut output)?;
+    output.flush()?;
+    Ok(ExitCode::from(number_of(status)))
+}
+
+/// Answers all sessions of the input, and the last one's status.
+fn answer_all<R: BufRead + Drop, W: Write>(
+    alloc: Global,
+    input: R,
+    output: &mut W,
+) -> io::Result<Status> {
+    let mut session = Session::new(alloc);
+    let mut status = Status::Done;
+    for line in input.split(alloc, b'\n') {
+        status = take_line(alloc, output, &mut session, line?.as_slice(), status)?;
     }
-    write_answers(rt.alloc(), &mut output, &session)?;
-    output.flush()
+    write_answers(alloc, output, &session, status)
+}
+
+/// Takes a line of a session, or answers the session at an empty line and begins another one. `before`
+/// is the status so far.
+fn take_line<W: Write>(
+    alloc: Global,
+    output: &mut W,
+    session: &mut Session,
+    line: &[u8],
+    before: Status,
+) -> io::Result<Status> {
+    if !line.is_empty() {
+        session.read(alloc, line)?;
+        return Ok(before);
+    }
+    let status = write_answers(alloc, output, session, before)?;
+    *session = Session::new(alloc);
+    Ok(status)
 }

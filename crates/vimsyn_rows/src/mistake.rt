@@ -9,7 +9,7 @@ use syn_base::Memory;
 pub(crate) enum Mistake {
     /// The line begins with none of the words of a session.
     Verb,
-    /// It speaks of something that has no calls, or of which this isn't said.
+    /// It speaks of nothing, or of something of which this isn't said.
     Channel,
     /// A number is missing or none, or there are more than one where one is asked for.
     Number,

@@ -5,7 +5,7 @@ use byte_text::push_number;
 use std::alloc::Global;
 
 /// The most bytes of a text, and the most turns of a repetition.
-const MOST_BYTES: usize = 67_108_864;
+const MOST_BYTES: usize = 100_000_000;
 
 /// A piece of a text.
 #[derive(Clone, Copy)]
