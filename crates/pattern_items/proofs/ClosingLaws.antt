@@ -1,12 +1,12 @@
 -- Where a collection ends: the walk along its characters finds the first place that may end it.
-use Rattle.std.proofs.Common.{◌≡◌, ◌≢◌, ℕ, zero, suc, ◌+◌, ◌-◌, ◌<◌, ◌≤◌, length, drop, take, get_or, List, [], ◌∷◌, ◌++◌, Bool, true, false, Some, None, refl, ap, sym, ◌∙◌, subst, arith, ◌⊎◌, inl, inr}
-use Rattle.std.specs.Prelude.{Option, nat_eq, ◌&&◌, not, if◌then◌else◌, cond, slice_index, MatchOption}
-use Rattle.std.proofs.lemmas.List.{get_or-drop, drop-drop, get_or_past}
+use Rattle.std.proofs.Common.{◌≡◌, ℕ, zero, suc, ◌+◌, ◌-◌, ◌<◌, ◌≤◌, length, drop, get_or, List, [], ◌∷◌, ◌++◌, Bool, true, false, Some, None, refl, ap, sym, ◌∙◌, subst, arith, ◌⊎◌, inl, inr}
+use Rattle.std.specs.Prelude.{Option, nat_eq, ◌&&◌, not, if◌then◌else◌, MatchOption}
+use Rattle.std.proofs.lemmas.List.{get_or-drop, drop-drop}
 use Rattle.std.proofs.lemmas.Bool.{eqb-true, cases_lt}
 use Rattle.pattern_items.specs.declared.class_names.ClassName.{ClassName}
 use Rattle.pattern_items.specs.ClassNames.{word, name_at}
 use Rattle.pattern_items.specs.Collection.{taken_along, closing, one_if_any, name_len, past_bracket, collection_len, collection_end, end_at, end_from}
-use Rattle.pattern_items.specs.ClosingBracket.{stands, is_taken, behind, inside, BeginsName, IsInName, MayEnd, Ends, HasNoEnd}
+use Rattle.pattern_items.specs.ClosingBracket.{stands, is_taken, behind, inside, BeginsName, MayEnd, Ends, HasNoEnd}
 use Rattle.pattern_items.proofs.NameLaws.{named_text, word_without, has_bracket, word_ends}
 
 -- Characters at places.

@@ -1,9 +1,9 @@
 -- Each form of a count is read to what it stands for.
-use Rattle.std.proofs.Common.{◌≡◌, ℕ, zero, suc, ◌+◌, ◌-◌, ◌*◌, ◌<◌, ◌≤◌, length, List, [], ◌∷◌, ◌++◌, Bool, true, false, Some, None, refl, ap, sym, ◌∙◌, append_assoc, arith, ◌⊎◌, inl, inr, length-append, min, max}
+use Rattle.std.proofs.Common.{◌≡◌, ℕ, ◌+◌, ◌-◌, ◌*◌, ◌<◌, ◌≤◌, length, List, [], ◌∷◌, ◌++◌, Bool, true, false, Some, None, refl, ap, sym, ◌∙◌, append_assoc, arith, inl, inr, length-append, min, max}
 use Rattle.std.specs.Prelude.{Option, nat_eq, nat_lt, nat_le, cond, if◌then◌else◌, codes, unwrap_or}
 use Rattle.std.specs.Char.{digit_value}
-use Rattle.std.specs.Str.Parse.{AllDigits, IsNumeral, digits_value, digits_value_after}
-use Rattle.std.proofs.lemmas.Bool.{le-leb, lt-leb, leb-false, leb-true, ltb-true, ltb-false, le-ltb, and_from, and_left, and_right, cond-true, cond-false, ne_eqb}
+use Rattle.std.specs.Str.Parse.{AllDigits, IsNumeral, digits_value_after}
+use Rattle.std.proofs.lemmas.Bool.{le-leb, lt-leb, leb-false, leb-true, ltb-true, ltb-false, and_from, cond-true, cond-false, ne_eqb}
 use Rattle.std.proofs.lemmas.Str.{digit_value_digit}
 use Rattle.std.proofs.lemmas.Str.Parse.{digit_from_value}
 use Rattle.pattern_items.specs.declared.cause.PatternCause.TheVariants.{BadCount}
@@ -12,13 +12,12 @@ use Rattle.pattern_items.specs.declared.item.Level.TheVariants.{VeryNo, No, Usua
 use Rattle.pattern_items.specs.declared.item.Times.{Times}
 use Rattle.pattern_items.specs.declared.item.Multi.{Multi}
 use Rattle.pattern_items.specs.declared.item.Multi.TheVariants.{Count}
-use Rattle.pattern_items.specs.declared.item.Raw.{Raw}
 use Rattle.pattern_items.specs.declared.item.Raw.TheVariants as raw
 use Rattle.pattern_items.specs.declared.item.Sign.TheVariants as sign
 use Rattle.pattern_items.specs.declared.item.Spelled.{Spelled}
 use Rattle.pattern_items.specs.declared.item.Surroundings.{Surroundings}
-use Rattle.pattern_items.specs.Numbers.{is_digit, with_digit, Digits, digits_after, digits}
-use Rattle.pattern_items.specs.Multis.{times, count, multi, bad_count, brace_end, closed, without_most, with_most, alone, with_comma, with_least, braces}
+use Rattle.pattern_items.specs.Numbers.{is_digit, with_digit, digits_after, digits}
+use Rattle.pattern_items.specs.Multis.{times, count, multi, bad_count, brace_end, closed, with_most, alone, with_comma, with_least, braces}
 use Rattle.pattern_items.specs.Counts.{Form, both, exactly, at_least, at_most, any, between, opening, hyphen_if, closing_brace, written, AreNumerals, number, least_of, most_of, AreSmall, IsOneLarge, count_of, IsRead}
 use Rattle.pattern_items.specs.Spelling.{spelling}
 use Rattle.pattern_items.specs.Place.{placed, in_place}

@@ -1,6 +1,6 @@
 -- The texts of class names.
-use Rattle.std.proofs.Common.{◌≡◌, ℕ, zero, suc, ◌+◌, ◌-◌, ◌<◌, List, [], ◌∷◌, ◌++◌, take, drop, length, get_or, refl, ap, sym, ◌∙◌, Bool, true, false, cond, arith}
-use Rattle.std.specs.Prelude.{Option, Some, None, nat_eq, find, if◌then◌else◌}
+use Rattle.std.proofs.Common.{◌≡◌, ℕ, ◌-◌, ◌<◌, List, [], ◌∷◌, ◌++◌, take, drop, length, get_or, refl, ap, sym, ◌∙◌, Bool, true, false, cond, arith}
+use Rattle.std.specs.Prelude.{Option, Some, nat_eq, find, if◌then◌else◌}
 use Rattle.std.specs.List.{starts_with}
 use Rattle.std.proofs.lemmas.List.{take-append-drop}
 use lib.Pointwise.{bytes_decides}

@@ -344,6 +344,7 @@ place_has x text len (raw.Collection line_end before) h =
     let inner = inner_of (take (len - 1) text) before in
     let ps = pieces (members (body_of inner)) in
     set_has (is_turned inner) line_end before ps (first_fault ps)
+place_has x text len raw.LoneBracket h = record { is = tt }
 place_has x text len (raw.Multi m) h = record { is = tt }
 place_has x text len raw.Group h = sign_when (nat_lt x.groups 9) _ _ (λ e. record { is = opened x.groups e }) (wrong_sign 0 _)
 place_has x text len raw.Plain h = record { is = tt }

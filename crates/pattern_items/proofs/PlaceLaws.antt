@@ -99,6 +99,7 @@ counts_place x text len (raw.Collection line_end before) =
     let inner = inner_of (take (len - 1) text) before in
     let ps = pieces (members (body_of inner)) in
     counts_set x (is_turned inner) line_end before ps (first_fault ps)
+counts_place x text len raw.LoneBracket = counts_atom x _
 counts_place x text len (raw.Multi m) = counts_multi x m
 counts_place x text len raw.Group = counts_if x (nat_lt x.groups 9) _ _ (counts_group x) (counts_wrong x 0 _)
 counts_place x text len raw.Plain = record { groups = omega arith; externals = omega arith }

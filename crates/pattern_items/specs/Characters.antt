@@ -1,4 +1,5 @@
--- The characters that items are spelled with: a printable one stands in quotes behind `char`, as `char "v"`; the others have names.
+-- The characters that items are spelled with: a printable one stands in quotes behind `char`, as
+-- `char "v"`; the others have names.
 use Rattle.std.specs.Prelude.{ℕ}
 pub use Prim.Native.Char.{code as char}
 

@@ -31,7 +31,9 @@ word Keyword = codes ":keyword:]"
 word Fname = codes ":fname:]"
 
 abbrev pub class_names : List ClassName
-class_names = Alnum ∷ Alpha ∷ Blank ∷ Cntrl ∷ Digit ∷ Graph ∷ Lower ∷ Print ∷ Punct ∷ Space ∷ Upper ∷ Xdigit ∷ Return ∷ Tab ∷ Escape ∷ Backspace ∷ Ident ∷ Keyword ∷ Fname ∷ []
+class_names =
+    Alnum ∷ Alpha ∷ Blank ∷ Cntrl ∷ Digit ∷ Graph ∷ Lower ∷ Print ∷ Punct ∷ Space ∷ Upper
+    ∷ Xdigit ∷ Return ∷ Tab ∷ Escape ∷ Backspace ∷ Ident ∷ Keyword ∷ Fname ∷ []
 
 -- the name behind a bracket; another name is characters
 abbrev pub name_at : List ℕ → Option ClassName

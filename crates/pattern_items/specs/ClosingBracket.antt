@@ -1,6 +1,7 @@
--- Where a collection ends, by places: at its first closing bracket that stands neither in front, nor behind a backslash that takes
+-- Where a collection ends, by places: at its first closing bracket that stands neither in front,
+-- nor behind a backslash that takes
 -- it along, nor in a class name (Vim's help, /[]). A place is the number of a character, from 0.
-use Rattle.std.specs.Prelude.{◌≡◌, ℕ, zero, suc, ◌+◌, ◌<◌, ◌≤◌, ◌==◌, ◌&&◌, not, List, length, drop, slice_index, Option, Some, None, Bool, true, false, if◌then◌else◌}
+use Rattle.std.specs.Prelude.{◌≡◌, ℕ, zero, suc, ◌+◌, ◌<◌, ◌≤◌, ◌==◌, ◌&&◌, not, List, length, drop, slice_index, Some, Bool, false, if◌then◌else◌}
 use Rattle.pattern_items.specs.Characters.{char}
 use Rattle.pattern_items.specs.declared.class_names.ClassName.{ClassName}
 use Rattle.pattern_items.specs.ClassNames.{word, name_at}
@@ -32,7 +33,8 @@ pub record BeginsName (text : List ℕ) (from : ℕ) (start : ℕ) (name : Class
 -- and goes on as long as its word does
 abbrev pub IsInName : List ℕ → ℕ → ℕ → Type 0
 IsInName text from place =
-    (start : ℕ) × (name : ClassName) × BeginsName text from start name × (start < place) × (place ≤ start + length (word name))
+    (start : ℕ) × (name : ClassName)
+    × BeginsName text from start name × (start < place) × (place ≤ start + length (word name))
 
 -- whether a collection may end at a place
 pub record MayEnd (text : List ℕ) (at : ℕ) (place : ℕ) : Type 0 where

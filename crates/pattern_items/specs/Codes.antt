@@ -1,6 +1,7 @@
--- Characters by their code (Vim's help, /\%d and its kin): decimal with up to ten digits, octal with up to four
+-- Characters by their code (Vim's help, /\%d and its kin): decimal with up to ten digits, octal
+-- with up to four
 -- and at most 0377, hexadecimal with up to two, four or eight.
-use Rattle.std.specs.Prelude.{ℕ, ◌==◌, ◌+◌, ◌*◌, nat_lt, nat_le, nat_eq, ◌&&◌, ◌||◌, List, [], ◌∷◌, Option, Some, None, Bool, if◌then◌else◌}
+use Rattle.std.specs.Prelude.{ℕ, ◌==◌, ◌+◌, ◌*◌, nat_lt, nat_le, ◌&&◌, ◌||◌, List, [], ◌∷◌, Option, Some, None, Bool, if◌then◌else◌}
 use Rattle.std.specs.Char.{digit_value}
 use Rattle.pattern_items.specs.declared.codes.Code.{Code}
 use Rattle.pattern_items.specs.declared.codes.Notation.{Notation}
@@ -31,7 +32,8 @@ most_digits Hex2 = 2
 most_digits Hex4 = 4
 most_digits Hex8 = 8
 
--- an octal code stops before the digit that would take it above 0377; the others are stopped by their digits alone
+-- an octal code stops before the digit that would take it above 0377; the others are stopped by
+-- their digits alone
 abbrev pub greatest_of : Notation → ℕ
 greatest_of Decimal = 9999999999
 greatest_of Octal = 255
@@ -46,11 +48,19 @@ takes notation code c =
     && nat_le (code.value * base_of notation + digit_value c) (greatest_of notation)
 
 abbrev pub with_digit : Notation → Code → ℕ → Option Code
-with_digit notation code c = if takes notation code c then Some (record { value = code.value * base_of notation + digit_value c; count = code.count + 1 }) else None
+with_digit notation code c =
+    if takes notation code c then Some (record {
+      value = code.value * base_of notation + digit_value c;
+      count = code.count + 1;
+    })
+    else None
 
 abbrev pub code_after : Notation → Code → List ℕ → Code
 code_after notation code [] = code
-code_after notation code (c ∷ cs) = elim (with_digit notation code c) [ None ↦ code | Some more ↦ code_after notation more cs ]
+code_after notation code (c ∷ cs) = elim (with_digit notation code c) [
+  | None ↦ code
+  | Some more ↦ code_after notation more cs
+]
 
 -- the code that the digits at the front write
 abbrev pub code : Notation → List ℕ → Code

@@ -1,4 +1,5 @@
--- Collections (Vim's help, /[]): behind the bracket optionally `^`, then optionally `]` as a character, up to the next `]`.
+-- Collections (Vim's help, /[]): behind the bracket optionally `^`, then optionally `]` as a
+-- character, up to the next `]`.
 -- A backslash takes the next character with it, and a class name is passed whole.
 use Rattle.std.specs.Prelude.{ℕ, ◌==◌, zero, suc, ◌+◌, nat_eq, nat_lt, ◌||◌, List, [], ◌∷◌, ◌++◌, drop, length, Option, Some, None, Bool, true, false, if◌then◌else◌}
 use Rattle.pattern_items.specs.declared.atom.SetPart.{SetPart}
@@ -32,13 +33,20 @@ one_if_any (c ∷ cs) = 1
 
 -- how many of the characters that follow this one takes along
 abbrev pub taken_along : ℕ → List ℕ → ℕ
-taken_along c cs = if c == char "\\" then one_if_any cs else if c == char "[" then name_len (name_at cs) else 0
+taken_along c cs =
+    if c == char "\\" then one_if_any cs
+    else if c == char "[" then name_len (name_at cs)
+    else 0
 
--- How many characters there are up to the closing bracket, with it; `n` have been passed, and the first number says how many are taken along.
+-- How many characters there are up to the closing bracket, with it; `n` have been passed, and the
+-- first number says how many are taken along.
 abbrev pub closing : ℕ → ℕ → List ℕ → Option ℕ
 closing k n [] = None
 closing (suc k) n (c ∷ cs) = closing k (n + 1) cs
-closing zero n (c ∷ cs) = elim (c == char "]") [ true ↦ Some (n + 1) | false ↦ closing (taken_along c cs) (n + 1) cs ]
+closing zero n (c ∷ cs) = elim (c == char "]") [
+  | true ↦ Some (n + 1)
+  | false ↦ closing (taken_along c cs) (n + 1) cs
+]
 
 abbrev pub past_bracket : ℕ → List ℕ → Option ℕ
 past_bracket n [] = None
@@ -94,7 +102,8 @@ escaped (c ∷ cs) =
     else if c == char "r" then found (Escaped carriage_return) 1
     else if c == char "b" then found (Escaped backspace) 1
     else if c == char "n" then found LineEnd 1
-    else if c == char "\\" || c == char "]" || c == char "^" || c == char "-" then found (Escaped c) 1
+    else if c == char "\\" || c == char "]" || c == char "^" || c == char "-"
+    then found (Escaped c) 1
     else coded c cs
 
 abbrev pub is_mark : ℕ → Bool
@@ -102,7 +111,9 @@ is_mark c = c == char "=" || c == char "."
 
 -- `[=a=]` and `[.a.]`, of which the last bracket is the collection's own
 abbrev pub left_out_at : List ℕ → Option Member
-left_out_at (mark ∷ inside ∷ end ∷ []) = if is_mark mark then (if nat_eq end mark then Some (LeftOut mark inside) else None) else None
+left_out_at (mark ∷ inside ∷ end ∷ []) =
+    if is_mark mark then (if nat_eq end mark then Some (LeftOut mark inside) else None)
+    else None
 left_out_at _ = None
 
 abbrev pub left_out_or : Option Member → Found
@@ -119,13 +130,19 @@ bracketed cs = named_or cs (name_at cs)
 
 abbrev pub member_at : Bool → ℕ → List ℕ → Found
 member_at true c cs = found (Bare c) 0
-member_at false c cs = if c == char "\\" then escaped cs else if c == char "[" then bracketed cs else found (Bare c) 0
+member_at false c cs =
+    if c == char "\\" then escaped cs
+    else if c == char "[" then bracketed cs
+    else found (Bare c) 0
 
--- the members from here on, past so many characters; the test says that the next one stands for itself
+-- the members from here on, past so many characters; the test says that the next one stands for
+-- itself
 abbrev pub members_from : ℕ → Bool → List ℕ → List Member
 members_from k plain [] = []
 members_from (suc k) plain (c ∷ cs) = members_from k plain cs
-members_from zero plain (c ∷ cs) = (member_at plain c cs).member ∷ members_from (member_at plain c cs).more (member_at plain c cs).plain_next cs
+members_from zero plain (c ∷ cs) =
+    (member_at plain c cs).member
+    ∷ members_from (member_at plain c cs).more (member_at plain c cs).plain_next cs
 
 abbrev pub members : List ℕ → List Member
 members text = members_from 0 false text
@@ -163,7 +180,10 @@ abbrev pub pieces : List Member → List Piece
 pieces [] = []
 pieces (m ∷ []) = Other m ∷ []
 pieces (m ∷ h ∷ []) = Other m ∷ Other h ∷ []
-pieces (m ∷ h ∷ n ∷ ms) = elim (range_at m (h ∷ n ∷ ms)) [ Some p ↦ p.0 ∷ pieces ms | None ↦ Other m ∷ pieces (h ∷ n ∷ ms) ]
+pieces (m ∷ h ∷ n ∷ ms) = elim (range_at m (h ∷ n ∷ ms)) [
+  | Some p ↦ p.0 ∷ pieces ms
+  | None ↦ Other m ∷ pieces (h ∷ n ∷ ms)
+]
 
 -- What a collection stands for.
 
@@ -238,19 +258,27 @@ body_of [] = []
 body_of (c ∷ cs) = if c == char "^" then cs else c ∷ cs
 
 abbrev pub set_of : Bool → Bool → List Piece → Sign
-set_of turned line_end ps = sign.Atom (Set (record { not = turned; line_end = line_end || has_line_end ps; parts = set_parts ps }))
+set_of turned line_end ps = sign.Atom (Set (record {
+  not = turned;
+  line_end = line_end || has_line_end ps;
+  parts = set_parts ps;
+}))
 
 abbrev pub marked_or_set : Bool → Bool → ℕ → List Piece → Option (ℕ × ℕ) → Sign
-marked_or_set turned line_end before ps (Some m) = sign.Wrong before (cause.LeftOut (marked_item m.0 m.1))
+marked_or_set turned line_end before ps (Some m) =
+    sign.Wrong before (cause.LeftOut (marked_item m.0 m.1))
 marked_or_set turned line_end before ps None = set_of turned line_end ps
 
 abbrev pub fault_or_set : Bool → Bool → ℕ → List Piece → Option PatternCause → Sign
 fault_or_set turned line_end before ps (Some c) = sign.Wrong before c
-fault_or_set turned line_end before ps None = marked_or_set turned line_end before ps (first_marked ps)
+fault_or_set turned line_end before ps None =
+    marked_or_set turned line_end before ps (first_marked ps)
 
 abbrev pub sign_of_pieces : Bool → Bool → ℕ → List Piece → Sign
 sign_of_pieces turned line_end before ps = fault_or_set turned line_end before ps (first_fault ps)
 
--- the item of a collection with this between its brackets; a fault stands at the bracket, `before` characters behind the item's first
+-- the item of a collection with this between its brackets; a fault stands at the bracket, `before`
+-- characters behind the item's first
 abbrev pub collection_sign : Bool → ℕ → List ℕ → Sign
-collection_sign line_end before inner = sign_of_pieces (is_turned inner) line_end before (pieces (members (body_of inner)))
+collection_sign line_end before inner =
+    sign_of_pieces (is_turned inner) line_end before (pieces (members (body_of inner)))

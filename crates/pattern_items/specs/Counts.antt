@@ -41,7 +41,8 @@ abbrev pub closing_brace : Bool → List ℕ
 closing_brace escaped = if escaped then codes "\\}" else codes "}"
 
 abbrev pub written : Level → Bool → Form → Bool → List ℕ
-written level lazy form escaped = opening level ++ (hyphen_if lazy ++ (between form ++ closing_brace escaped))
+written level lazy form escaped =
+    opening level ++ (hyphen_if lazy ++ (between form ++ closing_brace escaped))
 
 -- What it stands for.
 
@@ -88,19 +89,26 @@ IsOneLarge (at_most m) = 65535 < number m
 IsOneLarge any = ⊥
 
 abbrev pub count_of : Bool → Form → Sign
-count_of lazy form = Multi (Count (record { least = least_of form; most = most_of form; lazy = lazy }))
+count_of lazy form =
+    Multi (Count (record { least = least_of form; most = most_of form; lazy = lazy }))
 
 -- the item at the front of a text is this, and takes so many characters
 pub record IsRead (x : Surroundings) (text : List ℕ) (item : Sign) (count : ℕ) : Type 0 where
   pub sign : (placed x text).sign ≡ item
   pub len : (placed x text).len ≡ count
 
--- Whatever follows, a count is read to what it stands for, as a whole; one with a number that is too large is a fault.
+-- Whatever follows, a count is read to what it stands for, as a whole; one with a number that is
+-- too large is a fault.
 
 abbrev pub EachCountIsRead : Type 0
-EachCountIsRead = (x : Surroundings) (lazy : Bool) (form : Form) (escaped : Bool) (more : List ℕ) → AreNumerals form → AreSmall form →
-    IsRead x (written x.level lazy form escaped ++ more) (count_of lazy form) (length (written x.level lazy form escaped))
+EachCountIsRead =
+    (x : Surroundings) (lazy : Bool) (form : Form) (escaped : Bool) (more : List ℕ)
+    → AreNumerals form → AreSmall form
+    → IsRead x (written x.level lazy form escaped ++ more)
+    (count_of lazy form) (length (written x.level lazy form escaped))
 
 abbrev pub EachLargeCountIsRefused : Type 0
-EachLargeCountIsRefused = (x : Surroundings) (lazy : Bool) (form : Form) (escaped : Bool) (more : List ℕ) → AreNumerals form → IsOneLarge form →
-    (placed x (written x.level lazy form escaped ++ more)).sign ≡ Wrong 0 BadCount
+EachLargeCountIsRefused =
+    (x : Surroundings) (lazy : Bool) (form : Form) (escaped : Bool) (more : List ℕ)
+    → AreNumerals form → IsOneLarge form
+    → (placed x (written x.level lazy form escaped ++ more)).sign ≡ Wrong 0 BadCount

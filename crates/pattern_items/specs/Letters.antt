@@ -1,5 +1,5 @@
 -- Class letters (Vim's help, /character-classes).
-use Rattle.std.specs.Prelude.{ℕ, ◌==◌, nat_eq, Option, Some, None, Bool, true, false, if◌then◌else◌}
+use Rattle.std.specs.Prelude.{ℕ, ◌==◌, Option, Some, None, Bool, true, false, if◌then◌else◌}
 use Rattle.syn_base.specs.declared.class.Class.{Class}
 use Rattle.syn_base.specs.declared.class.Class.TheVariants.{White, Digit, Hex, Octal, Word, Head, Alpha, Lower, Upper, Ident, Keyword, File, Print, IdentNoDigit, KeywordNoDigit, FileNoDigit, PrintNoDigit}
 use Rattle.pattern_items.specs.declared.atom.Atom.{Atom}

@@ -1,13 +1,18 @@
+-- what items are: how they are spelled, and what they are in their places
 pub mod Characters
-pub mod CauseText
-pub mod Codes
-pub mod GroupNumbers
 pub mod Numbers
-pub mod Multis
+pub mod Codes
 pub mod Letters
+pub mod Multis
 pub mod ClassNames
 pub mod Collection
-pub mod ClosingBracket
 pub mod Spelling
 pub mod Place
+pub mod GroupNumbers
+pub mod CauseText
+-- the same in other words, to which laws lead
 pub mod Counts
+pub mod LevelTable
+pub mod ClosingBracket
+-- below here, what only code and proofs cite
+pub mod Vain

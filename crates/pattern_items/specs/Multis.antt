@@ -1,4 +1,5 @@
--- Multis of several characters (Vim's help, /\{ and /\@=). In each definition `n` characters have been read.
+-- Multis of several characters (Vim's help, /\{ and /\@=). In each definition `n` characters have
+-- been read.
 use Rattle.std.specs.Prelude.{ℕ, ◌==◌, ◌+◌, nat_eq, nat_lt, List, [], ◌∷◌, Option, Some, None, Bool, true, false, if◌then◌else◌, unwrap_or}
 use Rattle.pattern_items.specs.declared.item.Times.{Times}
 use Rattle.pattern_items.specs.declared.item.Behind.{Behind}
@@ -17,12 +18,15 @@ bad_count n = record { raw = raw.Wrong cause.BadCount; len = n }
 abbrev pub multi : Multi → ℕ → Spelled
 multi m n = record { raw = raw.Multi m; len = n }
 
--- The counts in braces: `{n,m}`, `{n}`, `{n,}`, `{,m}`, `{}`, and the same with `-` after the brace, lazy. `{,}` isn't one.
+-- The counts in braces: `{n,m}`, `{n}`, `{n,}`, `{,m}`, `{}`, and the same with `-` after the
+-- brace, lazy. `{,}` isn't one.
 -- The closing brace may have a backslash. The greater number counts as the most.
 
 abbrev pub times : ℕ → Option ℕ → Bool → Times
 times least None lazy = record { least = least; most = None; lazy = lazy }
-times least (Some most) lazy = if nat_lt most least then record { least = most; most = Some least; lazy = lazy } else record { least = least; most = Some most; lazy = lazy }
+times least (Some most) lazy =
+    if nat_lt most least then record { least = most; most = Some least; lazy = lazy }
+    else record { least = least; most = Some most; lazy = lazy }
 
 abbrev pub count : ℕ → Option ℕ → Bool → Multi
 count least most lazy = Count (times least most lazy)
@@ -34,7 +38,10 @@ bare_brace (c ∷ cs) = if c == char "}" then Some 2 else None
 
 abbrev pub brace_end : List ℕ → Option ℕ
 brace_end [] = None
-brace_end (c ∷ cs) = if c == char "}" then Some 1 else if c == char "\\" then bare_brace cs else None
+brace_end (c ∷ cs) =
+    if c == char "}" then Some 1
+    else if c == char "\\" then bare_brace cs
+    else None
 
 abbrev pub closed : ℕ → Multi → Option ℕ → Spelled
 closed n m None = bad_count n
@@ -48,7 +55,10 @@ without_most n (Some least) lazy end = closed n (count least None lazy) end
 abbrev pub with_most : ℕ → Option ℕ → Bool → Digits → Spelled
 with_most n least lazy d = elim (nat_eq d.count 0) [
   | true ↦ without_most n least lazy (brace_end d.rest)
-  | false ↦ elim d.value [ None ↦ bad_count n | Some most ↦ closed (n + d.count) (count (unwrap_or least 0) (Some most) lazy) (brace_end d.rest) ]
+  | false ↦ elim d.value [
+    | None ↦ bad_count n
+    | Some most ↦ closed (n + d.count) (count (unwrap_or least 0) (Some most) lazy) (brace_end d.rest)
+  ]
 ]
 
 -- without a comma the one number is both counts, and with none there is no limit
@@ -66,13 +76,19 @@ with_comma n least lazy (c ∷ cs) = elim (c == char ",") [
 abbrev pub with_least : ℕ → Bool → Digits → Spelled
 with_least n lazy d = elim (nat_eq d.count 0) [
   | true ↦ with_comma n None lazy d.rest
-  | false ↦ elim d.value [ None ↦ bad_count n | Some least ↦ with_comma (n + d.count) (Some least) lazy d.rest ]
+  | false ↦ elim d.value [
+    | None ↦ bad_count n
+    | Some least ↦ with_comma (n + d.count) (Some least) lazy d.rest
+  ]
 ]
 
 -- what follows the brace
 abbrev pub braces : ℕ → List ℕ → Spelled
 braces n [] = bad_count n
-braces n (c ∷ cs) = elim (c == char "-") [ true ↦ with_least (n + 1) true (digits cs) | false ↦ with_least n false (digits (c ∷ cs)) ]
+braces n (c ∷ cs) = elim (c == char "-") [
+  | true ↦ with_least (n + 1) true (digits cs)
+  | false ↦ with_least n false (digits (c ∷ cs))
+]
 
 -- The looks: `@=`, `@!`, `@>`, `@<=`, `@<!`, and the last two with a number before the `<`.
 
@@ -85,14 +101,19 @@ look_behind n limit (c ∷ cs) =
 
 abbrev pub limited_by : ℕ → ℕ → List ℕ → Spelled
 limited_by n most [] = bad_count n
-limited_by n most (c ∷ cs) = if c == char "<" then look_behind (n + 1) (Most most) cs else bad_count n
+limited_by n most (c ∷ cs) =
+    if c == char "<" then look_behind (n + 1) (Most most) cs
+    else bad_count n
 
 abbrev pub limited : ℕ → Option ℕ → List ℕ → Spelled
 limited n None cs = bad_count n
 limited n (Some most) cs = limited_by n most cs
 
 abbrev pub numbered : ℕ → Digits → Spelled
-numbered n d = elim (nat_eq d.count 0) [ true ↦ bad_count n | false ↦ limited (n + d.count) d.value d.rest ]
+numbered n d = elim (nat_eq d.count 0) [
+  | true ↦ bad_count n
+  | false ↦ limited (n + d.count) d.value d.rest
+]
 
 -- what follows the `@`
 abbrev pub look : ℕ → List ℕ → Spelled

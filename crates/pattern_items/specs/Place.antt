@@ -1,4 +1,5 @@
--- The items of a text, each in its place: what stands before and behind an item says whether a star, a caret and a dollar
+-- The items of a text, each in its place: what stands before and behind an item says whether a
+-- star, a caret and a dollar
 -- are characters, how a group is numbered, and whether a reference or an external may stand here.
 use Rattle.std.specs.Prelude.{ℕ, zero, suc, ◌+◌, ◌-◌, nat_lt, nat_le, ◌||◌, List, [], ◌∷◌, Option, Some, None, Bool, true, false, if◌then◌else◌, drop, take}
 use Rattle.pattern_items.specs.declared.item.Level.{Level}
@@ -30,7 +31,8 @@ is_very No = false
 is_very Usual = false
 is_very Very = true
 
--- The line stop is special at `\v`, and else at the end and before a bar, an ampersand, a closing item and a line end.
+-- The line stop is special at `\v`, and else at the end and before a bar, an ampersand, a closing
+-- item and a line end.
 
 abbrev pub is_line_end : Atom → Bool
 is_line_end atom.LineEnd = true
@@ -50,7 +52,8 @@ level_past level (raw.Case ignore) = Some level
 level_past level raw.Engine = Some level
 level_past level _ = None
 
--- What comes next, past items that take no room, is the end or such an item. The number is how many characters are passed over first.
+-- What comes next, past items that take no room, is the end or such an item. The number is how many
+-- characters are passed over first.
 abbrev pub stops : ℕ → Level → List ℕ → Bool
 stops k level [] = true
 stops (suc k) level (c ∷ cs) = stops k level cs
@@ -59,9 +62,11 @@ stops zero level (c ∷ cs) =
     elim (level_past level s.raw) [ None ↦ is_stop s.raw | Some next ↦ stops (s.len - 1) next cs ]
 
 abbrev pub dollar : Surroundings → List ℕ → Sign
-dollar x rest = sign.Atom (if is_very x.level || stops 0 x.level rest then atom.LineStop else atom.Char (char "$"))
+dollar x rest =
+    sign.Atom (if is_very x.level || stops 0 x.level rest then atom.LineStop else atom.Char (char "$"))
 
--- The line start is special at `\v`, and else where a pattern, a group, a branch or a concat begins and behind a line end.
+-- The line start is special at `\v`, and else where a pattern, a group, a branch or a concat begins
+-- and behind a line end.
 abbrev pub begins : Before → Bool
 begins Begin = true
 begins LineStart = false
@@ -69,9 +74,11 @@ begins LineEnd = true
 begins Within = false
 
 abbrev pub caret : Surroundings → Sign
-caret x = sign.Atom (if is_very x.level || begins x.before then atom.LineStart else atom.Char (char "^"))
+caret x =
+    sign.Atom (if is_very x.level || begins x.before then atom.LineStart else atom.Char (char "^"))
 
--- The star is a character where a pattern, a group, a branch or a concat begins and behind a special line start.
+-- The star is a character where a pattern, a group, a branch or a concat begins and behind a
+-- special line start.
 abbrev pub star_is_char : Before → Bool
 star_is_char Begin = true
 star_is_char LineStart = true
@@ -79,14 +86,18 @@ star_is_char LineEnd = false
 star_is_char Within = false
 
 abbrev pub star : Surroundings → Sign
-star x = if star_is_char x.before then sign.Atom (atom.Char (char "*")) else sign.Multi (count 0 None false)
+star x =
+    if star_is_char x.before then sign.Atom (atom.Char (char "*"))
+    else sign.Multi (count 0 None false)
 
 abbrev pub wrong : PatternCause → Sign
 wrong c = sign.Wrong 0 c
 
 -- groups are numbered as they open, nine at most
 abbrev pub group : Surroundings → Sign
-group x = if nat_lt x.groups 9 then sign.Open (kind.Counted (x.groups + 1)) else wrong cause.TooManyGroups
+group x =
+    if nat_lt x.groups 9 then sign.Open (kind.Counted (x.groups + 1))
+    else wrong cause.TooManyGroups
 
 abbrev pub is_start : PatternUse → Bool
 is_start Match = false
@@ -101,14 +112,20 @@ is_end SkipOrEnd = true
 is_end Names = false
 
 abbrev pub external : Surroundings → Sign
-external x = if is_start x.usage then (if nat_lt x.externals 9 then sign.Open (kind.External (x.externals + 1)) else wrong cause.TooManyGroups) else wrong cause.ExternalHere
+external x =
+    if is_start x.usage then (
+    if nat_lt x.externals 9 then sign.Open (kind.External (x.externals + 1))
+    else wrong cause.TooManyGroups)
+    else wrong cause.ExternalHere
 
 -- a group is there for a reference as soon as it has opened
 abbrev pub reference : Surroundings → ℕ → Sign
 reference x n = if nat_le n x.groups then sign.Atom (atom.Ref n) else wrong cause.BadReference
 
 abbrev pub external_reference : Surroundings → ℕ → Sign
-external_reference x n = if is_end x.usage then sign.Atom (atom.ExternalRef n) else wrong cause.ExternalHere
+external_reference x n =
+    if is_end x.usage then sign.Atom (atom.ExternalRef n)
+    else wrong cause.ExternalHere
 
 -- what is behind a bracket that has so many characters before it
 abbrev pub inner_of : List ℕ → ℕ → List ℕ
@@ -120,7 +137,9 @@ in_place x text len (raw.Atom a) = sign.Atom a
 in_place x text len raw.Caret = caret x
 in_place x text len raw.Dollar = dollar x (drop len text)
 in_place x text len raw.Star = star x
-in_place x text len (raw.Collection line_end before) = collection_sign line_end before (inner_of (take (len - 1) text) before)
+in_place x text len (raw.Collection line_end before) =
+    collection_sign line_end before (inner_of (take (len - 1) text) before)
+in_place x text len raw.LoneBracket = sign.Atom (atom.Char (char "["))
 in_place x text len (raw.Multi m) = sign.Multi m
 in_place x text len raw.Group = group x
 in_place x text len raw.Plain = sign.Open kind.Plain
@@ -173,17 +192,26 @@ externals_next n (sign.Open k) = elim k [ kind.External m ↦ m | _ ↦ n ]
 externals_next n _ = n
 
 abbrev pub surroundings_next : Surroundings → Level → Sign → Surroundings
-surroundings_next x level s = record { usage = x.usage; level = level; before = before_next x.before s; groups = groups_next x.groups s; externals = externals_next x.externals s; first = false }
+surroundings_next x level s = record {
+  usage = x.usage;
+  level = level;
+  before = before_next x.before s;
+  groups = groups_next x.groups s;
+  externals = externals_next x.externals s;
+  first = false;
+}
 
 -- the item at the front of a text
 abbrev pub sign_at : Surroundings → List ℕ → Sign
-sign_at x text = in_place x text (spelling x.first x.level text).len (spelling x.first x.level text).raw
+sign_at x text =
+    in_place x text (spelling x.first x.level text).len (spelling x.first x.level text).raw
 
 abbrev pub placed : Surroundings → List ℕ → Placed
 placed x text = record {
   sign = sign_at x text;
   len = (spelling x.first x.level text).len;
-  next = surroundings_next x (level_next x.level (spelling x.first x.level text).raw) (sign_at x text);
+  next =
+      surroundings_next x (level_next x.level (spelling x.first x.level text).raw) (sign_at x text);
 }
 
 -- an item, with the place of its first character, from 0
@@ -198,10 +226,13 @@ item at s = record { at = at; sign = s }
 abbrev pub items_from : ℕ → Surroundings → ℕ → List ℕ → List Item
 items_from k x at [] = []
 items_from (suc k) x at (c ∷ cs) = items_from k x (suc at) cs
-items_from zero x at (c ∷ cs) = item at (placed x (c ∷ cs)).sign ∷ items_from ((placed x (c ∷ cs)).len - 1) (placed x (c ∷ cs)).next (suc at) cs
+items_from zero x at (c ∷ cs) =
+    item at (placed x (c ∷ cs)).sign
+    ∷ items_from ((placed x (c ∷ cs)).len - 1) (placed x (c ∷ cs)).next (suc at) cs
 
 abbrev pub first_surroundings : PatternUse → Surroundings
-first_surroundings usage = record { usage = usage; level = Usual; before = Begin; groups = 0; externals = 0; first = true }
+first_surroundings usage =
+    record { usage = usage; level = Usual; before = Begin; groups = 0; externals = 0; first = true }
 
 -- the items of a pattern
 abbrev pub items_of : PatternUse → List ℕ → List Item

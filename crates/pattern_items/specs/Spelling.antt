@@ -1,4 +1,5 @@
--- The spelling of an item at a level of magic (Vim's help, /magic). In each definition `n` characters have been read,
+-- The spelling of an item at a level of magic (Vim's help, /magic). In each definition `n`
+-- characters have been read,
 -- and `first` says that no character of the pattern stands before the item.
 use Rattle.std.specs.Prelude.{ℕ, ◌==◌, ◌+◌, ◌-◌, nat_eq, nat_le, ◌&&◌, ◌||◌, List, [], ◌∷◌, Option, Some, None, Bool, true, false, if◌then◌else◌}
 use Rattle.pattern_items.specs.declared.item.Level.{Level}
@@ -25,13 +26,16 @@ rank No = 1
 rank Usual = 2
 rank Very = 3
 
--- The least rank at which a character is an item when it stands bare: 1 for `^ $`, 2 for `. [ * ~`, 3 for
+-- The least rank at which a character is an item when it stands bare: 1 for `^ $`, 2 for `. [ * ~`,
+-- 3 for
 -- `( ) | & + = ? { @ % < >`, and never for the others. Below it, it is one behind a backslash.
 abbrev pub bare_from : ℕ → ℕ
 bare_from c =
     if c == char "^" || c == char "$" then 1
     else if c == char "." || c == char "[" || c == char "*" || c == char "~" then 2
-    else if c == char "(" || c == char ")" || c == char "|" || c == char "&" || c == char "+" || c == char "=" || c == char "?" || c == char "{" || c == char "@" || c == char "%" || c == char "<" || c == char ">" then 3
+    else if c == char "(" || c == char ")" || c == char "|" || c == char "&" || c == char "+"
+    || c == char "=" || c == char "?" || c == char "{" || c == char "@" || c == char "%"
+    || c == char "<" || c == char ">" then 3
     else 4
 
 abbrev pub is_bare_item : Level → ℕ → Bool
@@ -58,7 +62,9 @@ is_unit c = c == char "l" || c == char "c" || c == char "v"
 
 abbrev pub with_unit : ℕ → ℕ → List ℕ → Spelled
 with_unit n count [] = wrong cause.BadCode n
-with_unit n count (c ∷ cs) = if is_unit c then spelled raw.LeftOut (n + count + 1) else wrong cause.BadCode n
+with_unit n count (c ∷ cs) =
+    if is_unit c then spelled raw.LeftOut (n + count + 1)
+    else wrong cause.BadCode n
 
 -- a line, a column or a screen column by its number: left out
 abbrev pub positioned : ℕ → Digits → Spelled
@@ -79,7 +85,9 @@ coded_as n count None = wrong cause.BadCode n
 coded_as n count (Some c) = atom (Char c) (n + count)
 
 abbrev pub with_code : ℕ → Code → Spelled
-with_code n k = if nat_eq k.count 0 then wrong cause.BadCode n else coded_as n k.count (char_of k.value)
+with_code n k =
+    if nat_eq k.count 0 then wrong cause.BadCode n
+    else coded_as n k.count (char_of k.value)
 
 -- a character by its code
 abbrev pub coded : ℕ → Notation → List ℕ → Spelled
@@ -87,7 +95,9 @@ coded n notation cs = with_code n (code notation cs)
 
 abbrev pub engine_number : ℕ → List ℕ → Spelled
 engine_number n [] = spelled raw.LeftOut n
-engine_number n (c ∷ cs) = if c == char "0" || c == char "1" || c == char "2" then spelled raw.Engine (n + 2) else spelled raw.LeftOut n
+engine_number n (c ∷ cs) =
+    if c == char "0" || c == char "1" || c == char "2" then spelled raw.Engine (n + 2)
+    else spelled raw.LeftOut n
 
 abbrev pub engine_at_front : ℕ → List ℕ → Spelled
 engine_at_front n [] = spelled raw.LeftOut n
@@ -128,10 +138,12 @@ external n (c ∷ cs) =
     else if is_number c then spelled (raw.ExternalReference (c - char "0")) (n + 1)
     else wrong cause.BadCode n
 
--- Behind an opening bracket, which is a character where none closes it. `before` characters stand before it.
+-- Behind an opening bracket, which is a character where none closes it. `before` characters stand
+-- before it.
 abbrev pub collected_to : Bool → ℕ → Option ℕ → Spelled
-collected_to line_end before None = atom (Char (char "[")) (before + 1)
-collected_to line_end before (Some len) = spelled (raw.Collection line_end before) (before + 1 + len)
+collected_to line_end before None = spelled raw.LoneBracket (before + 1)
+collected_to line_end before (Some len) =
+    spelled (raw.Collection line_end before) (before + 1 + len)
 
 abbrev pub collected : Bool → ℕ → List ℕ → Spelled
 collected line_end before cs = collected_to line_end before (collection_len cs)
@@ -191,7 +203,8 @@ abbrev pub operator : ℕ → ℕ → List ℕ → Option Spelled
 operator n c cs =
     if c == char "*" then Some (spelled raw.Star n)
     else if c == char "+" then Some (spelled (raw.Multi (count 1 None false)) n)
-    else if c == char "=" || c == char "?" then Some (spelled (raw.Multi (count 0 (Some 1) false)) n)
+    else if c == char "=" || c == char "?"
+    then Some (spelled (raw.Multi (count 0 (Some 1) false)) n)
     else if c == char "{" then Some (braces n cs)
     else if c == char "@" then Some (look n cs)
     else if c == char "(" then Some (spelled raw.Group n)
@@ -238,9 +251,13 @@ or_letter c cs (Some s) = s
 -- behind a backslash; one at the end is a character
 abbrev pub escaped_spelling : Bool → Level → List ℕ → Spelled
 escaped_spelling first level [] = atom (Char (char "\\")) 1
-escaped_spelling first level (c ∷ cs) = if is_bare_item level c then atom (Char c) 2 else or_letter c cs (magic_item first 2 c cs)
+escaped_spelling first level (c ∷ cs) =
+    if is_bare_item level c then atom (Char c) 2
+    else or_letter c cs (magic_item first 2 c cs)
 
 -- the item at the front
 abbrev pub spelling : Bool → Level → List ℕ → Spelled
 spelling first level [] = atom (Char (char "\\")) 1
-spelling first level (c ∷ cs) = if c == char "\\" then escaped_spelling first level cs else bare_spelling first level c cs
+spelling first level (c ∷ cs) =
+    if c == char "\\" then escaped_spelling first level cs
+    else bare_spelling first level c cs

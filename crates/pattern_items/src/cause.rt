@@ -2,9 +2,9 @@
 ghost use Rattle.std.specs.Prelude.{◌≡◌, encode_utf8_all};
 ghost use Rattle.std.specs.Fmt.{WritesOnOk};
 
-use crate::scan::front;
 use std::fmt;
 use syn_base::List;
+use text_scan::front;
 
 /// Why a pattern has no tree.
 #[derive(Drop)]

@@ -5,8 +5,8 @@ ghost use Rattle.std.specs.Prelude.{nat_eq};
 ghost use Rattle.pattern_items.specs.ClassNames as spec;
 
 use crate::SetPart;
-use crate::scan::front;
 use syn_base::{Class, List, Memory};
+use text_scan::front;
 
 /// A name that may stand between `[:` and `:]` (`/[:alpha:]`).
 #[derive(Clone, Copy)]
@@ -159,10 +159,7 @@ fn first_part(name: ClassName) -> SetPart
 fn is_alnum(name: ClassName) -> bool
     ensures { result ≡ spec.is_alnum name }
 {
-    match name {
-        ClassName::Alnum => true,
-        _ => false,
-    }
+    matches!(name, ClassName::Alnum)
 }
 
 /// Puts the parts of a name behind the others.

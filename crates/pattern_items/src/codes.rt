@@ -2,7 +2,7 @@
 ghost use Rattle.std.specs.Prelude.{◌≡◌, [], ◌∷◌, ◌<◌, ◌≤◌, ◌+◌, length, IfSome};
 ghost use Rattle.pattern_items.specs.Codes as spec;
 
-use crate::scan::front;
+use text_scan::front;
 
 /// How a code is written (`/\%d`, `/\%o`, `/\%x`, `/\%u`, `/\%U`).
 #[derive(Clone, Copy)]

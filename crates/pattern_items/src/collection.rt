@@ -5,10 +5,11 @@ ghost use Rattle.pattern_items.specs.ClosingBracket.{Ends, HasNoEnd};
 
 use crate::class_names::{ClassName, name_at, name_len, push_name};
 use crate::codes::{char_of, code_at, notation_of};
-use crate::scan::{behind, first_of, front};
+use crate::scan::behind;
 use crate::{Atom, CharRanges, PatternCause, SetPart, Sign};
 use std::alloc::Global;
 use syn_base::{List, Memory};
+use text_scan::front;
 
 /// What a collection is written with.
 #[derive(Clone, Copy)]
@@ -265,10 +266,7 @@ fn character_of(member: Member) -> Option<char>
 fn is_hyphen(member: Member) -> bool
     ensures { result ≡ spec.is_hyphen member }
 {
-    match member {
-        Member::Bare(c) => c == '-',
-        _ => false,
-    }
+    matches!(member, Member::Bare('-'))
 }
 
 fn range(low: Member, high: Member) -> Option<Piece>
@@ -383,10 +381,7 @@ fn first_marked(pieces: &[Piece]) -> Option<(char, char)>
 fn is_line_end(piece: Piece) -> bool
     ensures { result ≡ spec.is_line_end piece }
 {
-    match piece {
-        Piece::Other(Member::LineEnd) => true,
-        _ => false,
-    }
+    matches!(piece, Piece::Other(Member::LineEnd))
 }
 
 fn has_line_end(pieces: &[Piece]) -> bool
@@ -439,10 +434,7 @@ fn marked_item(alloc: Global, mark: char, inside: char) -> Result<List<char>, Me
 fn is_turned(text: &[char]) -> bool
     ensures { result ≡ spec.is_turned text.now }
 {
-    match front(text) {
-        Some(('^', _)) => true,
-        _ => false,
-    }
+    matches!(front(text), Some(('^', _)))
 }
 
 /// What is between the brackets, without a caret.

@@ -74,6 +74,8 @@ pub enum Raw {
     Star,
     /// A collection, and how many characters stand before its bracket.
     Collection { line_end: bool, before: u8 },
+    /// A bracket that nothing closes, which is a character.
+    LoneBracket,
     Multi(Multi),
     Group,
     Plain,

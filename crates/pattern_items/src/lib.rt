@@ -15,15 +15,15 @@ mod item;
 mod laws;
 mod letters;
 mod multis;
-mod numbers;
 mod place;
 mod scan;
 mod spelling;
+mod vain;
 
 pub use atom::{Atom, CharRanges, SetPart};
 pub use cause::PatternCause;
 pub use collection::collection_end;
 pub use item::{Before, Behind, Kind, Level, Multi, PatternUse, Placed, Sign, Surroundings, Times};
-pub use laws::counts_are_read;
+pub use laws::{counts_are_read, levels_of_magic};
 pub use place::next_item;
 pub use scan::behind;

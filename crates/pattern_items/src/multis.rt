@@ -5,8 +5,7 @@ ghost use Rattle.pattern_items.specs.Numbers as numbers;
 
 use crate::PatternCause;
 use crate::item::{Behind, Multi, Raw, Spelled, Times};
-use crate::numbers::digits;
-use crate::scan::front;
+use text_scan::{digits, front};
 
 fn bad_count(len: usize) -> Spelled
     ensures value { result ≡ spec.bad_count len }

@@ -1,13 +1,14 @@
 //! Items in their places.
 ghost use Rattle.std.specs.Prelude.{◌≡◌, ◌^◌, [], ◌∷◌, ◌<◌, ◌≤◌, ◌+◌, ◌-◌, length, MatchOption, IfOk, Some, None, drop, take, false};
 ghost use Rattle.pattern_items.specs.Place as spec;
-ghost use Rattle.pattern_items.specs.Spelling as spelling_spec;
+ghost use Rattle.pattern_items.specs.Vain.{Known};
 
 use crate::collection::collection_sign;
 use crate::item::{Before, Kind, Level, PatternUse, Placed, Raw, Sign, Spelled, Surroundings};
 use crate::multis::count;
 use crate::scan::{behind, first_of};
 use crate::spelling::spelling;
+use crate::vain::vain_behind;
 use crate::{Atom, PatternCause};
 use std::alloc::Global;
 use syn_base::{List, Memory};
@@ -15,20 +16,17 @@ use syn_base::{List, Memory};
 fn is_very(level: Level) -> bool
     ensures { result ≡ spec.is_very level }
 {
-    match level {
-        Level::Very => true,
-        _ => false,
-    }
+    matches!(level, Level::Very)
 }
 
 /// Whether a dollar before this item is the line stop.
 fn is_stop(raw: &Raw) -> bool
     ensures { result ≡ spec.is_stop raw.now }
 {
-    match raw {
-        Raw::Bar | Raw::Close | Raw::Also | Raw::Atom(Atom::LineEnd) => true,
-        _ => false,
-    }
+    matches!(
+        raw,
+        Raw::Bar | Raw::Close | Raw::Also | Raw::Atom(Atom::LineEnd)
+    )
 }
 
 /// The level behind an item that takes no room.
@@ -44,15 +42,16 @@ fn level_past(level: Level, raw: &Raw) -> Option<Level>
 }
 
 /// Whether a dollar before this text is the line stop.
-#[tactic(auto, using(crate::proofs::PlaceLaws::stops_step))]
-fn stops(level: Level, text: &[char]) -> bool
-    requires { length text.now < 2 ^ 61 }
+#[tactic(auto, using(crate::proofs::PlaceLaws::stops_step, crate::proofs::VainLaws::known_drop))]
+fn stops(level: Level, in_vain: bool, text: &[char]) -> bool
+    requires short { length text.now < 2 ^ 61 }
+    requires known { Known in_vain text.now }
     ensures { result ≡ spec.stops 0 level text.now }
 {
     let mut level = level;
     let mut rest = text;
     while rest.len() > 0 {
-        let s = spelling(false, level, rest);
+        let s = spelling(false, level, in_vain, rest);
         match level_past(level, &s.raw) {
             None => return is_stop(&s.raw),
             Some(next) => {
@@ -67,19 +66,13 @@ fn stops(level: Level, text: &[char]) -> bool
 fn begins(before: Before) -> bool
     ensures { result ≡ spec.begins before }
 {
-    match before {
-        Before::Begin | Before::LineEnd => true,
-        _ => false,
-    }
+    matches!(before, Before::Begin | Before::LineEnd)
 }
 
 fn star_is_char(before: Before) -> bool
     ensures { result ≡ spec.star_is_char before }
 {
-    match before {
-        Before::Begin | Before::LineStart => true,
-        _ => false,
-    }
+    matches!(before, Before::Begin | Before::LineStart)
 }
 
 fn before_next(before: Before, sign: &Sign) -> Before
@@ -137,16 +130,6 @@ fn surroundings_next(around: Surroundings, level: Level, sign: &Sign) -> Surroun
     }
 }
 
-fn copied(alloc: Global, text: &[char]) -> Result<List<char>, Memory>
-    ensures { IfOk result (λ l. l ≡ text.now) }
-{
-    let mut all = List::new(alloc);
-    for c in text {
-        all.push(*c)?;
-    }
-    Ok(all)
-}
-
 fn wrong(cause: PatternCause) -> Sign
     ensures { result ≡ Sign.Wrong 0 cause }
 {
@@ -164,11 +147,12 @@ fn caret(around: Surroundings) -> Sign
 }
 
 /// A dollar with this behind it.
-fn dollar(around: Surroundings, rest: &[char]) -> Sign
-    requires { length rest.now < 2 ^ 61 }
+fn dollar(around: Surroundings, in_vain: bool, rest: &[char]) -> Sign
+    requires short { length rest.now < 2 ^ 61 }
+    requires known { Known in_vain rest.now }
     ensures { result ≡ spec.dollar around rest.now }
 {
-    if is_very(around.level) || stops(around.level, rest) {
+    if is_very(around.level) || stops(around.level, in_vain, rest) {
         Sign::Atom(Atom::LineStop)
     } else {
         Sign::Atom(Atom::Char('$'))
@@ -241,23 +225,26 @@ fn inner_of(text: &[char], before: u8) -> &[char]
     }
 }
 
-/// The item that is spelled by the first `len` characters of a text.
+/// The item that is spelled at the front of a text.
+#[tactic(auto, using(crate::proofs::VainLaws::known_drop))]
 fn in_place(
     alloc: Global,
     around: Surroundings,
+    in_vain: bool,
     text: &[char],
-    len: usize,
-    raw: Raw,
+    spelled: Spelled,
 ) -> Result<Sign, Memory>
     requires few { length text.now < 2 ^ 61 }
-    requires some { 1 ≤ len }
-    requires within { len ≤ length text.now }
-    ensures { IfOk result (λ g. g ≡ spec.in_place around text.now len raw) }
+    requires some { 1 ≤ spelled.len }
+    requires within { spelled.len ≤ length text.now }
+    requires known { Known in_vain text.now }
+    ensures { IfOk result (λ g. g ≡ spec.in_place around text.now spelled.len spelled.raw) }
 {
+    let Spelled { raw, len } = spelled;
     match raw {
         Raw::Atom(atom) => Ok(Sign::Atom(atom)),
         Raw::Caret => Ok(caret(around)),
-        Raw::Dollar => Ok(dollar(around, behind(text, len))),
+        Raw::Dollar => Ok(dollar(around, in_vain, behind(text, len))),
         Raw::Star => Ok(star(around)),
         Raw::Collection { line_end, before } => {
             collection_sign(
@@ -267,6 +254,7 @@ fn in_place(
                 inner_of(first_of(text, len - 1), before),
             )
         }
+        Raw::LoneBracket => Ok(Sign::Atom(Atom::Char('['))),
         Raw::Multi(multi) => Ok(Sign::Multi(multi)),
         Raw::Group => Ok(group(around)),
         Raw::Plain => Ok(Sign::Open(Kind::Plain)),
@@ -283,22 +271,37 @@ fn in_place(
         Raw::Engine => Ok(Sign::Quiet { ignore: None }),
         Raw::Reference(number) => Ok(reference(around, number)),
         Raw::ExternalReference(number) => Ok(external_reference(around, number)),
-        Raw::LeftOut => Ok(wrong(PatternCause::LeftOut(copied(alloc, first_of(text, len))?))),
+        Raw::LeftOut => {
+            let item = List::from_slice(alloc, first_of(text, len))?;
+            Ok(wrong(PatternCause::LeftOut(item)))
+        }
         Raw::Wrong(cause) => Ok(wrong(cause)),
     }
 }
 
-/// The item at the front of a text, in its place.
-pub fn next_item(alloc: Global, around: Surroundings, text: &[char]) -> Result<Placed, Memory>
+/// The item at the front of a text, in its place. `in_vain` remembers whether a search for a
+/// closing bracket was in vain, so that none is made again: it begins as `false`.
+#[tactic(auto, using(crate::proofs::VainLaws::known_drop))]
+pub fn next_item(
+    alloc: Global,
+    around: Surroundings,
+    in_vain: &mut bool,
+    text: &[char],
+) -> Result<Placed, Memory>
     requires few { length text.now < 2 ^ 61 }
     requires some { 0 < length text.now }
+    requires known { Known in_vain.old text.now }
     ensures value { IfOk result (λ p. p ≡ spec.placed around text.now) }
     ensures some { IfOk result (λ p. 1 ≤ p.len) }
     ensures within { IfOk result (λ p. p.len ≤ length text.now) }
+    ensures known { IfOk result (λ p. Known in_vain.new (drop p.len text.now)) }
 {
-    let Spelled { raw, len } = spelling(around.first, around.level, text);
-    let level = level_next(around.level, &raw);
-    let sign = in_place(alloc, around, text, len, raw)?;
+    let before = *in_vain;
+    let spelled = spelling(around.first, around.level, before, text);
+    let len = spelled.len;
+    let level = level_next(around.level, &spelled.raw);
+    *in_vain = vain_behind(before, &spelled.raw, behind(text, len));
+    let sign = in_place(alloc, around, before, text, spelled)?;
     let next = surroundings_next(around, level, &sign);
     Ok(Placed { sign, len, next })
 }

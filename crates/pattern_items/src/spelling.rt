@@ -3,15 +3,15 @@ ghost use Rattle.std.specs.Prelude.{◌≡◌, ◌^◌, [], ◌∷◌, ◌<◌, 
 ghost use Rattle.pattern_items.specs.Spelling as spec;
 ghost use Rattle.pattern_items.specs.Letters as letters;
 ghost use Rattle.pattern_items.specs.Numbers as numbers;
+ghost use Rattle.pattern_items.specs.Vain.{Known};
 
 use crate::codes::{Notation, char_of, code_at, notation_of};
-use crate::collection::collection_len;
 use crate::item::{Level, Raw, Spelled};
 use crate::letters::class_atom;
 use crate::multis::{braces, count, look};
-use crate::numbers::digits;
-use crate::scan::front;
+use crate::vain::known_len;
 use crate::{Atom, PatternCause};
+use text_scan::{digits, front};
 
 fn rank(level: Level) -> u8
     ensures { result ≡ spec.rank level }
@@ -200,22 +200,24 @@ fn external(len: usize, text: &[char]) -> Spelled
 }
 
 /// A collection whose bracket is the last of `len` characters, or the bracket as a character.
-fn collected(line_end: bool, before: u8, text: &[char]) -> Spelled
+fn collected(line_end: bool, before: u8, in_vain: bool, text: &[char]) -> Spelled
     requires few { before ≤ 2 }
     requires room { length text.now < 2 ^ 61 }
+    requires known { Known in_vain (91 ∷ text.now) }
     ensures value { result ≡ spec.collected line_end before text.now }
     ensures within { (before + 1 ≤ result.len) × (result.len ≤ before + 1 + length text.now) }
 {
     let len = before as usize + 1;
-    match collection_len(text) {
-        None => atom(Atom::Char('['), len),
+    match known_len(in_vain, text) {
+        None => spelled(Raw::LoneBracket, len),
         Some(more) => spelled(Raw::Collection { line_end, before }, len + more),
     }
 }
 
 /// An item behind `\_`.
-fn underscore(text: &[char]) -> Spelled
-    requires { length text.now < 2 ^ 61 }
+fn underscore(in_vain: bool, text: &[char]) -> Spelled
+    requires short { length text.now < 2 ^ 61 }
+    requires known { Known in_vain text.now }
     ensures value { result ≡ spec.underscore text.now }
     ensures within { (2 ≤ result.len) × (result.len ≤ 2 + length text.now) }
 {
@@ -224,7 +226,7 @@ fn underscore(text: &[char]) -> Spelled
         Some(('^', _)) => atom(Atom::LineStart, 3),
         Some(('$', _)) => atom(Atom::LineStop, 3),
         Some(('.', _)) => atom(Atom::Any { line_end: true }, 3),
-        Some(('[', more)) => collected(true, 2, more),
+        Some(('[', more)) => collected(true, 2, in_vain, more),
         Some((c, _)) => match class_atom(true, c) {
             Some(class) => atom(class, 3),
             None => wrong(PatternCause::BadUnderscore, 2),
@@ -260,8 +262,9 @@ fn class_or_character(c: char) -> Spelled
 }
 
 /// An item of a backslash and a letter, a digit or a character without a meaning.
-fn letter(c: char, text: &[char]) -> Spelled
-    requires { length text.now < 2 ^ 61 }
+fn letter(c: char, in_vain: bool, text: &[char]) -> Spelled
+    requires short { length text.now < 2 ^ 61 }
+    requires known { Known in_vain text.now }
     ensures value { result ≡ spec.letter c text.now }
     ensures within { (2 ≤ result.len) × (result.len ≤ 2 + length text.now) }
 {
@@ -275,7 +278,7 @@ fn letter(c: char, text: &[char]) -> Spelled
         'n' => atom(Atom::LineEnd, 2),
         'Z' => spelled(Raw::LeftOut, 2),
         'z' => external(2, text),
-        '_' => underscore(text),
+        '_' => underscore(in_vain, text),
         _ => {
             if is_number(c) {
                 spelled(Raw::Reference(number_of(c)), 2)
@@ -307,9 +310,10 @@ fn operator(len: usize, c: char, text: &[char]) -> Option<Spelled>
 }
 
 /// An atom that may stand bare.
-fn plain_atom(first: bool, len: usize, c: char, text: &[char]) -> Option<Spelled>
+fn plain_atom(first: bool, len: usize, c: char, in_vain: bool, text: &[char]) -> Option<Spelled>
     requires few { (1 ≤ len) × (len ≤ 2) }
     requires room { length text.now < 2 ^ 61 }
+    requires known { Known in_vain (c ∷ text.now) }
     ensures value { result ≡ spec.plain_atom first len c text.now }
     ensures within { IfSome result (λ s. (len ≤ s.len) × (s.len ≤ len + length text.now)) }
 {
@@ -317,7 +321,7 @@ fn plain_atom(first: bool, len: usize, c: char, text: &[char]) -> Option<Spelled
         '.' => Some(atom(Atom::Any { line_end: false }, len)),
         '^' => Some(spelled(Raw::Caret, len)),
         '$' => Some(spelled(Raw::Dollar, len)),
-        '[' => Some(collected(false, len as u8 - 1, text)),
+        '[' => Some(collected(false, len as u8 - 1, in_vain, text)),
         '<' => Some(atom(Atom::WordStart, len)),
         '>' => Some(atom(Atom::WordStop, len)),
         '~' => Some(spelled(Raw::LeftOut, len)),
@@ -327,20 +331,22 @@ fn plain_atom(first: bool, len: usize, c: char, text: &[char]) -> Option<Spelled
 }
 
 /// An item whose character may stand bare at some level of magic.
-fn magic_item(first: bool, len: usize, c: char, text: &[char]) -> Option<Spelled>
+fn magic_item(first: bool, len: usize, c: char, in_vain: bool, text: &[char]) -> Option<Spelled>
     requires few { (1 ≤ len) × (len ≤ 2) }
     requires room { length text.now < 2 ^ 61 }
+    requires known { Known in_vain (c ∷ text.now) }
     ensures value { result ≡ spec.magic_item first len c text.now }
     ensures within { IfSome result (λ s. (len ≤ s.len) × (s.len ≤ len + length text.now)) }
 {
-    match plain_atom(first, len, c, text) {
+    match plain_atom(first, len, c, in_vain, text) {
         Some(s) => Some(s),
         None => operator(len, c, text),
     }
 }
 
-fn bare_spelling(first: bool, level: Level, c: char, text: &[char]) -> Spelled
-    requires { length text.now < 2 ^ 61 }
+fn bare_spelling(first: bool, level: Level, c: char, in_vain: bool, text: &[char]) -> Spelled
+    requires short { length text.now < 2 ^ 61 }
+    requires known { Known in_vain (c ∷ text.now) }
     ensures value { result ≡ spec.bare_spelling first level c text.now }
     ensures within { (1 ≤ result.len) × (result.len ≤ 1 + length text.now) }
 {
@@ -350,14 +356,16 @@ fn bare_spelling(first: bool, level: Level, c: char, text: &[char]) -> Spelled
     if !is_bare_item(level, c) {
         return atom(Atom::Char(c), 1);
     }
-    match magic_item(first, 1, c, text) {
+    match magic_item(first, 1, c, in_vain, text) {
         Some(s) => s,
         None => atom(Atom::Char(c), 1),
     }
 }
 
-fn escaped_spelling(first: bool, level: Level, text: &[char]) -> Spelled
-    requires { length text.now < 2 ^ 61 }
+#[tactic(auto, using(crate::proofs::VainLaws::known_behind))]
+fn escaped_spelling(first: bool, level: Level, in_vain: bool, text: &[char]) -> Spelled
+    requires short { length text.now < 2 ^ 61 }
+    requires known { Known in_vain text.now }
     ensures value { result ≡ spec.escaped_spelling first level text.now }
     ensures within { (1 ≤ result.len) × (result.len ≤ 1 + length text.now) }
 {
@@ -367,25 +375,27 @@ fn escaped_spelling(first: bool, level: Level, text: &[char]) -> Spelled
             if is_bare_item(level, c) {
                 return atom(Atom::Char(c), 2);
             }
-            match magic_item(first, 2, c, more) {
+            match magic_item(first, 2, c, in_vain, more) {
                 Some(s) => s,
-                None => letter(c, more),
+                None => letter(c, in_vain, more),
             }
         }
     }
 }
 
 /// The item at the front of a text that isn't empty; `first` says that no character of the pattern
-/// stands before it.
-pub fn spelling(first: bool, level: Level, text: &[char]) -> Spelled
-    requires { length text.now < 2 ^ 61 }
+/// stands before it, and `in_vain` that a search for a closing bracket was in vain before.
+#[tactic(auto, using(crate::proofs::VainLaws::known_behind))]
+pub fn spelling(first: bool, level: Level, in_vain: bool, text: &[char]) -> Spelled
+    requires short { length text.now < 2 ^ 61 }
+    requires known { Known in_vain text.now }
     ensures value { result ≡ spec.spelling first level text.now }
     ensures some { 1 ≤ result.len }
     ensures within { 0 < length text.now → result.len ≤ length text.now }
 {
     match front(text) {
         None => atom(Atom::Char('\\'), 1),
-        Some(('\\', more)) => escaped_spelling(first, level, more),
-        Some((c, more)) => bare_spelling(first, level, c, more),
+        Some(('\\', more)) => escaped_spelling(first, level, in_vain, more),
+        Some((c, more)) => bare_spelling(first, level, c, in_vain, more),
     }
 }

@@ -1,7 +1,7 @@
 -- The fold over the items of a text gives the grammar's tree, or the fault.
 use Rattle.std.proofs.Common.{◌≡◌, ◌≤◌, ◌<◌, ℕ, List, length, ap, sym, ◌∙◌, subst, inl, inr, ◌⊎◌, ◌↔◌}
 use Rattle.std.proofs.lemmas.Bool.{lt-ltb, le-ltb}
-use Rattle.std.specs.Prelude.{Result, Ok, Err, nat_lt, if◌then◌else◌}
+use Rattle.std.specs.Prelude.{Result, Ok, Err, if◌then◌else◌}
 use Rattle.pattern_items.specs.declared.cause.PatternCause.TheVariants.{TooLong}
 use Rattle.pattern_items.specs.declared.item.PatternUse.{PatternUse}
 use Rattle.pattern_items.specs.Place.{Item, items_of}

@@ -10,8 +10,8 @@ use Rattle.pattern_items.specs.Place.{Item, items_from, items_of, item, placed, 
 use Rattle.pattern_items.proofs.PlaceLaws.{items_step, placed_counts}
 use Rattle.vim_pattern.specs.declared.notes.Noted.{Noted}
 use Rattle.vim_pattern.specs.Shape.{Shape}
-use Rattle.vim_pattern.specs.Pattern.{IsSummaryOf, asks_case, sets_match_start, holds_line_stop}
-use Rattle.vim_pattern.specs.Summary.{noted_next, case_of, tree_of}
+use Rattle.vim_pattern.specs.Pattern.{IsSummaryOf, asks_case, sets_match_start, holds_line_stop, case_by}
+use Rattle.vim_pattern.specs.Summary.{noted_next, tree_of}
 use Rattle.vim_pattern.specs.Read.{State, start, step, after, read}
 
 -- these notes with those of the items to come
@@ -102,7 +102,7 @@ all_noted all x place n s t g =
     let ignores : n.ignores_case ≡ list_any (λ i. asks_case true i.sign) all = sym (or_false n.ignores_case) ∙ (λ k. (g.noted k).ignores_case) in
     let heeds : n.heeds_case ≡ list_any (λ i. asks_case false i.sign) all = sym (or_false n.heeds_case) ∙ (λ k. (g.noted k).heeds_case) in
     record {
-      case = λ k. case_of (record n { ignores_case = ignores k; heeds_case = heeds k });
+      case = λ k. case_by (ignores k) (heeds k);
       groups = let e : x.groups + 0 ≡ groups_in all = g.groups in omega arith;
       externals = let e : x.externals + 0 ≡ externals_in all = g.externals in omega arith;
       moves_start = sym (or_false n.moves_start) ∙ (λ k. (g.noted k).moves_start);

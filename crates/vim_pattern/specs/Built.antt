@@ -14,7 +14,9 @@ use Rattle.vim_pattern.specs.Fault.{Fault, fault_at}
 use Rattle.vim_pattern.specs.Pattern.{IsSummaryOf}
 use Rattle.vim_pattern.specs.Tree.{PatternTree}
 use Rattle.pattern_items.specs.Place.{Item}
-use Rattle.vim_pattern.specs.Shape.{Shape, bare, seq, and, or, optional_of}
+use Rattle.pattern_items.specs.declared.item.Kind.{Kind}
+use Rattle.pattern_items.specs.declared.item.Kind.TheVariants.{Counted, Plain, External, Optional}
+use Rattle.vim_pattern.specs.Shape.{Shape, bare, seq, and, or, group, external, optional_of}
 use Rattle.vim_pattern.specs.Read.{Last, nothing, loose, fixed, Part, Outer, State}
 
 abbrev pub bares : List Node → List Shape
@@ -24,6 +26,13 @@ abbrev pub pair_of : Join → Shape → Shape → Shape
 pair_of Pieces = seq
 pair_of Concats = and
 pair_of Branches = or
+
+-- the atom of a group of this kind
+abbrev pub group_of : Kind → Shape → Shape
+group_of (Counted n) t = group t n
+group_of Plain t = t
+group_of (External n) t = external t n
+group_of Optional t = t
 
 abbrev pub last_of : LastNode → Last
 last_of Nothing = nothing

@@ -25,11 +25,11 @@ asks_case ignore (Quiet o) = asks ignore o
 asks_case ignore _ = false
 
 -- `\c` wins over `\C`, wherever they stand
+abbrev pub case_by : Bool → Bool → Option Bool
+case_by ignored heeded = if ignored then Some true else if heeded then Some false else None
+
 abbrev pub case_of : List Item → Option Bool
-case_of is =
-    if list_any (λ i. asks_case true i.sign) is then Some true
-    else if list_any (λ i. asks_case false i.sign) is then Some false
-    else None
+case_of is = case_by (list_any (λ i. asks_case true i.sign) is) (list_any (λ i. asks_case false i.sign) is)
 
 abbrev pub is_match_start : AnyAtom → Bool
 is_match_start MatchStart = true

@@ -1,4 +1,5 @@
--- The tree of a text, or its fault, as the fold over its items gives it. The laws in src/laws.rt say that it is the grammar's.
+-- The tree of a text, or its fault, as the fold over its items gives it. A law in src/laws.rt says
+-- that it is the grammar's.
 use Rattle.std.specs.Prelude.{◌≡◌, ◌↔◌, ℕ, nat_lt, List, length, count_by, if◌then◌else◌, Result, Ok, Err}
 use Rattle.std.specs.List.{list_any}
 use Rattle.pattern_items.specs.declared.cause.PatternCause.TheVariants.{TooLong}
@@ -28,11 +29,16 @@ tree_by items (Err fault) = Err fault
 -- the tree of a text, or its fault
 abbrev pub tree_of : List ℕ → PatternUse → Result PatternTree Fault
 tree_of text use_ =
-    if nat_lt 4000 (length text) then Err (fault_at 4000 TooLong) else tree_by (items_of use_ text) (read (items_of use_ text) start)
+    if nat_lt 4000 (length text) then Err (fault_at 4000 TooLong)
+    else tree_by (items_of use_ text) (read (items_of use_ text) start)
 
 -- the fold gives the trees of the grammar, and its faults
 abbrev pub TreesAreRead : Type 0
-TreesAreRead = (text : List ℕ) (usage : PatternUse) (tree : PatternTree) → (tree_of text usage ≡ Ok tree) ↔ IsTreeOf text usage tree
+TreesAreRead =
+    (text : List ℕ) (usage : PatternUse) (tree : PatternTree)
+    → (tree_of text usage ≡ Ok tree) ↔ IsTreeOf text usage tree
 
 abbrev pub FaultsAreRead : Type 0
-FaultsAreRead = (text : List ℕ) (usage : PatternUse) (fault : Fault) → (tree_of text usage ≡ Err fault) ↔ HasFault text usage fault
+FaultsAreRead =
+    (text : List ℕ) (usage : PatternUse) (fault : Fault)
+    → (tree_of text usage ≡ Err fault) ↔ HasFault text usage fault

@@ -206,6 +206,18 @@ pub fn pattern_of(alloc: Global, part: Built) -> Result<Node, AllocError>
     joined(alloc, Join::Branches, branches)
 }
 
+/// The node of a group that holds this part.
+pub fn group_of(alloc: Global, kind: Kind, part: Built) -> Result<Node, AllocError>
+    ensures { IfOk result (λ n. bare n ≡ built.group_of kind (read.pattern_of (part_of part))) }
+{
+    let node = pattern_of(alloc, part)?;
+    match kind {
+        Kind::Counted(number) => Ok(Node::Group(Box::new(alloc, node)?, number)),
+        Kind::External(number) => Ok(Node::External(Box::new(alloc, node)?, number)),
+        Kind::Plain | Kind::Optional => Ok(node),
+    }
+}
+
 /// The optional list that has been read, and none where it has no atom.
 pub fn list_of(alloc: Global, part: Built) -> Result<Option<Node>, AllocError>
     ensures { IfOk result (λ o. built.IsList (read.settled (part_of part)) o) }

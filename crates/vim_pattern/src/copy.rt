@@ -3,19 +3,9 @@ ghost use Rattle.std.specs.Prelude.{◌≡◌, IfOk};
 ghost use Rattle.vim_pattern.specs.Shape.{bare};
 ghost use Rattle.vim_pattern.specs.Copied as spec;
 
-use crate::{Atom, Behind, CharRanges, Node, SetPart, Tree};
+use crate::{Atom, Behind, CharRanges, Node, Tree};
 use std::alloc::Global;
 use syn_base::{List, Memory};
-
-fn copied_parts(alloc: Global, parts: &[SetPart]) -> Result<List<SetPart>, Memory>
-    ensures { IfOk result (λ l. l ≡ parts.now) }
-{
-    let mut all = List::new(alloc);
-    for part in parts {
-        all.push(*part)?;
-    }
-    Ok(all)
-}
 
 fn copied_atom(alloc: Global, atom: &Atom) -> Result<Atom, Memory>
     ensures { IfOk result (λ a. a ≡ atom.now) }
@@ -37,7 +27,7 @@ fn copied_atom(alloc: Global, atom: &Atom) -> Result<Atom, Memory>
         Atom::Set(ranges) => Ok(Atom::Set(CharRanges {
             not: ranges.not,
             line_end: ranges.line_end,
-            parts: copied_parts(alloc, ranges.parts.as_slice())?,
+            parts: List::from_slice(alloc, ranges.parts.as_slice())?,
         })),
         Atom::LineEnd => Ok(Atom::LineEnd),
         Atom::LineStart => Ok(Atom::LineStart),

@@ -30,19 +30,13 @@ fn asks_case(ignore: bool, sign: &Sign) -> bool
 fn sets_match_start(sign: &Sign) -> bool
     ensures { result ≡ pattern.sets_match_start sign.now }
 {
-    match sign {
-        Sign::Atom(Atom::MatchStart) => true,
-        _ => false,
-    }
+    matches!(sign, Sign::Atom(Atom::MatchStart))
 }
 
 fn holds_line_stop(sign: &Sign) -> bool
     ensures { result ≡ pattern.holds_line_stop sign.now }
 {
-    match sign {
-        Sign::Atom(Atom::LineStop) => true,
-        _ => false,
-    }
+    matches!(sign, Sign::Atom(Atom::LineStop))
 }
 
 /// The notes with those of one item more.
@@ -58,7 +52,7 @@ pub fn noted_next(noted: Noted, sign: &Sign) -> Noted
 }
 
 fn case_of(noted: Noted) -> Option<bool>
-    ensures { result ≡ summary.case_of noted }
+    ensures { result ≡ pattern.case_by noted.ignores_case noted.heeds_case }
 {
     if noted.ignores_case {
         Some(true)

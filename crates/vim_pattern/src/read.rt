@@ -11,8 +11,8 @@ ghost use Rattle.vim_pattern.specs.Fault as fault;
 ghost use Rattle.pattern_items.specs.Place.{items_of};
 
 use crate::build::{
-    Built, LastNode, OpenItem, ended, list_of, new_part, pattern_of, put, with_also, with_bar,
-    with_multi,
+    Built, LastNode, OpenItem, ended, group_of, list_of, new_part, pattern_of, put, with_also,
+    with_bar, with_multi,
 };
 use crate::notes::{Noted, noted_next, tree_of};
 use crate::{Atom, Node, PatternCause, PatternError, PatternUse, Tree};
@@ -41,10 +41,7 @@ fn at<T>(at: usize, cause: PatternCause) -> Result<T, PatternError>
 fn is_optional(kind: Kind) -> bool
     ensures { result ≡ fault.is_optional kind }
 {
-    match kind {
-        Kind::Optional => true,
-        _ => false,
-    }
+    matches!(kind, Kind::Optional)
 }
 
 /// Whether the innermost open item is an optional list, and its place.
@@ -131,7 +128,7 @@ fn back(part: Built, under: Vec<OpenItem>, node: Node) -> Result<Reading, Patter
     })
 }
 
-#[tactic(auto, using(crate::proofs::Under::under_push))]
+#[tactic(auto, using(crate::proofs::Under::under_push, crate::proofs::Under::close_group))]
 fn close(alloc: Global, reading: Reading, place: usize) -> Result<Reading, PatternError>
     ensures { Gives state_of result
         (read.close_step place (part_of reading.here) (under_of reading.under.items)) }
@@ -140,26 +137,12 @@ fn close(alloc: Global, reading: Reading, place: usize) -> Result<Reading, Patte
     let Some(outer) = under.pop() else {
         return at(place, PatternCause::UnopenedClose);
     };
-    match outer.kind {
-        Kind::Counted(number) => {
-            let node = pattern_of(alloc, here)?;
-            back(
-                outer.part,
-                under,
-                Node::Group(Box::new(alloc, node)?, number),
-            )
-        }
-        Kind::External(number) => {
-            let node = pattern_of(alloc, here)?;
-            back(
-                outer.part,
-                under,
-                Node::External(Box::new(alloc, node)?, number),
-            )
-        }
-        Kind::Plain => back(outer.part, under, pattern_of(alloc, here)?),
-        Kind::Optional => at(place, PatternCause::UnopenedClose),
+    let OpenItem { at: _, kind, part } = outer;
+    if is_optional(kind) {
+        return at(place, PatternCause::UnopenedClose);
     }
+    let node = group_of(alloc, kind, here)?;
+    back(part, under, node)
 }
 
 fn put_here(reading: Reading, atom: Atom) -> Result<Reading, PatternError>
@@ -298,9 +281,10 @@ fn read_items(alloc: Global, text: &[char], usage: PatternUse) -> Result<Tree, P
         line_end: false,
     };
     let mut place: usize = 0;
+    let mut in_vain = false;
     let mut rest = text;
     while rest.len() > 0 {
-        let Placed { sign, len, next } = next_item(alloc, around, rest)?;
+        let Placed { sign, len, next } = next_item(alloc, around, &mut in_vain, rest)?;
         noted = noted_next(noted, &sign);
         reading = step(alloc, reading, place, sign)?;
         around = next;

@@ -1,5 +1,5 @@
-use Rattle.std.proofs.Common.{rules, ◌≡◌, ◌+◌, Some, None, sym, subst, ℕ}
-use Rattle.std.specs.Prelude.{MatchOption, Option}
+use Rattle.std.proofs.Common.{rules, ◌≡◌, ◌+◌, Some, None, sym, subst}
+use Rattle.std.specs.Prelude.{MatchOption}
 use Rattle.pattern_items.specs.Collection.{collection_end}
 use Rattle.pattern_items.specs.ClosingBracket.{Ends, HasNoEnd}
 use Rattle.pattern_items.proofs.ClosingLaws.{end_answers}

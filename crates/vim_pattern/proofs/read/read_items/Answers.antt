@@ -13,4 +13,5 @@ loop-rest-preserved c =
           some c.in_ok-sign.ensures.some c.noted_next-noted.ensures c.in_ok-reading.ensures c.behind-rest.ensures.value c.loop-rest.invariant.whole;
       within = search rules;
       few = search rules;
+      known = search rules;
     }

@@ -1,6 +1,7 @@
 use Rattle.std.proofs.Common.{◌≡◌, ◌+◌, ◌^◌, ◌<◌, length}
 use Rattle.pattern_items.specs.Place.{items_of}
 use Rattle.vim_pattern.specs.Built.{state_of}
+use Rattle.pattern_items.specs.Vain.{Known}
 use Rattle.vim_pattern.proofs.Progress.{Progress}
 use Rattle.vim_pattern.proofs.read.read_items.Given as goal
 
@@ -10,6 +11,7 @@ invariant-loop-rest l = record {
   whole : Progress (items_of l.fn.usage l.text) l.around l.place l.rest l.noted (state_of l.reading);
   within : l.place + length l.rest ≡ length l.text;
   few : length l.text < 2 ^ 61;
+  known : Known l.in_vain l.rest;
 }
 
 abbrev pub decreases-loop-rest : goal.decreases-loop-rest
