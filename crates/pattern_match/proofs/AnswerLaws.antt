@@ -13,21 +13,28 @@ use Rattle.pattern_match.specs.declared.answer.Attempt.TheVariants.{TooCostly}
 use Rattle.pattern_match.specs.Answers.{found_or_absent, answered}
 use Rattle.pattern_match.specs.OnText.{IsToldOn, AnswersStayOnText}
 
-by_way : (text : Text) (start : Place) (answer : Answer) (o : Option Way) → StaysOn text start answer → IsWayOn text start o →
+by_way : (text : Text) (start : Place) (answer : Answer) (o : Option Way) →
+    StaysOn text start answer → IsWayOn text start o →
     IsToldOn text start (found_or_absent text start answer o)
 by_way text start answer None h k = h.looked
-by_way text start answer (Some w) h k = (record { whole = k.whole; captures = k.captures }, h.looked)
+by_way text start answer (Some w) h k = (
+  record { whole = k.whole; captures = k.captures },
+  h.looked,
+)
 
-by_cost : (text : Text) (start : Place) (answer : Answer) (over : Bool) → StaysOn text start answer →
+by_cost : (text : Text) (start : Place) (answer : Answer) (over : Bool) →
+    StaysOn text start answer →
     IsToldOn text start (if over then TooCostly else found_or_absent text start answer answer.way)
 by_cost text start answer true h = tt
 by_cost text start answer false h = by_way text start answer answer.way h h.way
 
-told-on : (x : Context) (start : Place) (budget : ℕ) (tree : PatternTree) (told : Attempt) → IsPlaceOf x.text start →
+told-on : (x : Context) (start : Place) (budget : ℕ) (tree : PatternTree) (told : Attempt) →
+    IsPlaceOf x.text start →
     told ≡ answered budget x.text start (attempt tree x start) → IsToldOn x.text start told
 told-on x start budget tree told on e =
     subst (IsToldOn x.text start) (sym e)
-    (by_cost x.text start (attempt tree x start) (nat_lt budget (attempt tree x start).cost) (law tree x start on))
+    (by_cost x.text start (attempt tree x start) (nat_lt budget (attempt tree x start).cost)
+    (law tree x start on))
 
 pub answers-on : (trees : List PatternTree) → AnswersStayOnText trees
 answers-on trees budget number x start told within on is =

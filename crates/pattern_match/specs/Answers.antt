@@ -28,7 +28,12 @@ lines_or_start start None = one_line (pos start.line)
 lines_or_start start (Some looked) = looked
 
 abbrev pub match_of : Text → Place → Way → Match
-match_of text start w = record { from = match_from start w; to = match_to start w; caps = w.captures; externals = externals_of text w }
+match_of text start w = record {
+  from = match_from start w;
+  to = match_to start w;
+  caps = w.captures;
+  externals = externals_of text w;
+}
 
 abbrev pub found_or_absent : Text → Place → Answer → Option Way → Attempt
 found_or_absent text start answer None = Absent (lines_of start answer)
@@ -42,4 +47,5 @@ answered budget text start answer =
 -- what is answered of a pattern by its number
 abbrev pub IsAttempt : ℕ → List PatternTree → ℕ → Context → Place → Attempt → Type 0
 IsAttempt budget trees number x start told =
-    (tree : PatternTree) → slice_get trees number ≡ Some tree → told ≡ answered budget x.text start (attempt tree x start)
+    (tree : PatternTree) → slice_get trees number ≡ Some tree →
+    told ≡ answered budget x.text start (attempt tree x start)

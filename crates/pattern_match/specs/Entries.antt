@@ -6,7 +6,10 @@ use Rattle.std.specs.Prelude.{ℕ, suc, ◌≤◌, true, false, nat_eq, List, []
 abbrev pub entries_from : {X : Type 0} → (X → ℕ) → List X → ℕ → List X
 entries_from behind [] number = []
 entries_from behind (entry ∷ older) number =
-    elim (nat_eq number (suc (length older))) [ true ↦ entry ∷ entries_from behind older (behind entry) | false ↦ entries_from behind older number ]
+    elim (nat_eq number (suc (length older))) [
+      | true ↦ entry ∷ entries_from behind older (behind entry)
+      | false ↦ entries_from behind older number
+    ]
 
 -- each entry names an older one, or none
 abbrev pub AreLinked : {X : Type 0} → (X → ℕ) → List X → Type 0

@@ -48,4 +48,5 @@ AreTasks n (item ∷ items) = (IsNumbered item × (height_of item ≤ n)) × Are
 -- ways that stand on the text, with no more to be done on them than nodes of a height
 abbrev pub AreSound : Text → ℕ → List (Thread Task) → Type 0
 AreSound text n [] = Unit {0}
-AreSound text n (t ∷ threads) = (IsPlaceOf text t.way.at × AreTasks n t.todo) × AreSound text n threads
+AreSound text n (t ∷ threads) = (IsPlaceOf text t.way.at × AreTasks n t.todo) ×
+    AreSound text n threads

@@ -31,8 +31,10 @@ up_to_first e w marks = ticks_first marks ++ end_marks e w (first_way marks)
 abbrev pub task_marks : Context → Task → Way → List Mark
 task_marks x (Visit s) w = visits x (shape_of s.now) w
 task_marks x (Count t) w = turns x.text (visits x (shape_of t.part.now)) t.lazy t.least t.most w
-task_marks x (Turn t) w = followed (visits x (shape_of t.part.now) w) (after_turn x.text (visits x (shape_of t.part.now)) t.lazy t.least t.most w.at)
-task_marks x (AfterTurn t from) w = after_turn x.text (visits x (shape_of t.part.now)) t.lazy t.least t.most from w
+task_marks x (Turn t) w = followed (visits x (shape_of t.part.now) w)
+    (after_turn x.text (visits x (shape_of t.part.now)) t.lazy t.least t.most w.at)
+task_marks x (AfterTurn t from) w = after_turn x.text (visits x (shape_of t.part.now)) t.lazy
+    t.least t.most from w
 task_marks x (Look l) w = up_to_first l.ending w (part_marks x (shape_of l.part.now) l.behind w)
 task_marks x (Close number from) w = noted number from w
 task_marks x (CloseExternal number from) w = noted_external number from w

@@ -29,19 +29,23 @@ abbrev pub some_part_holds : List SetPart → ℕ → Sets → Bool → Bool
 some_part_holds parts c sets ignore = list_any (λ part. part_holds part c sets ignore) parts
 
 abbrev pub some_fixed_holds : List SetPart → ℕ → Sets → Bool → Bool
-some_fixed_holds parts c sets ignore = list_any (λ part. not (is_optional part) && part_holds part c sets ignore) parts
+some_fixed_holds parts c sets ignore = list_any
+    (λ part. not (is_optional part) && part_holds part c sets ignore) parts
 
 abbrev pub some_optional_holds : List SetPart → ℕ → Sets → Bool → Bool
-some_optional_holds parts c sets ignore = list_any (λ part. is_optional part && part_holds part c sets ignore) parts
+some_optional_holds parts c sets ignore =
+    list_any (λ part. is_optional part && part_holds part c sets ignore) parts
 
 abbrev pub has_code : Codes → ℕ → Bool
 has_code codes c = has_bit codes.words c
 
 -- a table holds what the fixed parts do, whatever the sets are
 pub record IsTableOf (parts : List SetPart) (ignore : Bool) (codes : Codes) : Type 0 where
-  pub holds : (c : ℕ) (sets : Sets) → c < 256 → has_code codes c ≡ some_fixed_holds parts c sets ignore
+  pub holds : (c : ℕ) (sets : Sets) → c < 256 →
+      has_code codes c ≡ some_fixed_holds parts c sets ignore
 
-pub record AreTables (parts : List SetPart) (exact ignoring : Codes) (has_optional : Bool) : Type 0 where
-  pub is_exact : IsTableOf parts false exact
-  pub is_ignoring : IsTableOf parts true ignoring
-  pub optional : has_optional ≡ list_any is_optional parts
+pub record AreTables (parts : List SetPart) (exact ignoring : Codes) (has_optional : Bool) : Type 0
+  where
+    pub is_exact : IsTableOf parts false exact
+    pub is_ignoring : IsTableOf parts true ignoring
+    pub optional : has_optional ≡ list_any is_optional parts

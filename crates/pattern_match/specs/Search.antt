@@ -40,14 +40,17 @@ going Ends t more = more
 going NoMore t more = more
 
 -- ways that try and reach these marks have taken the place of the present one
-pub record Leads (x : Context) (high : ℕ) (marks : List Mark) (old new : Ways Task) (went : Went) : Type 0 where
+pub record Leads (x : Context) (high : ℕ) (marks : List Mark) (old new : Ways Task) (went : Went)
+    : Type 0 where
   pub more : List (Thread Task)
   pub pending : new.pending ≡ more ++ old.pending
   pub same : marks_to_come x (going went new.here more) ≡ marks
-  pub sound : (n : ℕ) → high ≤ n → IsPlaceOf x.text old.here.way.at → AreTasks n old.here.todo → AreSound x.text n (going went new.here more)
+  pub sound : (n : ℕ) → high ≤ n → IsPlaceOf x.text old.here.way.at → AreTasks n old.here.todo →
+      AreSound x.text n (going went new.here more)
 
 -- some ticks were made, and the ways lead to all that is left of the marks
-pub record Goes (x : Context) (high : ℕ) (marks : List Mark) (old new : Ways Task) (earlier later : Spent) (went : Went) : Type 0 where
+pub record Goes (x : Context) (high : ℕ) (marks : List Mark) (old new : Ways Task)
+    (earlier later : Spent) (went : Went) : Type 0 where
   pub made : List Mark
   pub left : List Mark
   pub all : marks ≡ ticks_first made ++ left
@@ -79,14 +82,17 @@ marks_first x item ways = followed (task_marks x item ways.here.way) (marks_with
 abbrev pub moved : Ways Task → Way → Ways Task
 moved ways w = record ways { here = record ways.here { way = w } }
 
-pub record IsTicked (x : Context) (a : Atom) (old new : Ways Task) (earlier later : Spent) (place : Option Place) (way : Way) : Type 0 where
+pub record IsTicked (x : Context) (a : Atom) (old new : Ways Task) (earlier later : Spent)
+    (place : Option Place) (way : Way) : Type 0 where
   pub place_is : fits x old.here.way a ≡ place
   pub ways : new ≡ moved old way
   pub spent : later ≡ spent_on earlier (Tick (lines_looked x old.here.way a) ∷ [])
   pub within : later.cost ≤ later.budget
 
 abbrev pub IsTick : Context → Atom → Ways Task → Ways Task → Spent → Spent → Went → Type 0
-IsTick x a old new earlier later GoesOn = (p : Place) × (IsTicked x a old new earlier later (Some p) (way_behind old.here.way p a) × IsPlaceOf x.text p)
+IsTick x a old new earlier later GoesOn =
+    (p : Place) × (IsTicked x a old new earlier later (Some p) (way_behind old.here.way p a) ×
+    IsPlaceOf x.text p)
 IsTick x a old new earlier later (Does next) = ⊥
 IsTick x a old new earlier later Ends = IsTicked x a old new earlier later None old.here.way
 IsTick x a old new earlier later NoMore = earlier.budget ≤ earlier.cost
@@ -103,16 +109,20 @@ is_wanted None at = true
 is_wanted (Some p) at = is_same_place at p
 
 -- the search of these marks has ended with a way, or with none; the pending ways are still those
-pub record HasEnded (marks : List Mark) (old new : Ways Task) (earlier later : Spent) (way : Option Way) : Type 0 where
-  pub answer : answer_from earlier.cost earlier.looked marks ≡ record { way = way; cost = later.cost; looked = later.looked }
+pub record HasEnded (marks : List Mark) (old new : Ways Task) (earlier later : Spent)
+    (way : Option Way) : Type 0 where
+  pub answer : answer_from earlier.cost earlier.looked marks
+      ≡ record { way = way; cost = later.cost; looked = later.looked }
   pub budget : later.budget ≡ earlier.budget
   pub within : later.cost ≤ later.budget
   pub pending : new.pending ≡ old.pending
 
 abbrev pub IsSearch : List Mark → Ways Task → Ways Task → Spent → Spent → Sought → Type 0
-IsSearch marks old new earlier later Found = HasEnded marks old new earlier later (Some new.here.way)
+IsSearch marks old new earlier later Found =
+    HasEnded marks old new earlier later (Some new.here.way)
 IsSearch marks old new earlier later Absent = HasEnded marks old new earlier later None
-IsSearch marks old new earlier later TooCostly = earlier.budget < (answer_from earlier.cost earlier.looked marks).cost
+IsSearch marks old new earlier later TooCostly =
+    earlier.budget < (answer_from earlier.cost earlier.looked marks).cost
 
 -- ---- looks
 
@@ -120,7 +130,8 @@ IsSearch marks old new earlier later TooCostly = earlier.budget < (answer_from e
 abbrev pub behind_look : Ending → Bool → Thread Task → Way → List (Thread Task)
 behind_look (ending.Look true) true t found = []
 behind_look (ending.Look true) false t found = t ∷ []
-behind_look (ending.Look false) true t found = record { todo = t.todo; way = record found { at = t.way.at } } ∷ []
+behind_look (ending.Look false) true t found =
+    record { todo = t.todo; way = record found { at = t.way.at } } ∷ []
 behind_look (ending.Look false) false t found = []
 behind_look ending.Whole true t found = record { todo = t.todo; way = found } ∷ []
 behind_look ending.Whole false t found = []

@@ -8,7 +8,9 @@ use Rattle.pattern_match.specs.declared.standing.Standing.TheVariants.{Character
 
 abbrev pub Stands : Text → Place → Standing → Type 0
 Stands text p (Character c behind) =
-    (character_at text p ≡ Some c) × (is_line_end text p ≡ false) × (behind ≡ behind_character p) × IsPlaceOf text behind
+    (character_at text p ≡ Some c) × (is_line_end text p ≡ false) × (behind ≡ behind_character p) ×
+    IsPlaceOf text behind
 Stands text p (LineEnd behind) =
-    (character_at text p ≡ None) × (is_line_end text p ≡ true) × (behind ≡ behind_line_end p) × IsPlaceOf text behind
+    (character_at text p ≡ None) × (is_line_end text p ≡ true) × (behind ≡ behind_line_end p) ×
+    IsPlaceOf text behind
 Stands text p Nothing = (character_at text p ≡ None) × (is_line_end text p ≡ false)

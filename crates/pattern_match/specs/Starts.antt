@@ -12,7 +12,11 @@ before_too text false line = line_before text line
 
 abbrev pub starts_left : Text → Starts → List Place
 starts_left text s =
-    elim s.next [ None ↦ [] | Some p ↦ within s.limit (columns_back p.line p.col ++ before_too text s.line_before p.line) ]
+    elim s.next [
+      | None ↦ []
+      | Some p ↦ within s.limit
+          (columns_back p.line p.col ++ before_too text s.line_before p.line)
+    ]
 
 -- the places before one, which is the first of its own
 abbrev pub columns_before : ℕ → ℕ → List Place

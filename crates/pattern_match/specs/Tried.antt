@@ -6,7 +6,8 @@ use Rattle.match_rules.specs.Ways.{Context, IsPlaceOf}
 use Rattle.match_rules.specs.Atoms.{Piece, behind_pieces, last_line_of, lines_from}
 use Rattle.pattern_match.specs.declared.atoms.Tried.{Tried}
 
-pub record IsTriedOver (x : Context) (pieces : List Piece) (p : Place) (tried : Tried) : Type 0 where
-  pub place : tried.place ≡ behind_pieces x pieces p
-  pub looked : tried.looked ≡ lines_from p.line (last_line_of x pieces p)
-  pub within : IfSome tried.place (IsPlaceOf x.text)
+pub record IsTriedOver (x : Context) (pieces : List Piece) (p : Place) (tried : Tried) : Type 0
+  where
+    pub place : tried.place ≡ behind_pieces x pieces p
+    pub looked : tried.looked ≡ lines_from p.line (last_line_of x pieces p)
+    pub within : IfSome tried.place (IsPlaceOf x.text)

@@ -9,7 +9,10 @@ use Rattle.pattern_match.specs.declared.walks.Walked.{Walked}
 abbrev pub walked : Context → List Piece → Place → Walked
 walked x [] p = record { at = p; whole = true }
 walked x (piece ∷ pieces) p =
-    elim (behind_piece x piece p) [ None ↦ record { at = p; whole = false } | Some q ↦ walked x pieces q ]
+    elim (behind_piece x piece p) [
+      | None ↦ record { at = p; whole = false }
+      | Some q ↦ walked x pieces q
+    ]
 
 -- further pieces, where all so far stand
 abbrev pub walked_on : Context → Walked → List Piece → Walked

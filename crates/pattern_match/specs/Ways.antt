@@ -34,8 +34,14 @@ abbrev pub items_from : {T : Type 0} → List (Later T) → ℕ → List T
 items_from later number = map (λ e. e.item) (entries_from next_of later number)
 
 abbrev pub with_note : Way → Note → Way
-with_note w (Captured number from to) = record w { captures = with_capture w.captures number from to }
-with_note w (External number from to) = record w { externals = with_capture w.externals number from to }
+with_note w (Captured number from to) = record w {
+  captures = with_capture w.captures number from
+      to;
+}
+with_note w (External number from to) = record w {
+  externals = with_capture w.externals number from
+      to;
+}
 with_note w (Start p) = record w { start = Some p }
 with_note w (Stop p) = record w { stop = Some p }
 
@@ -74,7 +80,8 @@ pub record IsWithin (later notes : ℕ) (here : Here) : Type 0 where
 abbrev pub ArePending : ℕ → ℕ → List Pending → Type 0
 ArePending later notes [] = Unit {0}
 ArePending later notes (p ∷ older) =
-    (p.later ≤ later) × (p.notes ≤ notes) × IsWithin p.later p.notes p.here × ArePending p.later p.notes older
+    (p.later ≤ later) × (p.notes ≤ notes) × IsWithin p.later p.notes p.here ×
+    ArePending p.later p.notes older
 
 -- where a note says that a counted group matched
 abbrev pub capture_in : Note → ℕ → Capture
@@ -92,7 +99,9 @@ capture_first (entry ∷ older) group = capture_in entry.note group
 pub record IsLast (notes : List Noted) (number : ℕ) (last : List ℕ) : Type 0 where
   pub nine : length last ≡ 9
   pub within : (group : ℕ) → 1 ≤ group → group ≤ 9 → get_or last (group - 1) 0 ≤ number
-  pub same : (group : ℕ) → 1 ≤ group → group ≤ 9 → capture_of (with_notes (entries_from before_of notes number)).captures group ≡ capture_first (entries_from before_of notes (get_or last (group - 1) 0)) group
+  pub same : (group : ℕ) → 1 ≤ group → group ≤ 9 →
+      capture_of (with_notes (entries_from before_of notes number)).captures group ≡ capture_first
+      (entries_from before_of notes (get_or last (group - 1) 0)) group
 
 -- each entry names the last ones from itself on
 abbrev pub NameLast : List Noted → Type 0
@@ -106,7 +115,8 @@ with_last last (External group from to) number = last
 with_last last (Start p) number = last
 with_last last (Stop p) number = last
 
-pub record AreWays {T : Type 0} (later : List (Later T)) (notes : List Noted) (pending : List Pending) (here : Here) : Type 0 where
+pub record AreWays {T : Type 0} (later : List (Later T)) (notes : List Noted)
+    (pending : List Pending) (here : Here) : Type 0 where
   pub linked : AreLinked next_of (reverse later)
   pub chained : AreLinked before_of (reverse notes)
   pub numbered : All (λ e. IsNumbered e.note) notes
@@ -127,7 +137,13 @@ place_of true here there = here
 place_of false here there = there
 
 abbrev pub found_way : FoundWay → Way
-found_way w = record { at = w.at; captures = w.captures; externals = w.externals; start = w.start; stop = w.stop }
+found_way w = record {
+  at = w.at;
+  captures = w.captures;
+  externals = w.externals;
+  start = w.start;
+  stop = w.stop;
+}
 
 -- a note that came before all those of a way
 abbrev pub with_earlier_capture : List Capture → ℕ → Place → Place → List Capture
@@ -135,7 +151,9 @@ with_earlier_capture captures number from to =
     set captures (number - 1) (option_or (get_or captures (number - 1) None) (Some (from, to)))
 
 abbrev pub with_earlier : Way → Note → Way
-with_earlier w (Captured number from to) = record w { captures = with_earlier_capture w.captures number from to }
-with_earlier w (External number from to) = record w { externals = with_earlier_capture w.externals number from to }
+with_earlier w (Captured number from to) =
+    record w { captures = with_earlier_capture w.captures number from to }
+with_earlier w (External number from to) =
+    record w { externals = with_earlier_capture w.externals number from to }
 with_earlier w (Start p) = record w { start = option_or w.start (Some p) }
 with_earlier w (Stop p) = record w { stop = option_or w.stop (Some p) }

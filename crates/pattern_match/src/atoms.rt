@@ -40,8 +40,10 @@ pub(crate) fn try_atom<T: Lines, I: Copy>(
 ) -> Tried
     requires on_text { IsPlaceOf (T.lines lines.now) ways.now.here.way.at }
     requires numbers { HasNumber (atom_of test.now) }
-    ensures place { result.place ≡ fits (context_in (T.lines lines.now) context.now) ways.now.here.way (atom_of test.now) }
-    ensures looked { result.looked ≡ lines_looked (context_in (T.lines lines.now) context.now) ways.now.here.way (atom_of test.now) }
+    ensures place { result.place ≡ fits (context_in (T.lines lines.now) context.now)
+        ways.now.here.way (atom_of test.now) }
+    ensures looked { result.looked ≡ lines_looked (context_in (T.lines lines.now) context.now)
+        ways.now.here.way (atom_of test.now) }
     ensures on_text { IfSome result.place (IsPlaceOf (T.lines lines.now)) }
 {
     let at = ways.place();
@@ -128,7 +130,8 @@ fn behind_class<T: Lines>(
     line_end: bool,
 ) -> Option<Place>
     requires { IsPlaceOf (T.lines lines.now) at }
-    ensures value { result ≡ behind_one_or_end (T.lines lines.now) line_end (λ c. turned_round not (class_holds class c sets.now)) at }
+    ensures value { result ≡ behind_one_or_end (T.lines lines.now) line_end
+        (λ c. turned_round not (class_holds class c sets.now)) at }
     ensures within { IfSome result (IsPlaceOf (T.lines lines.now)) }
 {
     match standing_at(lines, at) {
@@ -174,7 +177,8 @@ fn is_line_stop<T: Lines>(lines: &T, at: Place) -> bool
 fn file_start<T: Lines>(lines: &T, at: Place) -> Tried
     requires { IsPlaceOf (T.lines lines.now) at }
     ensures place { result.place ≡ only_if (nat_eq at.line 0 && nat_eq at.col 0) at }
-    ensures looked { result.looked ≡ hull_of (one_line (pos at.line)) (one_line (pos at.line -ℤ pos 1)) }
+    ensures looked { result.looked ≡ hull_of (one_line (pos at.line))
+        (one_line (pos at.line -ℤ pos 1)) }
 {
     let line = numbered(lines, at.line);
     Tried {
@@ -186,7 +190,9 @@ fn file_start<T: Lines>(lines: &T, at: Place) -> Tried
 /// The place, if it is the end of the text's last line. The line behind is looked at too.
 fn file_stop<T: Lines>(lines: &T, at: Place) -> Tried
     requires { IsPlaceOf (T.lines lines.now) at }
-    ensures place { result.place ≡ only_if (nat_eq (at.line + 1) (length (T.lines lines.now)) && nat_eq at.col (length (line_at (T.lines lines.now) at.line))) at }
+    ensures place { result.place ≡ only_if
+        (nat_eq (at.line + 1) (length (T.lines lines.now))
+        && nat_eq at.col (length (line_at (T.lines lines.now) at.line))) at }
     ensures looked { result.looked ≡ lines_from at.line (line_behind (T.lines lines.now) at.line) }
 {
     let count = lines.len();
@@ -210,7 +216,8 @@ fn behind_group<T: Lines>(
     at: Place,
 ) -> Tried
     requires { IsPlaceOf (T.lines lines.now) at }
-    ensures { IsTriedOver (context_in (T.lines lines.now) context.now) (captured_text (T.lines lines.now) capture) at result }
+    ensures { IsTriedOver (context_in (T.lines lines.now) context.now)
+        (captured_text (T.lines lines.now) capture) at result }
 {
     match capture {
         Some((from, to)) => over(lines, at, walk_between(lines, context, from, to, at)),
@@ -222,7 +229,8 @@ fn behind_group<T: Lines>(
 fn behind_external<T: Lines>(lines: &T, context: &Context, number: u8, at: Place) -> Tried
     requires place { IsPlaceOf (T.lines lines.now) at }
     requires number { IsOneToNine number }
-    ensures { IsTriedOver (context_in (T.lines lines.now) context.now) (external_text (context_in (T.lines lines.now) context.now) number) at result }
+    ensures { IsTriedOver (context_in (T.lines lines.now) context.now)
+        (external_text (context_in (T.lines lines.now) context.now) number) at result }
 {
     let text = context.externals.part(usize::from(number) - 1);
     over(lines, at, walk_characters(lines, context, text, at))

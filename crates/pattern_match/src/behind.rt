@@ -33,7 +33,8 @@ impl Starts {
     pub(crate) fn next<T: Lines>(&mut self, lines: &T) -> Option<Place>
         requires { AreStarts (T.lines lines.now) self.old }
         ensures places { MatchOption result (starts_left (T.lines lines.now) self.old ≡ [])
-            (λ p. (starts_left (T.lines lines.now) self.old ≡ p ∷ starts_left (T.lines lines.now) self.new) × IsPlaceOf (T.lines lines.now) p) }
+            (λ p. (starts_left (T.lines lines.now) self.old ≡ p ∷ starts_left (T.lines lines.now)
+            self.new) × IsPlaceOf (T.lines lines.now) p) }
         ensures on_text { AreStarts (T.lines lines.now) self.new }
     {
         let start = self.next?;
@@ -45,7 +46,8 @@ impl Starts {
     fn behind<T: Lines>(self, lines: &T, start: Place) -> Starts
         requires next { self.next ≡ Some start }
         requires on_text { IsPlaceOf (T.lines lines.now) start }
-        ensures places { starts_left (T.lines lines.now) self ≡ start ∷ starts_left (T.lines lines.now) result }
+        ensures places { starts_left (T.lines lines.now) self ≡ start ∷ starts_left
+            (T.lines lines.now) result }
         ensures on_text { AreStarts (T.lines lines.now) result }
     {
         match self.limit {
@@ -62,7 +64,8 @@ impl Starts {
     /// Those before a place.
     fn back<T: Lines>(self, lines: &T, from: Place) -> Starts
         requires { IsPlaceOf (T.lines lines.now) from }
-        ensures places { starts_left (T.lines lines.now) result ≡ within self.limit (places_before (T.lines lines.now) self.line_before from) }
+        ensures places { starts_left (T.lines lines.now) result ≡ within self.limit
+            (places_before (T.lines lines.now) self.line_before from) }
         ensures on_text { AreStarts (T.lines lines.now) result }
     {
         if from.col > 0 {

@@ -26,7 +26,8 @@ impl Codes {
 
     /// Puts the character of this code in, or takes it out.
     pub(crate) fn set(&mut self, code: u8, member: bool)
-        ensures { (c : ℕ) → has_code self.new c ≡ (if c == code then member else has_code self.old c) }
+        ensures { (c : ℕ) → has_code self.new c
+            ≡ (if c == code then member else has_code self.old c) }
     {
         put(&mut self.words, code, member);
     }

@@ -35,7 +35,11 @@ impl<'p> Look<'p> {
 
     /// A look behind (`/\@<=`, `/\@<!`).
     pub(crate) fn behind(part: &'p Step, not: bool, limit: Behind) -> Look<'p>
-        ensures { result ≡ record { part = part.entry; behind = Some limit; ending = Ending.Look not } }
+        ensures { result ≡ record {
+          part = part.entry;
+          behind = Some limit;
+          ending = Ending.Look not;
+        } }
     {
         Look {
             part,

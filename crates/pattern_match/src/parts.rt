@@ -31,7 +31,8 @@ pub(crate) fn fails_at_once<T: Lines>(
     requires place { IsPlaceOf (T.lines lines.now) ways.now.here.way.at }
     requires numbers { HasNumbers (shape_of step.now) }
     ensures { let x = context_in (T.lines lines.now) context.now in
-        IfSome result (λ looked. visits x (shape_of step.now) ways.now.here.way ≡ Tick looked ∷ []) }
+        IfSome result (λ looked. visits x (shape_of step.now) ways.now.here.way ≡ Tick looked
+        ∷ []) }
 {
     let test = first_test(step)?;
     let tried = try_atom(lines, context, ways, test);
@@ -55,7 +56,9 @@ pub(crate) fn follow_both<'p, T: Lines>(
     requires within { spent.old.cost ≤ spent.old.budget }
     ensures { let x = context_in (T.lines lines.now) context.now in
         let node = seq (shape_of first.now) (shape_of second.now) in
-        IfOk result (IsStep x (height node) (followed (visits x node ways.old.here.way) (marks_with x ways.old.here.todo)) ways.old ways.new spent.old spent.new) }
+        IfOk result (IsStep x (height node)
+        (followed (visits x node ways.old.here.way) (marks_with x ways.old.here.todo)) ways.old
+        ways.new spent.old spent.new) }
 {
     match first {
         Step::One(test) => match tick(lines, context, ways, test, spent)? {
@@ -84,7 +87,9 @@ pub(crate) fn follow_either<'p, T: Lines>(
     requires within { spent.old.cost ≤ spent.old.budget }
     ensures { let x = context_in (T.lines lines.now) context.now in
         let node = or (shape_of first.now) (shape_of second.now) in
-        IfOk result (IsStep x (height node) (followed (visits x node ways.old.here.way) (marks_with x ways.old.here.todo)) ways.old ways.new spent.old spent.new) }
+        IfOk result (IsStep x (height node)
+        (followed (visits x node ways.old.here.way) (marks_with x ways.old.here.todo)) ways.old
+        ways.new spent.old spent.new) }
 {
     let Some(looked) = fails_at_once(lines, context, ways, first) else {
         put_aside_with(ways, Task::Visit(second))?;

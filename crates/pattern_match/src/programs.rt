@@ -109,7 +109,8 @@ impl Programs {
         requires present { start.line < length (T.lines lines.now) }
         requires place { IsPlaceOf (T.lines lines.now) start }
         requires budget { 1 ≤ budget }
-        ensures { IfOk result (IsAttempt budget self.now id.0 (context_in (T.lines lines.now) context.now) start) }
+        ensures { IfOk result (IsAttempt budget self.now id.0
+            (context_in (T.lines lines.now) context.now) start) }
     {
         let program = &self.programs[id.0 as usize];
         let context = Context {
@@ -140,7 +141,8 @@ fn attempt_of<T: Lines>(
     requires numbers { HasNumbers (shape_of step.now) }
     requires budget { 1 ≤ budget }
     ensures { let x = context_in (T.lines lines.now) context.now in
-        IfOk result (λ told. told ≡ answered budget (T.lines lines.now) start (answer_of (visits x (shape_of step.now) (way_from start)))) }
+        IfOk result (λ told. told ≡ answered budget (T.lines lines.now) start
+        (answer_of (visits x (shape_of step.now) (way_from start)))) }
 {
     let mut ways: Ways<Task> = Ways::new(alloc, start);
     if let Some(looked) = fails_at_once(lines, context, &ways, step) {
@@ -175,7 +177,8 @@ fn found_match<T: Lines>(
     start: Place,
     way: &FoundWay,
 ) -> Result<Match, Memory>
-    ensures { IfOk result (λ found. found ≡ match_of (T.lines lines.now) start (found_way way.now)) }
+    ensures { IfOk result (λ found. found ≡ match_of (T.lines lines.now) start
+        (found_way way.now)) }
 {
     let from = way.start.unwrap_or(start);
     let to = not_before(from, way.stop.unwrap_or(way.at));

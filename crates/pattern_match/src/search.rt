@@ -62,7 +62,8 @@ pub(crate) fn search<'p, T: Lines>(
     requires numbers { HasNumbers (shape_of part.now) }
     requires within { spent.old.cost ≤ spent.old.budget }
     ensures { let x = context_in (T.lines lines.now) context.now in
-        IfOk result (IsSearch (wanted_marks wanted (visits x (shape_of part.now) ways.old.here.way)) ways.old ways.new spent.old spent.new) }
+        IfOk result (IsSearch (wanted_marks wanted (visits x (shape_of part.now) ways.old.here.way))
+        ways.old ways.new spent.old spent.new) }
 {
     let floor = ways.pending();
     ways.drop_all();
@@ -103,7 +104,8 @@ fn step<'p, T: Lines>(
     requires numbers { IsNumbered item }
     requires within { spent.old.cost ≤ spent.old.budget }
     ensures { let x = context_in (T.lines lines.now) context.now in
-        IfOk result (IsStep x (height_of item.entry) (marks_first x item.entry ways.old) ways.old ways.new spent.old spent.new) }
+        IfOk result (IsStep x (height_of item.entry) (marks_first x item.entry ways.old) ways.old
+        ways.new spent.old spent.new) }
 {
     match item {
         Task::Visit(node) => Ok(Went::Does(Next::Visit(node))),
@@ -135,7 +137,8 @@ fn follow<'p, T: Lines>(
     requires numbers { IsNumbered (task_of next) }
     requires within { spent.old.cost ≤ spent.old.budget }
     ensures { let x = context_in (T.lines lines.now) context.now in
-        IfOk result (IsStep x (height_of (task_of next.entry)) (marks_first x (task_of next.entry) ways.old) ways.old ways.new spent.old spent.new) }
+        IfOk result (IsStep x (height_of (task_of next.entry))
+        (marks_first x (task_of next.entry) ways.old) ways.old ways.new spent.old spent.new) }
 {
     match next {
         Next::Visit(node) => visit(lines, context, ways, node, spent),
@@ -156,7 +159,8 @@ fn visit<'p, T: Lines>(
     requires numbers { HasNumbers (shape_of node.now) }
     requires within { spent.old.cost ≤ spent.old.budget }
     ensures { let x = context_in (T.lines lines.now) context.now in
-        IfOk result (IsStep x (height (shape_of node.now)) (marks_first x (Task.Visit node.entry) ways.old) ways.old ways.new spent.old spent.new) }
+        IfOk result (IsStep x (height (shape_of node.now))
+        (marks_first x (Task.Visit node.entry) ways.old) ways.old ways.new spent.old spent.new) }
 {
     match node {
         Step::Empty => Ok(Went::GoesOn),
@@ -191,7 +195,12 @@ fn visit<'p, T: Lines>(
 
 /// A counted group begins on the present way: it closes behind its part.
 fn open_group<'p>(ways: &mut Ways<Task<'p>>, number: u8) -> Result<(), Memory>
-    ensures { OnOk result (ways.new ≡ record ways.old { here = record ways.old.here { todo = Task.Close number ways.old.here.way.at ∷ ways.old.here.todo } }) }
+    ensures { OnOk result (ways.new ≡ record ways.old {
+      here = record ways.old.here {
+        todo = Task.Close number ways.old.here.way.at
+            ∷ ways.old.here.todo;
+      };
+    }) }
 {
     let from = ways.place();
     ways.put_first(Task::Close { number, from })
@@ -199,7 +208,12 @@ fn open_group<'p>(ways: &mut Ways<Task<'p>>, number: u8) -> Result<(), Memory>
 
 /// An external group begins on the present way.
 fn open_external<'p>(ways: &mut Ways<Task<'p>>, number: u8) -> Result<(), Memory>
-    ensures { OnOk result (ways.new ≡ record ways.old { here = record ways.old.here { todo = Task.CloseExternal number ways.old.here.way.at ∷ ways.old.here.todo } }) }
+    ensures { OnOk result (ways.new ≡ record ways.old {
+      here = record ways.old.here {
+        todo = Task.CloseExternal number ways.old.here.way.at
+            ∷ ways.old.here.todo;
+      };
+    }) }
 {
     let from = ways.place();
     ways.put_first(Task::CloseExternal { number, from })
@@ -218,7 +232,8 @@ fn follow_look<'p, T: Lines>(
     requires numbers { HasNumbers (shape_of look.part.now) }
     requires within { spent.old.cost ≤ spent.old.budget }
     ensures { let x = context_in (T.lines lines.now) context.now in
-        IfOk result (IsStep x (height_of (Task.Look look.entry)) (marks_first x (Task.Look look.entry) ways.old) ways.old ways.new spent.old spent.new) }
+        IfOk result (IsStep x (height_of (Task.Look look.entry))
+        (marks_first x (Task.Look look.entry) ways.old) ways.old ways.new spent.old spent.new) }
 {
     ways.put_aside()?;
     let sought = match look.behind {
@@ -247,7 +262,8 @@ fn search_behind<'p, T: Lines>(
     requires numbers { HasNumbers (shape_of part.now) }
     requires within { spent.old.cost ≤ spent.old.budget }
     ensures { let x = context_in (T.lines lines.now) context.now in
-        IfOk result (IsSearch (tried_behind x.text (visits x (shape_of part.now)) limit ways.old.here.way) ways.old ways.new spent.old spent.new) }
+        IfOk result (IsSearch (tried_behind x.text (visits x (shape_of part.now)) limit
+        ways.old.here.way) ways.old ways.new spent.old spent.new) }
 {
     let at = ways.place();
     let begun = Begun {
@@ -308,7 +324,9 @@ fn line_before<T: Lines>(lines: &T, at: Place) -> Looked
 
 /// Takes up a copy of the next pending way.
 fn take_up_copy<'p>(ways: &mut Ways<Task<'p>>) -> Result<(), Memory>
-    ensures { (t : Thread AnyTask) (others : List (Thread AnyTask)) → ways.old.pending ≡ t ∷ others → OnOk result (ways.new ≡ record { here = t; pending = ways.old.pending }) }
+    ensures { (t : Thread AnyTask) (others : List (Thread AnyTask)) →
+        ways.old.pending ≡ t ∷ others → OnOk result
+        (ways.new ≡ record { here = t; pending = ways.old.pending }) }
 {
     if ways.take_up() {
         ways.put_aside()?;
@@ -320,8 +338,10 @@ fn take_up_copy<'p>(ways: &mut Ways<Task<'p>>) -> Result<(), Memory>
 /// began with is the next pending one.
 fn behind_look<'p>(ways: &mut Ways<Task<'p>>, ending: Ending, found: bool) -> Went<'p>
     ensures led { IsLed result }
-    ensures leads { (t : Thread AnyTask) (others : List (Thread AnyTask)) → ways.old.pending ≡ t ∷ others →
-        (ways.new.pending ≡ others) × (going result ways.new.here [] ≡ behind_look ending found t ways.old.here.way) }
+    ensures leads { (t : Thread AnyTask) (others : List (Thread AnyTask)) →
+        ways.old.pending ≡ t ∷ others →
+        (ways.new.pending ≡ others) × (going result ways.new.here [] ≡ behind_look ending found t
+        ways.old.here.way) }
 {
     let goes_on = match (ending, found) {
         (Ending::Look { not: false }, true) => ways.go_on_with_pending(false),

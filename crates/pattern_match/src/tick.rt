@@ -17,7 +17,8 @@ use syn_base::{Lines, Memory, Place};
 
 /// The present way behind an atom that fits and leads to a place.
 fn pass<'p>(ways: &mut Ways<Task<'p>>, test: &Test, place: Place) -> Result<(), Memory>
-    ensures { OnOk result (ways.new ≡ moved ways.old (way_behind ways.old.here.way place (atom_of test.now))) }
+    ensures { OnOk result (ways.new ≡ moved ways.old
+        (way_behind ways.old.here.way place (atom_of test.now))) }
 {
     match test {
         Test::MatchStart => ways.note_start(),
@@ -41,7 +42,8 @@ pub(crate) fn tick<'p, T: Lines>(
     requires on_text { IsPlaceOf (T.lines lines.now) ways.old.here.way.at }
     requires numbers { HasNumber (atom_of test.now) }
     requires within { spent.old.cost ≤ spent.old.budget }
-    ensures { IfOk result (IsTick (context_in (T.lines lines.now) context.now) (atom_of test.now) ways.old ways.new spent.old spent.new) }
+    ensures { IfOk result (IsTick (context_in (T.lines lines.now) context.now) (atom_of test.now)
+        ways.old ways.new spent.old spent.new) }
 {
     if spent.cost >= spent.budget {
         return Ok(Went::TooCostly);

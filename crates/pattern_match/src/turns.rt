@@ -57,7 +57,10 @@ fn is_spent(most: Option<u32>) -> bool
 /// Puts a copy of the present way aside, on which one more thing is to be done first.
 #[inline(always)]
 pub(crate) fn put_aside_with<'p>(ways: &mut Ways<Task<'p>>, item: Task<'p>) -> Result<(), Memory>
-    ensures { OnOk result (ways.new ≡ record ways.old { pending = record ways.old.here { todo = item.entry ∷ ways.old.here.todo } ∷ ways.old.pending }) }
+    ensures { OnOk result (ways.new ≡ record ways.old {
+      pending = record ways.old.here { todo = item.entry ∷ ways.old.here.todo }
+          ∷ ways.old.pending;
+    }) }
 {
     ways.put_first(item)?;
     ways.put_aside()?;
@@ -69,7 +72,8 @@ pub(crate) fn put_aside_with<'p>(ways: &mut Ways<Task<'p>>, item: Task<'p>) -> R
 pub(crate) fn after_turn<'p>(ways: &Ways<Task<'p>>, turns: Turns<'p>, from: Place) -> Went<'p>
     requires { HasNumbers (shape_of turns.part.now) }
     ensures led { IsLed result }
-    ensures leads { (x : AnyContext) → Leads x (height (shape_of turns.entry.part.now) + 1) (marks_first x (Task.AfterTurn turns.entry from) ways.now) ways.now ways.now result }
+    ensures leads { (x : AnyContext) → Leads x (height (shape_of turns.entry.part.now) + 1)
+        (marks_first x (Task.AfterTurn turns.entry from) ways.now) ways.now ways.now result }
 {
     if is_after(ways.place(), from) {
         Went::Does(Next::Count(Turns {
@@ -101,7 +105,8 @@ pub(crate) fn turn<'p, T: Lines>(
     requires numbers { HasNumbers (shape_of turns.part.now) }
     requires within { spent.old.cost ≤ spent.old.budget }
     ensures { let x = context_in (T.lines lines.now) context.now in
-        IfOk result (IsStep x (height (shape_of turns.entry.part.now) + 1) (marks_first x (Task.Turn turns.entry) ways.old) ways.old ways.new spent.old spent.new) }
+        IfOk result (IsStep x (height (shape_of turns.entry.part.now) + 1)
+        (marks_first x (Task.Turn turns.entry) ways.old) ways.old ways.new spent.old spent.new) }
 {
     let from = ways.place();
     match turns.part {
@@ -129,7 +134,8 @@ pub(crate) fn count<'p, T: Lines>(
     requires numbers { HasNumbers (shape_of turns.part.now) }
     requires within { spent.old.cost ≤ spent.old.budget }
     ensures { let x = context_in (T.lines lines.now) context.now in
-        IfOk result (IsStep x (height (shape_of turns.entry.part.now) + 1) (marks_first x (Task.Count turns.entry) ways.old) ways.old ways.new spent.old spent.new) }
+        IfOk result (IsStep x (height (shape_of turns.entry.part.now) + 1)
+        (marks_first x (Task.Count turns.entry) ways.old) ways.old ways.new spent.old spent.new) }
 {
     if is_spent(turns.most) {
         Ok(Went::GoesOn)
@@ -162,7 +168,8 @@ fn count_atoms<'p, T: Lines>(
     requires greedy { turns.lazy ≡ false }
     requires within { spent.old.cost ≤ spent.old.budget }
     ensures { let x = context_in (T.lines lines.now) context.now in
-        IfOk result (IsStep x (height (shape_of turns.entry.part.now) + 1) (marks_first x (Task.Count turns.entry) ways.old) ways.old ways.new spent.old spent.new) }
+        IfOk result (IsStep x (height (shape_of turns.entry.part.now) + 1)
+        (marks_first x (Task.Count turns.entry) ways.old) ways.old ways.new spent.old spent.new) }
 {
     let mut most = turns.most;
     for _ in 0..u64::MAX {

@@ -26,7 +26,8 @@ pub(crate) fn walk_characters<T: Lines>(
     at: Place,
 ) -> Walked
     requires { IsPlaceOf (T.lines lines.now) at }
-    ensures value { result ≡ walked (context_in (T.lines lines.now) context.now) (characters text.now) at }
+    ensures value { result ≡ walked (context_in (T.lines lines.now) context.now)
+        (characters text.now) at }
     ensures place { IsPlaceOf (T.lines lines.now) result.at }
 {
     let mut at = at;
@@ -41,7 +42,8 @@ pub(crate) fn walk_characters<T: Lines>(
 
 /// A line from one column up to another; a line that isn't there is empty.
 pub(crate) fn part_of_line<T: Lines>(lines: &T, from: Place, stop: usize) -> &[char]
-    ensures { result.now ≡ take (stop - from.col) (drop from.col (line_at (T.lines lines.now) from.line)) }
+    ensures { result.now ≡ take (stop - from.col)
+        (drop from.col (line_at (T.lines lines.now) from.line)) }
 {
     if from.line >= lines.len() {
         return &[];

@@ -101,7 +101,9 @@ impl<T: Copy> Ways<T> {
 
     /// Moves the present way.
     pub(crate) fn move_to(&mut self, at: Place)
-        ensures { self.new ≡ record self.old { here = record self.old.here { way = record self.old.here.way { at = at } } } }
+        ensures { self.new ≡ record self.old {
+          here = record self.old.here { way = record self.old.here.way { at = at } };
+        } }
     {
         self.here.at = at;
     }
@@ -109,7 +111,8 @@ impl<T: Copy> Ways<T> {
     /// One more thing to be done first on the present way.
     #[inline(always)]
     pub(crate) fn put_first(&mut self, item: T) -> Result<(), Memory>
-        ensures { OnOk result (self.new ≡ record self.old { here = record self.old.here { todo = item ∷ self.old.here.todo } }) }
+        ensures { OnOk result (self.new ≡
+            record self.old { here = record self.old.here { todo = item ∷ self.old.here.todo } }) }
     {
         self.later.push(Later {
             item,
@@ -123,7 +126,8 @@ impl<T: Copy> Ways<T> {
     #[inline(always)]
     pub(crate) fn take_first(&mut self) -> Option<T>
         ensures { MatchOption result ((self.old.here.todo ≡ []) × (self.new ≡ self.old))
-            (λ item. (self.old.here.todo ≡ item ∷ self.new.here.todo) × (self.new.here.way ≡ self.old.here.way) × (self.new.pending ≡ self.old.pending)) }
+            (λ item. (self.old.here.todo ≡ item ∷ self.new.here.todo) ×
+            (self.new.here.way ≡ self.old.here.way) × (self.new.pending ≡ self.old.pending)) }
     {
         if self.here.next == 0 {
             return None;
@@ -140,7 +144,8 @@ impl<T: Copy> Ways<T> {
     /// Puts a copy of the present way aside, as the next pending one.
     #[inline(always)]
     pub(crate) fn put_aside(&mut self) -> Result<(), Memory>
-        ensures { OnOk result (self.new ≡ record self.old { pending = self.old.here ∷ self.old.pending }) }
+        ensures { OnOk result (self.new ≡
+            record self.old { pending = self.old.here ∷ self.old.pending }) }
     {
         self.pending.push(Pending {
             here: self.here,
@@ -174,7 +179,10 @@ impl<T: Copy> Ways<T> {
     /// Forgets the pending ways but for the last `count`.
     pub(crate) fn forget_to(&mut self, count: usize)
         requires { count ≤ length self.now.pending }
-        ensures { self.new ≡ record self.old { pending = drop (length self.old.pending - count) self.old.pending } }
+        ensures { self.new ≡ record self.old {
+          pending = drop (length self.old.pending - count)
+              self.old.pending;
+        } }
     {
         self.pending.truncate(count);
     }
@@ -183,7 +191,11 @@ impl<T: Copy> Ways<T> {
     /// place of the one or the other. The pending way is no longer pending.
     pub(crate) fn go_on_with_pending(&mut self, stay: bool) -> bool
         ensures none { IsFalse result → (self.old.pending ≡ []) × (self.new ≡ self.old) }
-        ensures next { IsTrue result → (t : Thread T) × (self.old.pending ≡ t ∷ self.new.pending) × (self.new.here ≡ record { todo = t.todo; way = record self.old.here.way { at = place_of stay self.old.here.way.at t.way.at } }) }
+        ensures next { IsTrue result → (t : Thread T) × (self.old.pending ≡ t ∷ self.new.pending) ×
+            (self.new.here ≡ record {
+              todo = t.todo;
+              way = record self.old.here.way { at = place_of stay self.old.here.way.at t.way.at };
+            }) }
     {
         let Some(next) = self.pending.pop() else {
             return false;
@@ -207,7 +219,15 @@ impl<T: Copy> Ways<T> {
     /// Notes where a counted group matched, from `from` to the place.
     pub(crate) fn note_capture(&mut self, number: u8, from: Place) -> Result<(), Memory>
         requires { (1 ≤ number) × (number ≤ 9) }
-        ensures { OnOk result (self.new ≡ record self.old { here = record self.old.here { way = record self.old.here.way { captures = with_capture self.old.here.way.captures number from self.old.here.way.at } } }) }
+        ensures { OnOk result (self.new ≡
+            record self.old {
+              here = record self.old.here {
+                way = record self.old.here.way {
+                  captures = with_capture self.old.here.way.captures
+                      number from self.old.here.way.at;
+                };
+              };
+            }) }
     {
         self.note(Note::Captured {
             number,
@@ -219,7 +239,15 @@ impl<T: Copy> Ways<T> {
     /// Notes where an external group matched.
     pub(crate) fn note_external(&mut self, number: u8, from: Place) -> Result<(), Memory>
         requires { (1 ≤ number) × (number ≤ 9) }
-        ensures { OnOk result (self.new ≡ record self.old { here = record self.old.here { way = record self.old.here.way { externals = with_capture self.old.here.way.externals number from self.old.here.way.at } } }) }
+        ensures { OnOk result (self.new ≡
+            record self.old {
+              here = record self.old.here {
+                way = record self.old.here.way {
+                  externals = with_capture self.old.here.way.externals
+                      number from self.old.here.way.at;
+                };
+              };
+            }) }
     {
         self.note(Note::External {
             number,
@@ -230,14 +258,24 @@ impl<T: Copy> Ways<T> {
 
     /// Notes that the match begins at the place.
     pub(crate) fn note_start(&mut self) -> Result<(), Memory>
-        ensures { OnOk result (self.new ≡ record self.old { here = record self.old.here { way = record self.old.here.way { start = Some self.old.here.way.at } } }) }
+        ensures { OnOk result (self.new ≡
+            record self.old {
+              here = record self.old.here {
+                way = record self.old.here.way { start = Some self.old.here.way.at };
+              };
+            }) }
     {
         self.note(Note::Start(self.here.at))
     }
 
     /// Notes that the match ends at the place.
     pub(crate) fn note_stop(&mut self) -> Result<(), Memory>
-        ensures { OnOk result (self.new ≡ record self.old { here = record self.old.here { way = record self.old.here.way { stop = Some self.old.here.way.at } } }) }
+        ensures { OnOk result (self.new ≡
+            record self.old {
+              here = record self.old.here {
+                way = record self.old.here.way { stop = Some self.old.here.way.at };
+              };
+            }) }
     {
         self.note(Note::Stop(self.here.at))
     }
@@ -245,7 +283,13 @@ impl<T: Copy> Ways<T> {
     /// One more note of the present way.
     fn note(&mut self, note: Note) -> Result<(), Memory>
         requires { IsNumbered note }
-        ensures { OnOk result (self.new ≡ record self.old { here = record self.old.here { way = with_note self.old.here.way note } }) }
+        ensures { OnOk result (self.new ≡
+            record self.old {
+              here = record self.old.here {
+                way = with_note self.old.here.way
+                    note;
+              };
+            }) }
     {
         let last = last_from(&self.notes, self.here.noted);
         let number = self.notes.len() + 1;

@@ -23,112 +23,183 @@ use Rattle.pattern_match.proofs.search.+search.Goals.{follow_look-in-None+in_ok-
 pub search-loop-init : goal.search-loop-init
 search-loop-init g t c =
     let x : AnyContext = context_in (g.T.Lines.lines c.args.lines.now) c.args.context.now in
-    started x c.args.part c.args.wanted c.args.ways.now c.drop_all.new.self c.args.spent.now c.requires.on_text c.requires.numbers c.requires.within c.drop_all.ensures
+    started x c.args.part c.args.wanted c.args.ways.now c.drop_all.new.self c.args.spent.now
+    c.requires.on_text c.requires.numbers c.requires.within c.drop_all.ensures
 
 pub follow_look-returns : goal.follow_look-returns
 follow_look-returns g t c =
     let x : AnyContext = context_in (g.T.Lines.lines c.args.lines.now) c.args.context.now in
-    let marks = part_marks x (shape_of c.args.look.part.now) c.args.look.behind c.args.ways.now.here.way in
-    let aside : Ways Task = record c.args.ways.now { pending = c.args.ways.now.here ∷ c.args.ways.now.pending } in
+    let marks = part_marks x (shape_of c.args.look.part.now) c.args.look.behind
+    c.args.ways.now.here.way in
+    let aside : Ways Task = record c.args.ways.now {
+      pending = c.args.ways.now.here
+          ∷ c.args.ways.now.pending;
+    } in
     let e : c.put_aside.new.self ≡ aside = c.in_ok-put_aside.ensures in
-    let sought : IsSearch marks aside c.match-look.ways c.args.spent.now c.match-look.spent c.match-look.sought =
+    let sought : IsSearch marks aside c.match-look.ways c.args.spent.now c.match-look.spent
+    c.match-look.sought =
     elim c.match-look.branch [
-      | follow_look-in-None+in_ok-sought-in-None w ↦ rw (w.ways-is, w.spent-is, w.sought-is, w.in-None.is) (rw e at w.in_ok-sought-in-None.ensures)
-      | follow_look-in-Some+in_ok-sought-in-Some w ↦ rw (w.ways-is, w.spent-is, w.sought-is, w.in-Some.is) (rw e at w.in_ok-sought-in-Some.ensures)
+      | follow_look-in-None+in_ok-sought-in-None w ↦ rw
+          (w.ways-is, w.spent-is, w.sought-is, w.in-None.is)
+          (rw e at w.in_ok-sought-in-None.ensures)
+      | follow_look-in-Some+in_ok-sought-in-Some w ↦ rw
+          (w.ways-is, w.spent-is, w.sought-is, w.in-Some.is)
+          (rw e at w.in_ok-sought-in-Some.ensures)
     ] in
-    let kept = part-kept x (shape_of c.args.look.part.now) c.args.look.behind c.args.ways.now.here.way c.requires.on_text in
+    let kept = part-kept x (shape_of c.args.look.part.now) c.args.look.behind
+    c.args.ways.now.here.way c.requires.on_text in
     elim c.match-sought.branch [
       | follow_look-in-Found w ↦
-          (let h : HasEnded marks aside c.match-look.ways c.args.spent.now c.match-look.spent (Some c.match-look.ways.here.way) = rw w.in-Found.is at sought in
-          let b = w.behind_look.ensures.leads c.args.ways.now.here c.args.ways.now.pending h.pending in
+          (let h : HasEnded marks aside c.match-look.ways c.args.spent.now c.match-look.spent
+          (Some c.match-look.ways.here.way) = rw w.in-Found.is at sought in
+          let b = w.behind_look.ensures.leads c.args.ways.now.here c.args.ways.now.pending h.pending
+          in
           rw (w.ways-is, w.result-is)
-          (higher x (height (shape_of c.args.look.part.now) + 1) _ c.args.ways.now w.behind_look.new.ways c.args.spent.now c.match-look.spent w.behind_look.result
-          (led x 0 _ c.args.ways.now w.behind_look.new.ways c.args.spent.now c.match-look.spent w.behind_look.result w.behind_look.ensures.led
-          (look_goes x c.args.look.ending c.args.ways.now marks kept true aside c.match-look.ways w.behind_look.new.ways c.args.spent.now c.match-look.spent w.behind_look.result h b.0 b.1))))
+          (higher x (height (shape_of c.args.look.part.now) + 1) _ c.args.ways.now
+          w.behind_look.new.ways c.args.spent.now c.match-look.spent w.behind_look.result
+          (led x 0 _ c.args.ways.now w.behind_look.new.ways c.args.spent.now c.match-look.spent
+          w.behind_look.result w.behind_look.ensures.led
+          (look_goes x c.args.look.ending c.args.ways.now marks kept true aside c.match-look.ways
+          w.behind_look.new.ways c.args.spent.now c.match-look.spent w.behind_look.result h b.0
+          b.1))))
       | follow_look-in-Absent w ↦
-          (let h : HasEnded marks aside c.match-look.ways c.args.spent.now c.match-look.spent None = rw w.in-Absent.is at sought in
-          let b = w.behind_look-in-Absent.ensures.leads c.args.ways.now.here c.args.ways.now.pending h.pending in
+          (let h : HasEnded marks aside c.match-look.ways c.args.spent.now c.match-look.spent
+          None = rw w.in-Absent.is at sought in
+          let b = w.behind_look-in-Absent.ensures.leads c.args.ways.now.here c.args.ways.now.pending
+          h.pending in
           rw (w.ways-is, w.result-is)
-          (higher x (height (shape_of c.args.look.part.now) + 1) _ c.args.ways.now w.behind_look-in-Absent.new.ways c.args.spent.now c.match-look.spent w.behind_look-in-Absent.result
-          (led x 0 _ c.args.ways.now w.behind_look-in-Absent.new.ways c.args.spent.now c.match-look.spent w.behind_look-in-Absent.result w.behind_look-in-Absent.ensures.led
-          (look_goes x c.args.look.ending c.args.ways.now marks kept false aside c.match-look.ways w.behind_look-in-Absent.new.ways c.args.spent.now c.match-look.spent w.behind_look-in-Absent.result h b.0 b.1))))
-      | follow_look-in-TooCostly w ↦ rw w.result-is (look_over x c.args.look.ending c.args.ways.now marks c.args.spent.now (rw w.in-TooCostly.is at sought))
+          (higher x (height (shape_of c.args.look.part.now) + 1) _ c.args.ways.now
+          w.behind_look-in-Absent.new.ways c.args.spent.now c.match-look.spent
+          w.behind_look-in-Absent.result
+          (led x 0 _ c.args.ways.now w.behind_look-in-Absent.new.ways c.args.spent.now
+          c.match-look.spent w.behind_look-in-Absent.result w.behind_look-in-Absent.ensures.led
+          (look_goes x c.args.look.ending c.args.ways.now marks kept false aside c.match-look.ways
+          w.behind_look-in-Absent.new.ways c.args.spent.now c.match-look.spent
+          w.behind_look-in-Absent.result h b.0 b.1))))
+      | follow_look-in-TooCostly w ↦ rw w.result-is
+          (look_over x c.args.look.ending c.args.ways.now marks c.args.spent.now
+          (rw w.in-TooCostly.is at sought))
     ]
 
 pub search_behind-returns-in-Found : goal.search_behind-returns-in-Found
 search_behind-returns-in-Found g t c =
     let x : AnyContext = context_in (g.T.Lines.lines c.args.lines.now) c.args.context.now in
     let part = shape_of c.args.part.now in
-    let s : HasEnded (ending_at c.place-at.result (visits x part c.move_to.new.self.here.way)) c.move_to.new.self c.search.new.ways c.loop-start.spent c.search.new.spent (Some c.search.new.ways.here.way) = rw c.in-Found.is at c.in_ok-search.ensures in
+    let s : HasEnded (ending_at c.place-at.result (visits x part c.move_to.new.self.here.way))
+    c.move_to.new.self c.search.new.ways c.loop-start.spent c.search.new.spent
+    (Some c.search.new.ways.here.way) = rw c.in-Found.is at c.in_ok-search.ensures in
     let places = rw c.in-Some.is at c.next.ensures.places in
-    let m = start_marks x part c.args.ways.now c.loop-start.ways c.move_to.new.self c.in-Some.start c.place-at.result c.move_to.ensures c.loop-start.invariant.here c.place-at.ensures in
-    let d = copy_dropped c.args.ways.now c.search.new.ways c.end.new.ways c.pending.result c.end.ensures.ways c.pending.ensures (s.pending ∙ (rw c.move_to.ensures c.loop-start.invariant.pending)) in
-    let told = start_found x part c.args.limit c.args.ways.now c.args.spent.now c.loop-start.ways c.loop-start.spent c.loop-start.starts c.loop-start.invariant c.in-Some.start c.next.new.self places.0 c.search.new.ways.here.way c.search.new.spent (sym (ap (answer_from c.loop-start.spent.cost c.loop-start.spent.looked) m) ∙ s.answer) in
+    let m = start_marks x part c.args.ways.now c.loop-start.ways c.move_to.new.self c.in-Some.start
+    c.place-at.result c.move_to.ensures c.loop-start.invariant.here c.place-at.ensures in
+    let d = copy_dropped c.args.ways.now c.search.new.ways c.end.new.ways c.pending.result
+    c.end.ensures.ways c.pending.ensures
+    (s.pending ∙ (rw c.move_to.ensures c.loop-start.invariant.pending)) in
+    let told = start_found x part c.args.limit c.args.ways.now c.args.spent.now c.loop-start.ways
+    c.loop-start.spent c.loop-start.starts c.loop-start.invariant c.in-Some.start
+    c.next.new.self places.0 c.search.new.ways.here.way c.search.new.spent
+    (sym (ap (answer_from c.loop-start.spent.cost c.loop-start.spent.looked) m) ∙ s.answer) in
     rw c.end.ensures.sought
-    (behind_ended x part c.args.limit c.args.ways.now c.args.spent.now c.end.new.ways c.search.new.spent c.end.new.spent (Some c.end.new.ways.here.way)
-    (rw d.1 told) (s.budget ∙ c.loop-start.invariant.budget) s.within d.0 (c.end.ensures.spent ∙ rw (c.line_before.ensures, c.place-at.ensures) refl))
+    (behind_ended x part c.args.limit c.args.ways.now c.args.spent.now c.end.new.ways
+    c.search.new.spent c.end.new.spent (Some c.end.new.ways.here.way)
+    (rw d.1 told) (s.budget ∙ c.loop-start.invariant.budget) s.within d.0
+    (c.end.ensures.spent ∙ rw (c.line_before.ensures, c.place-at.ensures) refl))
 
 pub search_behind-returns-in-TooCostly : goal.search_behind-returns-in-TooCostly
 search_behind-returns-in-TooCostly g t c =
     let x : AnyContext = context_in (g.T.Lines.lines c.args.lines.now) c.args.context.now in
     let part = shape_of c.args.part.now in
-    let s : c.loop-start.spent.budget < (answer_from c.loop-start.spent.cost c.loop-start.spent.looked (ending_at c.place-at.result (visits x part c.move_to.new.self.here.way))).cost = rw c.in-TooCostly.is at c.in_ok-search.ensures in
+    let s : c.loop-start.spent.budget < (answer_from c.loop-start.spent.cost
+    c.loop-start.spent.looked (ending_at c.place-at.result
+    (visits x part c.move_to.new.self.here.way))).cost = rw c.in-TooCostly.is at
+    c.in_ok-search.ensures in
     let places = rw c.in-Some.is at c.next.ensures.places in
-    let m = start_marks x part c.args.ways.now c.loop-start.ways c.move_to.new.self c.in-Some.start c.place-at.result c.move_to.ensures c.loop-start.invariant.here c.place-at.ensures in
+    let m = start_marks x part c.args.ways.now c.loop-start.ways c.move_to.new.self c.in-Some.start
+    c.place-at.result c.move_to.ensures c.loop-start.invariant.here c.place-at.ensures in
     behind_over x part c.args.limit c.args.ways.now c.args.spent.now
-    (start_over x part c.args.limit c.args.ways.now c.args.spent.now c.loop-start.ways c.loop-start.spent c.loop-start.starts c.loop-start.invariant c.in-Some.start c.next.new.self places.0 (rw m at s))
+    (start_over x part c.args.limit c.args.ways.now c.args.spent.now c.loop-start.ways
+    c.loop-start.spent c.loop-start.starts c.loop-start.invariant c.in-Some.start c.next.new.self
+    places.0 (rw m at s))
 
 pub search_behind-returns : goal.search_behind-returns
 search_behind-returns g t c =
     let x : AnyContext = context_in (g.T.Lines.lines c.args.lines.now) c.args.context.now in
     let part = shape_of c.args.part.now in
-    let e : starts_left (g.T.Lines.lines c.args.lines.now) c.loop-start.starts ≡ [] = rw c.in_default.is at c.next.ensures.places in
-    let d = copy_dropped c.args.ways.now c.loop-start.ways c.end-2.new.ways c.pending.result c.end-2.ensures.ways c.pending.ensures c.loop-start.invariant.pending in
+    let e : starts_left (g.T.Lines.lines c.args.lines.now) c.loop-start.starts ≡ [] =
+    rw c.in_default.is at c.next.ensures.places in
+    let d = copy_dropped c.args.ways.now c.loop-start.ways c.end-2.new.ways c.pending.result
+    c.end-2.ensures.ways c.pending.ensures c.loop-start.invariant.pending in
     rw c.end-2.ensures.sought
-    (behind_ended x part c.args.limit c.args.ways.now c.args.spent.now c.end-2.new.ways c.loop-start.spent c.end-2.new.spent None
-    (starts_over x part c.args.limit c.args.ways.now c.args.spent.now c.loop-start.ways c.loop-start.spent c.loop-start.starts c.loop-start.invariant e)
-    c.loop-start.invariant.budget c.loop-start.invariant.within d.0 (c.end-2.ensures.spent ∙ rw (c.line_before.ensures, c.place-at.ensures) refl))
+    (behind_ended x part c.args.limit c.args.ways.now c.args.spent.now c.end-2.new.ways
+    c.loop-start.spent c.end-2.new.spent None
+    (starts_over x part c.args.limit c.args.ways.now c.args.spent.now c.loop-start.ways
+    c.loop-start.spent c.loop-start.starts c.loop-start.invariant e)
+    c.loop-start.invariant.budget c.loop-start.invariant.within d.0
+    (c.end-2.ensures.spent ∙ rw (c.line_before.ensures, c.place-at.ensures) refl))
 
 pub search_behind-loop-start-preserved : goal.search_behind-loop-start-preserved
 search_behind-loop-start-preserved g t c =
     let x : AnyContext = context_in (g.T.Lines.lines c.args.lines.now) c.args.context.now in
     let part = shape_of c.args.part.now in
-    let s : HasEnded (ending_at c.place-at.result (visits x part c.move_to.new.self.here.way)) c.move_to.new.self c.search.new.ways c.loop-start.spent c.search.new.spent None = rw c.in-Absent.is at c.in_ok-search.ensures in
+    let s : HasEnded (ending_at c.place-at.result (visits x part c.move_to.new.self.here.way))
+    c.move_to.new.self c.search.new.ways c.loop-start.spent c.search.new.spent None =
+    rw c.in-Absent.is at c.in_ok-search.ensures in
     let places = rw c.in-Some.is at c.next.ensures.places in
-    let m = start_marks x part c.args.ways.now c.loop-start.ways c.move_to.new.self c.in-Some.start c.place-at.result c.move_to.ensures c.loop-start.invariant.here c.place-at.ensures in
-    let p : c.search.new.ways.pending ≡ c.args.ways.now.here ∷ c.args.ways.now.pending = s.pending ∙ (rw c.move_to.ensures c.loop-start.invariant.pending) in
-    start_absent x part c.args.limit c.args.ways.now c.args.spent.now c.loop-start.ways c.loop-start.spent c.loop-start.starts c.loop-start.invariant c.in-Some.start c.next.new.self places.0 c.take_up_copy.new.ways c.search.new.spent
-    (sym (ap (answer_from c.loop-start.spent.cost c.loop-start.spent.looked) m) ∙ s.answer) s.budget s.within (c.in_ok-take_up_copy-in-Absent.ensures c.args.ways.now.here c.args.ways.now.pending p ∙ rw p refl) c.next.ensures.on_text
+    let m = start_marks x part c.args.ways.now c.loop-start.ways c.move_to.new.self c.in-Some.start
+    c.place-at.result c.move_to.ensures c.loop-start.invariant.here c.place-at.ensures in
+    let p : c.search.new.ways.pending ≡ c.args.ways.now.here ∷ c.args.ways.now.pending =
+    s.pending ∙ (rw c.move_to.ensures c.loop-start.invariant.pending) in
+    start_absent x part c.args.limit c.args.ways.now c.args.spent.now c.loop-start.ways
+    c.loop-start.spent c.loop-start.starts c.loop-start.invariant c.in-Some.start c.next.new.self
+    places.0 c.take_up_copy.new.ways c.search.new.spent
+    (sym (ap (answer_from c.loop-start.spent.cost c.loop-start.spent.looked) m) ∙ s.answer) s.budget
+    s.within (c.in_ok-take_up_copy-in-Absent.ensures c.args.ways.now.here c.args.ways.now.pending p
+    ∙ rw p refl) c.next.ensures.on_text
 
 pub search-loop-preserved : goal.search-loop-preserved
 search-loop-preserved g t c =
     let x : AnyContext = context_in (g.T.Lines.lines c.args.lines.now) c.args.context.now in
     let n = height (shape_of c.args.part.now) in
-    let answer = answer_from c.args.spent.now.cost c.args.spent.now.looked (wanted_marks c.args.wanted (visits x (shape_of c.args.part.now) c.args.ways.now.here.way)) in
+    let answer = answer_from c.args.spent.now.cost c.args.spent.now.looked
+    (wanted_marks c.args.wanted (visits x (shape_of c.args.part.now) c.args.ways.now.here.way))
+    in
     let budget = c.args.spent.now.budget in
     let floor = c.args.ways.now.pending in
     elim c.match-went.branch [
       | search-in-Does+in_ok-went-in-Does w ↦
-          (let r : Running x n c.args.wanted answer budget floor c.loop.ways c.loop.spent (Does w.in-Does.next) = rw w.in-Does.is at c.loop.invariant in
+          (let r : Running x n c.args.wanted answer budget floor c.loop.ways c.loop.spent
+          (Does w.in-Does.next) = rw w.in-Does.is at c.loop.invariant in
           rw (w.ways-is, w.spent-is, w.went-is)
-          (stepped x n c.args.wanted answer budget floor c.loop.ways c.loop.spent w.follow.new.ways w.follow.new.spent (task_of w.in-Does.next)
-          (at_once_done x n c.args.wanted answer budget floor c.loop.ways c.loop.spent w.in-Does.next r) w.in_ok-went-in-Does.went w.in_ok-went-in-Does.ensures))
+          (stepped x n c.args.wanted answer budget floor c.loop.ways c.loop.spent w.follow.new.ways
+          w.follow.new.spent (task_of w.in-Does.next)
+          (at_once_done x n c.args.wanted answer budget floor c.loop.ways c.loop.spent
+          w.in-Does.next r) w.in_ok-went-in-Does.went w.in_ok-went-in-Does.ensures))
       | search-in-GoesOn+in-Some+in_ok-went-in-Some w ↦
-          (let r : Running x n c.args.wanted answer budget floor c.loop.ways c.loop.spent GoesOn = rw w.in-GoesOn.is at c.loop.invariant in
+          (let r : Running x n c.args.wanted answer budget floor c.loop.ways c.loop.spent
+          GoesOn = rw w.in-GoesOn.is at c.loop.invariant in
           let k = w.in-Some.ensures in
           rw (w.ways-is, w.spent-is, w.went-is)
-          (stepped x n c.args.wanted answer budget floor w.take_first.new.self c.loop.spent w.step.new.ways w.step.new.spent w.in-Some.item
-          (taken x n c.args.wanted answer budget floor c.loop.ways c.loop.spent w.take_first.new.self w.in-Some.item r k.0 k.1 k.2) w.in_ok-went-in-Some.went w.in_ok-went-in-Some.ensures))
+          (stepped x n c.args.wanted answer budget floor w.take_first.new.self c.loop.spent
+          w.step.new.ways w.step.new.spent w.in-Some.item
+          (taken x n c.args.wanted answer budget floor c.loop.ways c.loop.spent
+          w.take_first.new.self w.in-Some.item r k.0 k.1 k.2) w.in_ok-went-in-Some.went
+          w.in_ok-went-in-Some.ensures))
       | search-in-GoesOn+in-None-2 w ↦
-          (let r : Running x n c.args.wanted answer budget floor c.loop.ways c.loop.spent GoesOn = rw w.in-GoesOn.is at c.loop.invariant in
+          (let r : Running x n c.args.wanted answer budget floor c.loop.ways c.loop.spent
+          GoesOn = rw w.in-GoesOn.is at c.loop.invariant in
           let k = w.in-None.ensures in
-          let other : is_wanted c.args.wanted c.loop.ways.here.way.at ≡ false = rw (← k.1, ← w.place.ensures) (sym w.if-is_wanted.ensures) in
+          let other : is_wanted c.args.wanted c.loop.ways.here.way.at ≡ false =
+          rw (← k.1, ← w.place.ensures) (sym w.if-is_wanted.ensures) in
           rw (w.ways-is, w.spent-is, w.went-is, k.1)
           (passed x n c.args.wanted answer budget floor c.loop.ways c.loop.spent r k.0 other))
       | search-in-Ends+else-pending-floor w ↦
-          (let r : Running x n c.args.wanted answer budget floor c.loop.ways c.loop.spent Ends = rw w.in-Ends.is at c.loop.invariant in
-          let far : length c.loop.ways.pending ≢ length floor = λ e. w.if-pending-floor.false (w.pending.ensures ∙ (e ∙ sym c.pending-floor.ensures)) in
+          (let r : Running x n c.args.wanted answer budget floor c.loop.ways c.loop.spent Ends = rw
+          w.in-Ends.is at c.loop.invariant in
+          let far : length c.loop.ways.pending ≢ length floor =
+          λ e. w.if-pending-floor.false (w.pending.ensures ∙ (e ∙ sym c.pending-floor.ensures))
+          in
           rw (w.ways-is, w.spent-is, w.went-is)
-          (next_one x n c.args.wanted answer budget floor c.loop.ways c.loop.spent w.take_up.new.self r far
-          (one_pending x n c.args.wanted answer budget floor c.loop.ways c.loop.spent w.take_up.new.self w.take_up.result r far w.take_up.ensures.none w.take_up.ensures.next)))
+          (next_one x n c.args.wanted answer budget floor c.loop.ways c.loop.spent
+          w.take_up.new.self r far
+          (one_pending x n c.args.wanted answer budget floor c.loop.ways c.loop.spent
+          w.take_up.new.self w.take_up.result r far w.take_up.ensures.none w.take_up.ensures.next)))
     ]

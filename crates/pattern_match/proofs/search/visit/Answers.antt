@@ -13,14 +13,16 @@ use Rattle.pattern_match.proofs.search.visit.Goals as goal
 pub returns-in-Empty : goal.returns-in-Empty
 returns-in-Empty g c =
     let x : AnyContext = context_in (g.T.Lines.lines c.args.lines.now) c.args.context.now in
-    follow_empty x (shape_of c.args.node.now) c.args.ways.now c.args.ways.now c.args.spent.now c.requires.numbers c.requires.within (rw c.in-Empty.is refl) refl
+    follow_empty x (shape_of c.args.node.now) c.args.ways.now c.args.ways.now c.args.spent.now
+    c.requires.numbers c.requires.within (rw c.in-Empty.is refl) refl
 
 pub returns-in-One : goal.returns-in-One
 returns-in-One g c =
     let x : AnyContext = context_in (g.T.Lines.lines c.args.lines.now) c.args.context.now in
     rw c.in-One.is
     (IfOk-weaker c.tick.result _ _
-    (λ went h. atom_step x (atom_of c.in-One.test) c.args.ways.now c.tick.new.ways c.args.spent.now c.tick.new.spent 0 went h)
+    (λ went h. atom_step x (atom_of c.in-One.test) c.args.ways.now c.tick.new.ways c.args.spent.now
+    c.tick.new.spent 0 went h)
     c.tick.ensures)
 
 pub returns-in-Seq : goal.returns-in-Seq
@@ -34,49 +36,72 @@ returns-in-Or g c =
 pub returns-in_ok-open_group-in-Group : goal.returns-in_ok-open_group-in-Group
 returns-in_ok-open_group-in-Group g c =
     let x : AnyContext = context_in (g.T.Lines.lines c.args.lines.now) c.args.context.now in
-    follow_group x (shape_of c.args.node.now) c.args.ways.now c.open_group.new.ways c.args.spent.now c.requires.numbers c.requires.within c.deref-in-Group.result c.in-Group.number c.args.ways.now.here.way.at
+    follow_group x (shape_of c.args.node.now) c.args.ways.now c.open_group.new.ways c.args.spent.now
+    c.requires.numbers c.requires.within c.deref-in-Group.result c.in-Group.number
+    c.args.ways.now.here.way.at
     (rw (c.in-Group.is, c.deref-in-Group.ensures) refl) refl c.in_ok-open_group-in-Group.ensures
 
 pub returns-in_ok-open_external-in-External : goal.returns-in_ok-open_external-in-External
 returns-in_ok-open_external-in-External g c =
     let x : AnyContext = context_in (g.T.Lines.lines c.args.lines.now) c.args.context.now in
-    follow_external x (shape_of c.args.node.now) c.args.ways.now c.open_external.new.ways c.args.spent.now c.requires.numbers c.requires.within c.deref-in-External.result c.in-External.number c.args.ways.now.here.way.at
-    (rw (c.in-External.is, c.deref-in-External.ensures) refl) refl c.in_ok-open_external-in-External.ensures
+    follow_external x (shape_of c.args.node.now) c.args.ways.now c.open_external.new.ways
+    c.args.spent.now c.requires.numbers c.requires.within c.deref-in-External.result
+    c.in-External.number c.args.ways.now.here.way.at
+    (rw (c.in-External.is, c.deref-in-External.ensures) refl) refl
+    c.in_ok-open_external-in-External.ensures
 
 pub returns-in-Repeat : goal.returns-in-Repeat
 returns-in-Repeat g c =
     let x : AnyContext = context_in (g.T.Lines.lines c.args.lines.now) c.args.context.now in
     rw c.new.ensures
-    (follow_repeat x (shape_of c.args.node.now) c.args.ways.now c.args.ways.now c.args.spent.now c.requires.numbers c.requires.within
-    (record { part = c.deref-in-Repeat.result; least = c.in-Repeat.least; most = c.in-Repeat.most; lazy = c.in-Repeat.lazy }) (rw (c.in-Repeat.is, c.deref-in-Repeat.ensures) refl) refl)
+    (follow_repeat x (shape_of c.args.node.now) c.args.ways.now c.args.ways.now c.args.spent.now
+    c.requires.numbers c.requires.within
+    (record {
+      part = c.deref-in-Repeat.result;
+      least = c.in-Repeat.least;
+      most = c.in-Repeat.most;
+      lazy = c.in-Repeat.lazy;
+    }) (rw (c.in-Repeat.is, c.deref-in-Repeat.ensures) refl) refl)
 
 pub returns-in_ok-put_first-in-And : goal.returns-in_ok-put_first-in-And
 returns-in_ok-put_first-in-And g c =
     let x : AnyContext = context_in (g.T.Lines.lines c.args.lines.now) c.args.context.now in
     rw c.ahead.ensures
-    (follow_and x (shape_of c.args.node.now) c.args.ways.now c.put_first.new.self c.args.spent.now c.requires.numbers c.requires.within c.deref-in-And-2.result c.deref-in-And.result
-    (rw (c.in-And.is, c.deref-in-And-2.ensures, c.deref-in-And.ensures) refl) c.in_ok-put_first-in-And.ensures)
+    (follow_and x (shape_of c.args.node.now) c.args.ways.now c.put_first.new.self c.args.spent.now
+    c.requires.numbers c.requires.within c.deref-in-And-2.result c.deref-in-And.result
+    (rw (c.in-And.is, c.deref-in-And-2.ensures, c.deref-in-And.ensures) refl)
+    c.in_ok-put_first-in-And.ensures)
 
 pub returns-in-Ahead : goal.returns-in-Ahead
 returns-in-Ahead g c =
     let x : AnyContext = context_in (g.T.Lines.lines c.args.lines.now) c.args.context.now in
     rw c.ahead-in-Ahead.ensures
-    (follow_looks x (shape_of c.args.node.now) c.args.ways.now c.args.ways.now c.args.spent.now c.requires.numbers c.requires.within
-    (record { part = c.deref-in-Ahead.result; behind = None; ending = ending.Look c.in-Ahead.not }) (ahead (shape_of c.deref-in-Ahead.result.now) c.in-Ahead.not)
+    (follow_looks x (shape_of c.args.node.now) c.args.ways.now c.args.ways.now c.args.spent.now
+    c.requires.numbers c.requires.within
+    (record { part = c.deref-in-Ahead.result; behind = None; ending = ending.Look c.in-Ahead.not })
+    (ahead (shape_of c.deref-in-Ahead.result.now) c.in-Ahead.not)
     (rw (c.in-Ahead.is, c.deref-in-Ahead.ensures) refl) (λ w. refl) (λ h. h) refl refl)
 
 pub returns-in-Before : goal.returns-in-Before
 returns-in-Before g c =
     let x : AnyContext = context_in (g.T.Lines.lines c.args.lines.now) c.args.context.now in
     rw c.behind.ensures
-    (follow_looks x (shape_of c.args.node.now) c.args.ways.now c.args.ways.now c.args.spent.now c.requires.numbers c.requires.within
-    (record { part = c.deref-in-Before.result; behind = Some c.in-Before.limit; ending = ending.Look c.in-Before.not }) (before (shape_of c.deref-in-Before.result.now) c.in-Before.not c.in-Before.limit)
+    (follow_looks x (shape_of c.args.node.now) c.args.ways.now c.args.ways.now c.args.spent.now
+    c.requires.numbers c.requires.within
+    (record {
+      part = c.deref-in-Before.result;
+      behind = Some c.in-Before.limit;
+      ending = ending.Look c.in-Before.not;
+    })
+    (before (shape_of c.deref-in-Before.result.now) c.in-Before.not c.in-Before.limit)
     (rw (c.in-Before.is, c.deref-in-Before.ensures) refl) (λ w. refl) (λ h. h) refl refl)
 
 pub returns-in-Whole : goal.returns-in-Whole
 returns-in-Whole g c =
     let x : AnyContext = context_in (g.T.Lines.lines c.args.lines.now) c.args.context.now in
     rw c.whole.ensures
-    (follow_looks x (shape_of c.args.node.now) c.args.ways.now c.args.ways.now c.args.spent.now c.requires.numbers c.requires.within
-    (record { part = c.deref-in-Whole.result; behind = None; ending = ending.Whole }) (whole (shape_of c.deref-in-Whole.result.now))
+    (follow_looks x (shape_of c.args.node.now) c.args.ways.now c.args.ways.now c.args.spent.now
+    c.requires.numbers c.requires.within
+    (record { part = c.deref-in-Whole.result; behind = None; ending = ending.Whole })
+    (whole (shape_of c.deref-in-Whole.result.now))
     (rw (c.in-Whole.is, c.deref-in-Whole.ensures) refl) (λ w. refl) (λ h. h) refl refl)
