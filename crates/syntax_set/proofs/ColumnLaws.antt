@@ -143,7 +143,7 @@ module _ (lists : List ClusterList) where
     }
 
     pub column-next : (levels : ℕ) (words more : List ℕ) → IsColumn lists levels first words → length more ≡ length lists
-        → ((cluster : ℕ) → cluster < length lists → word_at more cluster ≡ next_word first words cluster (list_at lists cluster))
+        → ((cluster : ℕ) → cluster < length lists → word_at more cluster ≡ next_word first words cluster (next lists cluster))
         → IsColumn lists (suc levels) first more
     unfolding leads_to
     column-next levels words more known as_many each = record {

@@ -1,5 +1,5 @@
--- Where the names of clusters lead, and how it is kept. The clusters are taken 128 at a time, a column of
--- them: each cluster has a word in it, with a bit for each of the 128, set where the cluster leads to it.
+-- Where the names of clusters lead, and how it is kept. The clusters are taken 128 at a time, a column
+-- of them: each cluster has a word in it, with a bit for each of the 128, set where it leads to that.
 use Rattle.std.specs.Prelude.{◌≡◌, ℕ, zero, suc, ◌+◌, ◌-◌, ◌*◌, ◌^◌, ◌<◌, ◌≤◌, Bool, true, false, ◌||◌, List, [], length, nat_eq, nat_lt, fold, slice_index_or, Option, IfSome, if◌then◌else◌}
 use Rattle.std.specs.Int.{bit_at}
 use Rattle.std.specs.Int.RustNames.{bit_or}
@@ -29,7 +29,8 @@ word_at words cluster = slice_index_or words cluster 0
 -- the bit of a cluster in the column that begins at a number, if it stands there
 abbrev pub own_word : ℕ → ℕ → ℕ
 own_word first cluster =
-    if nat_lt cluster first then 0 else if nat_lt (cluster - first) 128 then 2 ^ (cluster - first) else 0
+    if nat_lt cluster first then 0
+    else if nat_lt (cluster - first) 128 then 2 ^ (cluster - first) else 0
 
 -- the bits of the words of several clusters
 abbrev pub with_word : List ℕ → ℕ → ℕ → ℕ
@@ -39,14 +40,20 @@ abbrev pub named_words : List ℕ → List ℕ → ℕ
 named_words words clusters = fold (with_word words) 0 clusters
 
 -- on one level more a cluster leads to itself and to what those that it names led to
-abbrev pub next_word : ℕ → List ℕ → ℕ → ClusterList → ℕ
-next_word first words cluster list = bit_or (own_word first cluster) (named_words words list.clusters)
+abbrev pub next_word : ℕ → List ℕ → ℕ → List ℕ → ℕ
+next_word first words cluster named = bit_or (own_word first cluster) (named_words words named)
+
+-- the clusters that each one names
+pub record AreNamed (lists : List ClusterList) (named : List (List ℕ)) : Type 0 where
+  pub as_many : length named ≡ length lists
+  pub each : (cluster : ℕ) → cluster < length lists
+      → slice_index_or named cluster [] ≡ (list_at lists cluster).clusters
 
 -- the words are those of the column that begins at a number, for so many levels
 pub record IsColumn (lists : List ClusterList) (levels first : ℕ) (words : List ℕ) : Type 0 where
   pub as_many : length words ≡ length lists
-  pub right : (cluster place : ℕ) → cluster < length lists → place < 128 → first + place < length lists
-      → has_bit (word_at words cluster) place ≡ leads_to lists levels (first + place) cluster
+  pub right : (cluster place : ℕ) → cluster < length lists → place < 128
+      → first + place < length lists → has_bit (word_at words cluster) place ≡ leads_to lists levels (first + place) cluster
 
 -- these are all columns
 pub record AreColumns (lists : List ClusterList) (columns : List (List ℕ)) : Type 0 where
@@ -64,7 +71,8 @@ pub record NamesAt (lists : List ClusterList) (group first word : ℕ) : Type 0 
 -- no such cluster stands before a place
 abbrev pub NamesNone : List ClusterList → ℕ → ℕ → ℕ → ℕ → Type 0
 NamesNone lists group first word before =
-    (place : ℕ) → place < before → has_bit word place ≡ true → names_group lists group (first + place) ≡ false
+    (place : ℕ) → place < before → has_bit word place ≡ true
+    → names_group lists group (first + place) ≡ false
 
 -- what is kept of clusters beside what contracts see: where they lead, once they are settled
 pub record HoldsReached (names : List (List ℕ)) (lists : List ClusterList) (reached : Option (List (List ℕ))) : Type 0 where

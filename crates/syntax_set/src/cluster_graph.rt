@@ -3,40 +3,16 @@
 //! Which clusters lead to which is found level by level: on each level a cluster leads to itself and
 //! to all to which the clusters that it names led on the level before. The clusters that are led to
 //! are taken 128 at a time, so all of them cost a bit for each pair of clusters.
-ghost use Rattle.std.specs.Prelude.{
-  ◌≡◌,
-  ◌≤◌,
-  ◌<◌,
-  ◌+◌,
-  ◌^◌,
-  ℕ,
-  length,
-  true,
-  false,
-  None,
-  IfOk,
-  IfSome,
-};
+ghost use Rattle.std.specs.Prelude.{◌≡◌, ◌≤◌, ◌<◌, ◌+◌, ◌^◌, ℕ, [], length};
+ghost use Rattle.std.specs.Prelude.{slice_index_or, true, false, None, IfOk, IfSome};
 ghost use Rattle.std.specs.Bool.{OnTrue, OnFalse};
-ghost use Rattle.syntax_set.specs.ClusterLists.{list_at};
 ghost use Rattle.syntax_set.specs.Membership.{cluster_has};
-ghost use Rattle.syntax_set.specs.Reached.{
-  AreColumns,
-  has_bit,
-  IsColumn,
-  named_words,
-  names_group,
-  NamesAt,
-  NamesNone,
-  next_word,
-  own_word,
-  word_at,
-};
+ghost use Rattle.syntax_set.specs.Reached as spec;
 
 use crate::cluster_list::ClusterList;
 use std::alloc::Global;
 use std::marker::Model;
-use syn_base::Memory;
+use syn_base::{List, Memory};
 
 /// How many levels of clusters count.
 pub(crate) const MOST_LEVELS: usize = 30;
@@ -60,7 +36,7 @@ impl Model for Column {
 
 impl Column {
     fn word(&self, cluster: usize) -> u128
-        ensures { result ≡ word_at self.now cluster }
+        ensures { result ≡ spec.word_at self.now cluster }
     {
         word_at(&self.words, cluster)
     }
@@ -68,7 +44,7 @@ impl Column {
 
 /// The word of a cluster, without any bit where there is none.
 fn word_at(words: &[u128], cluster: usize) -> u128
-    ensures { result ≡ word_at words.now cluster }
+    ensures { result ≡ spec.word_at words.now cluster }
 {
     match words.get(cluster) {
         Some(word) => *word,
@@ -78,7 +54,7 @@ fn word_at(words: &[u128], cluster: usize) -> u128
 
 /// The bit of a cluster in the column that begins at `first`, if it stands there.
 fn own_word(first: usize, cluster: usize) -> u128
-    ensures { result ≡ own_word first cluster }
+    ensures { result ≡ spec.own_word first cluster }
 {
     if cluster < first {
         return 0;
@@ -92,7 +68,7 @@ fn own_word(first: usize, cluster: usize) -> u128
 
 /// The bits of the words of several clusters.
 fn named_words(words: &[u128], clusters: &[u32]) -> u128
-    ensures { result ≡ named_words words.now clusters.now }
+    ensures { result ≡ spec.named_words words.now clusters.now }
 {
     let mut word = 0;
     for cluster in clusters {
@@ -101,32 +77,50 @@ fn named_words(words: &[u128], clusters: &[u32]) -> u128
     word
 }
 
+/// The clusters that each one names, side by side.
+fn all_named(alloc: Global, lists: &[ClusterList]) -> Result<Vec<List<u32>>, Memory>
+    ensures { IfOk result (λ named. spec.AreNamed lists.now named.items) }
+{
+    let mut named = Vec::with_capacity(alloc, lists.len())?;
+    for cluster in 0..lists.len() {
+        named.push(List::from_slice(alloc, lists[cluster].clusters())?)?;
+    }
+    Ok(named)
+}
+
 /// The words of a column on one level more.
 fn next_words(
     alloc: Global,
-    lists: &[ClusterList],
+    named: &[List<u32>],
     first: usize,
     words: &[u128],
 ) -> Result<Vec<u128>, Memory>
-    ensures as_many { IfOk result (λ next. length next.items ≡ length lists.now) }
-    ensures each { IfOk result (λ next. (cluster : ℕ) → cluster < length lists.now
-        → word_at next.items cluster ≡ next_word first words.now cluster (list_at lists.now cluster)) }
+    ensures as_many { IfOk result (λ next. length next.items ≡ length named.now) }
+    ensures each { IfOk result (λ next. (cluster : ℕ) → cluster < length named.now
+        → spec.word_at next.items cluster
+        ≡ spec.next_word first words.now cluster (slice_index_or named.now cluster [])) }
 {
-    let mut next = Vec::with_capacity(alloc, lists.len())?;
-    for cluster in 0..lists.len() {
-        let clusters = lists[cluster].clusters();
+    let mut next = Vec::with_capacity(alloc, named.len())?;
+    for cluster in 0..named.len() {
+        let clusters = named[cluster].as_slice();
         next.push(own_word(first, cluster) | named_words(words, clusters))?;
     }
     Ok(next)
 }
 
 /// The column that begins at `first`.
-fn column_from(alloc: Global, lists: &[ClusterList], first: usize) -> Result<Column, Memory>
-    ensures { IfOk result (IsColumn lists.now 30 first) }
+fn column_from(
+    alloc: Global,
+    lists: &[ClusterList],
+    named: &[List<u32>],
+    first: usize,
+) -> Result<Column, Memory>
+    requires { spec.AreNamed lists.now named.now }
+    ensures { IfOk result (spec.IsColumn lists.now 30 first) }
 {
     let mut words = vec![in alloc; 0; lists.len()]?;
     for _level in 0..MOST_LEVELS {
-        let next = next_words(alloc, lists, first, &words)?;
+        let next = next_words(alloc, named, first, &words)?;
         // where one level adds nothing, those behind it add nothing either
         if next.as_slice() == words.as_slice() {
             return Ok(Column { words });
@@ -138,11 +132,12 @@ fn column_from(alloc: Global, lists: &[ClusterList], first: usize) -> Result<Col
 
 /// All columns.
 pub(crate) fn all_columns(alloc: Global, lists: &[ClusterList]) -> Result<Vec<Column>, Memory>
-    ensures { IfOk result (λ columns. AreColumns lists.now columns.items) }
+    ensures { IfOk result (λ columns. spec.AreColumns lists.now columns.items) }
 {
+    let named = all_named(alloc, lists)?;
     let mut columns = Vec::new(alloc);
     for k in 0..lists.len() / COLUMN + 1 {
-        columns.push(column_from(alloc, lists, COLUMN * k)?)?;
+        columns.push(column_from(alloc, lists, &named, COLUMN * k)?)?;
     }
     Ok(columns)
 }
@@ -150,9 +145,11 @@ pub(crate) fn all_columns(alloc: Global, lists: &[ClusterList]) -> Result<Vec<Co
 /// The first place from this one on at which a bit is set.
 fn next_place(word: u128, from: u32) -> Option<u32>
     requires { from ≤ 128 }
-    ensures found { IfSome result (λ place. (from ≤ place) × (place < 128) × (has_bit word place ≡ true)) }
-    ensures first { IfSome result (λ place. (i : ℕ) → from ≤ i → i < place → has_bit word i ≡ false) }
-    ensures none { (result ≡ None) → (i : ℕ) → from ≤ i → i < 128 → has_bit word i ≡ false }
+    ensures found { IfSome result (λ place.
+        (from ≤ place) × (place < 128) × (spec.has_bit word place ≡ true)) }
+    ensures first { IfSome result (λ place.
+        (i : ℕ) → from ≤ i → i < place → spec.has_bit word i ≡ false) }
+    ensures none { (result ≡ None) → (i : ℕ) → from ≤ i → i < 128 → spec.has_bit word i ≡ false }
 {
     if from == 128 {
         return None;
@@ -166,7 +163,7 @@ fn next_place(word: u128, from: u32) -> Option<u32>
 
 /// Whether a cluster itself names the group.
 fn names_group(lists: &[ClusterList], cluster: usize, group: u32) -> bool
-    ensures { result ≡ names_group lists.now group cluster }
+    ensures { result ≡ spec.names_group lists.now group cluster }
 {
     match lists.get(cluster) {
         Some(list) => list.groups().contains(group),
@@ -174,11 +171,11 @@ fn names_group(lists: &[ClusterList], cluster: usize, group: u32) -> bool
     }
 }
 
-/// Whether one of the clusters of the column that begins at `first` whose bit is set names the group.
+/// Whether one of the clusters from `first` on whose bits are set names the group.
 fn any_names(lists: &[ClusterList], first: usize, word: u128, group: u32) -> bool
     requires { first + 128 < 2 ^ 64 }
-    ensures some { OnTrue result (NamesAt lists.now group first word) }
-    ensures none { OnFalse result (NamesNone lists.now group first word 128) }
+    ensures some { OnTrue result (spec.NamesAt lists.now group first word) }
+    ensures none { OnFalse result (spec.NamesNone lists.now group first word 128) }
 {
     let mut from = 0;
     while let Some(place) = next_place(word, from) {
@@ -197,7 +194,7 @@ pub(crate) fn leads_to_group(
     cluster: u32,
     group: u32,
 ) -> bool
-    requires { AreColumns lists.now columns.now }
+    requires { spec.AreColumns lists.now columns.now }
     ensures { result ≡ cluster_has lists.now 30 group cluster }
 {
     let cluster = cluster as usize;
