@@ -219,3 +219,15 @@ commands_before = refl
 
 first_fault : Refused (codes "syn case ignore" ∷ codes "foo" ∷ codes "syn case x" ∷ []) 2 cause.UnknownCommand
 first_fault = refl
+
+bar_behind_let : Refused (codes "let |" ∷ []) 1 cause.MissingArgument
+bar_behind_let = refl
+
+bar_behind_unlet : Refused (codes "unlet | let x = 1" ∷ []) 1 cause.MissingArgument
+bar_behind_unlet = refl
+
+quote_behind_let : Refused (codes "let \"x" ∷ []) 1 cause.MissingArgument
+quote_behind_let = refl
+
+bar_directly_behind_let : Refused (codes "let|" ∷ []) 1 cause.MissingArgument
+bar_directly_behind_let = refl

@@ -4,7 +4,8 @@ use Rattle.syn_words.specs.declared.cause.Cause.{Cause}
 use Rattle.syn_words.specs.declared.cause.Cause.TheVariants.{MissingArgument, ExtraText}
 use Rattle.word_reader.specs.declared.words.Until.TheVariants.{Word}
 use Rattle.syn_words.specs.Answers.{Read, ◌>>=◌}
-use Rattle.word_reader.specs.Words.{is_blank, is_over, past, past_blanks, run}
+use Rattle.text_scan.specs.Characters.{is_blank, past_blanks}
+use Rattle.word_reader.specs.Words.{is_over, past, run}
 
 -- what is left behind a command that takes no more words
 abbrev pub no_more_at : List ℕ → Result (List ℕ) Cause

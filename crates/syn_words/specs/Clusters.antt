@@ -8,7 +8,8 @@ use Rattle.syntax_set.specs.declared.clusters.Change.{Change}
 use Rattle.syntax_set.specs.declared.clusters.Change.TheVariants as change
 use Rattle.syn_words.specs.Answers.{Read, ◌>>=◌}
 use Rattle.syn_words.specs.Lists.{list_value}
-use Rattle.word_reader.specs.Words.{behind_equals, has_equals, is_over, is_word_in_any_case, past, past_blanks, run}
+use Rattle.text_scan.specs.Characters.{past_blanks}
+use Rattle.word_reader.specs.Words.{behind_equals, has_equals, is_over, is_word_in_any_case, past, run}
 
 abbrev pub change_of : List ℕ → Option Change
 change_of key =
@@ -17,18 +18,18 @@ change_of key =
     else if is_word_in_any_case key (codes "remove") then Some change.Remove
     else None
 
-abbrev pub changed : Change → List ℕ → Read (Change × NamedList)
-changed how text = do
+abbrev pub change_with : Change → List ℕ → Read (Change × NamedList)
+change_with how text = do
   list ← list_value false text
   Ok ((how, list.0), list.1)
 
-abbrev pub changed_by : Option Change → List ℕ → Read (Change × NamedList)
-changed_by None rest = Err UnknownOption
-changed_by (Some how) rest = if has_equals rest then changed how (behind_equals rest) else Err UnknownOption
+abbrev pub change_by : Option Change → List ℕ → Read (Change × NamedList)
+change_by None rest = Err UnknownOption
+change_by (Some how) rest = if has_equals rest then change_with how (behind_equals rest) else Err UnknownOption
 
 -- one key with its list
 abbrev pub change_piece : List ℕ → Read (Change × NamedList)
-change_piece text = changed_by (change_of (run until.Key text)) (past until.Key text)
+change_piece text = change_by (change_of (run until.Key text)) (past until.Key text)
 
 -- there is at least one list
 abbrev pub changes_whole : List (Change × NamedList) → Result (List (Change × NamedList)) Cause

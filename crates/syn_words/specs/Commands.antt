@@ -22,30 +22,31 @@ use Rattle.syn_words.specs.Pieces.{pieces}
 use Rattle.syn_words.specs.Highlight.{highlight_command}
 use Rattle.syn_words.specs.FileNames.{file_argument}
 use Rattle.syn_words.specs.Clusters.{changes}
-use Rattle.word_reader.specs.Words.{begins, behind_first, is_over, is_word, past, past_blanks, past_command, run}
+use Rattle.text_scan.specs.Characters.{past_blanks}
+use Rattle.word_reader.specs.Words.{begins, behind_first, is_over, is_word, past, past_command, run}
 use Rattle.syn_words.specs.Arguments.{argument, no_more, word_start}
 use Rattle.word_values.specs.CommandNames.{command_name, begins_cpo, begins_variable, is_guard}
 
 -- Commands without effect.
 
--- the target of `let`, at its first character; the rest of the line isn't read
+-- a variable, of which the rest of the line isn't read
+abbrev pub variable_at : List ℕ → Read What
+variable_at [] = Err cause.UnknownCommand
+variable_at (c ∷ cs) = if begins_variable c then Ok (what.Nothing, []) else Err cause.UnknownCommand
+
+-- Vim's option 'cpoptions' behind an ampersand
+abbrev pub cpoptions_at : List ℕ → Read What
+cpoptions_at text = if begins_cpo (behind_first text) then Ok (what.Nothing, []) else Err cause.UnknownCommand
+
+-- the target of `let`
 abbrev pub let_at : List ℕ → Read What
-let_at [] = Err cause.MissingArgument
-let_at (c ∷ cs) =
-    if nat_eq c 34 then Err cause.MissingArgument
-    else if nat_eq c 38 then (if begins_cpo cs then Ok (what.Nothing, []) else Err cause.UnknownCommand)
-    else if begins_variable c then Ok (what.Nothing, [])
-    else Err cause.UnknownCommand
+let_at text = if begins 38 text then cpoptions_at text else variable_at text
 
 abbrev pub let_command : List ℕ → Read What
-let_command text = let_at (past_blanks text)
-
-abbrev pub unlet_at : List ℕ → Read What
-unlet_at [] = Err cause.MissingArgument
-unlet_at (c ∷ cs) = if nat_eq c 34 then Err cause.MissingArgument else if begins_variable c then Ok (what.Nothing, []) else Err cause.UnknownCommand
+let_command text = word_start text >>= λ start. let_at start
 
 abbrev pub unlet_command : List ℕ → Read What
-unlet_command text = unlet_at (past_blanks text)
+unlet_command text = word_start text >>= λ start. variable_at start
 
 -- a command of whose words nothing is asked
 abbrev pub behind_quiet : List ℕ → List ℕ

@@ -17,7 +17,8 @@ use Rattle.syn_words.specs.declared.file.Guard.TheVariants.{Outside, AwaitsFinis
 use Rattle.syn_words.specs.declared.file.Progress.{Progress}
 use Rattle.syn_words.specs.Answers.{Read}
 use Rattle.syn_words.specs.Commands.{command, awaited}
-use Rattle.word_reader.specs.Words.{begins, behind_first, past_blanks}
+use Rattle.text_scan.specs.Characters.{past_blanks}
+use Rattle.word_reader.specs.Words.{begins, behind_first}
 
 abbrev pub fault_at : ℕ → Cause → WordFault
 fault_at line cause = record { line = line; cause = cause }

@@ -13,3 +13,5 @@ pub mod Alone
 pub mod Highlight
 pub mod Commands
 pub mod FileCommands
+pub mod Spelled
+pub mod Laws

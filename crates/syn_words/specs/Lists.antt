@@ -7,7 +7,8 @@ use Rattle.syntax_set.specs.declared.item.Special.{Special}
 use Rattle.syntax_set.specs.declared.item.Special.TheVariants as special
 use Rattle.syn_words.specs.Answers.{Read, ◌>>=◌}
 use Rattle.syn_words.specs.Names.{group_in_list, cluster_in_list}
-use Rattle.word_reader.specs.Words.{begins, behind_first, past, past_blanks, run}
+use Rattle.text_scan.specs.Characters.{past_blanks}
+use Rattle.word_reader.specs.Words.{begins, behind_first, past, run}
 use Rattle.syn_words.specs.Arguments.{value_start}
 use Rattle.word_values.specs.GroupNames.{special_of}
 

@@ -21,7 +21,8 @@ use Rattle.syn_words.specs.Lists.{list_value}
 use Rattle.word_reader.specs.Delimited.{can_delimit}
 use Rattle.syn_words.specs.Quoted.{quoted}
 use Rattle.syn_words.specs.Options.{option_of}
-use Rattle.word_reader.specs.Words.{begins, behind_equals, has_equals, past, past_blanks, run}
+use Rattle.text_scan.specs.Characters.{past_blanks}
+use Rattle.word_reader.specs.Words.{begins, behind_equals, has_equals, past, run}
 use Rattle.syn_words.specs.Arguments.{value_start}
 use Rattle.word_values.specs.GroupNames.{is_none}
 

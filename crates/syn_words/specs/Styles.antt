@@ -1,4 +1,4 @@
--- Style commands (Vim's help, :highlight-args).
+-- Style commands (Vim's help, highlight-args).
 use Rattle.std.specs.Prelude.{ℕ, List, [], ◌∷◌, ◌++◌, Option, Some, None, Bool, true, false, if◌then◌else◌, Result, Ok, Err, codes}
 use Rattle.std.specs.Option.{option_to_list}
 use Rattle.syn_words.specs.declared.cause.Cause.{Cause}
@@ -9,7 +9,8 @@ use Rattle.word_values.specs.declared.style_words.StyleKey.{StyleKey}
 use Rattle.word_values.specs.declared.style_words.StyleKey.TheVariants.{FrontColour, BackColour, Shapes, NoEffect}
 use Rattle.word_reader.specs.declared.words.Until.TheVariants as until
 use Rattle.syn_words.specs.Answers.{Read, ◌>>=◌}
-use Rattle.word_reader.specs.Words.{begins, behind_equals, behind_first, has_equals, is_over, is_word, past, past_blanks, run}
+use Rattle.text_scan.specs.Characters.{past_blanks}
+use Rattle.word_reader.specs.Words.{begins, behind_equals, behind_first, has_equals, is_over, is_word, past, run}
 use Rattle.syn_words.specs.Arguments.{value_start}
 use Rattle.word_values.specs.Parts.{has_part}
 use Rattle.word_values.specs.StyleWords.{style_key, rgb}

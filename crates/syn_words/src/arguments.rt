@@ -1,31 +1,31 @@
 //! Words that a command needs, and where it may take none.
 ghost use Rattle.std.specs.Prelude.{◌≡◌};
-ghost use Rattle.syn_words.specs.Answers.{Leaves, Reads};
+ghost use Rattle.syn_words.specs.Answers.{LeavesAs, TakesAs};
 ghost use Rattle.syn_words.specs.Arguments as spec;
 
 use crate::Cause;
-use crate::refusal::Refusal;
+use crate::refusal::WordRefusal;
 use std::alloc::Global;
 use syn_base::List;
 use word_reader::{Reader, Until};
 
 /// Goes to where the next word begins.
-pub(crate) fn word_start(reader: &mut Reader<'_>) -> Result<(), Refusal>
-    ensures { Leaves result reader.new (spec.word_start reader.old) }
+pub(crate) fn word_start(reader: &mut Reader<'_>) -> Result<(), WordRefusal>
+    ensures { LeavesAs result reader.new (spec.word_start reader.old) }
 {
     reader.skip_blanks();
     if reader.is_over() {
-        return Err(Refusal::Fault(Cause::MissingArgument));
+        return Err(WordRefusal::Fault(Cause::MissingArgument));
     }
     Ok(())
 }
 
 /// Goes to where the value behind an equals sign begins.
-pub(crate) fn value_start(reader: &mut Reader<'_>) -> Result<(), Refusal>
-    ensures { Leaves result reader.new (spec.value_start reader.old) }
+pub(crate) fn value_start(reader: &mut Reader<'_>) -> Result<(), WordRefusal>
+    ensures { LeavesAs result reader.new (spec.value_start reader.old) }
 {
     if reader.rest().is_empty() || reader.begins('|') {
-        return Err(Refusal::Fault(Cause::MissingArgument));
+        return Err(WordRefusal::Fault(Cause::MissingArgument));
     }
     if reader.begins(' ') || reader.begins('\t') {
         return word_start(reader);
@@ -34,20 +34,20 @@ pub(crate) fn value_start(reader: &mut Reader<'_>) -> Result<(), Refusal>
 }
 
 /// Takes the next word.
-pub(crate) fn argument(alloc: Global, reader: &mut Reader<'_>) -> Result<List<char>, Refusal>
-    ensures { Reads result reader.new (spec.argument reader.old) }
+pub(crate) fn argument(alloc: Global, reader: &mut Reader<'_>) -> Result<List<char>, WordRefusal>
+    ensures { TakesAs result reader.new (spec.argument reader.old) }
 {
     word_start(reader)?;
     Ok(reader.run(alloc, Until::Word)?)
 }
 
 /// Goes to the end of a command that takes no more words.
-pub(crate) fn no_more(reader: &mut Reader<'_>) -> Result<(), Refusal>
-    ensures { Leaves result reader.new (spec.no_more reader.old) }
+pub(crate) fn no_more(reader: &mut Reader<'_>) -> Result<(), WordRefusal>
+    ensures { LeavesAs result reader.new (spec.no_more reader.old) }
 {
     reader.skip_blanks();
     if reader.is_over() {
         return Ok(());
     }
-    Err(Refusal::Fault(Cause::ExtraText))
+    Err(WordRefusal::Fault(Cause::ExtraText))
 }

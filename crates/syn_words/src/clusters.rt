@@ -1,15 +1,16 @@
 //! The parts of a cluster command.
 ghost use Rattle.std.specs.Prelude.{◌≡◌, ◌∷◌, ◌++◌, []};
-ghost use Rattle.syn_words.specs.Answers.{Gives, Reads};
+ghost use Rattle.syn_words.specs.Answers.{AnswersAs, TakesAs};
 ghost use Rattle.syn_words.specs.Clusters as spec;
 
 use crate::lists::list_value;
-use crate::refusal::Refusal;
+use crate::refusal::WordRefusal;
 use crate::{Cause, NamedList};
 use std::alloc::Global;
 use syn_base::List;
 use syntax_set::Change;
-use word_reader::{Reader, Until, front, is_word_in_any_case};
+use text_scan::front;
+use word_reader::{Reader, Until, is_word_in_any_case};
 
 fn change_of(key: &[char]) -> Option<Change>
     ensures { result ≡ spec.change_of key.now }
@@ -26,15 +27,15 @@ fn change_of(key: &[char]) -> Option<Change>
 }
 
 /// Takes one key with its list.
-fn change_piece(alloc: Global, reader: &mut Reader<'_>) -> Result<(Change, NamedList), Refusal>
-    ensures { Reads result reader.new (spec.change_piece reader.old) }
+fn change_piece(alloc: Global, reader: &mut Reader<'_>) -> Result<(Change, NamedList), WordRefusal>
+    ensures { TakesAs result reader.new (spec.change_piece reader.old) }
 {
     let word = reader.run(alloc, Until::Key)?;
     let Some(how) = change_of(word.as_slice()) else {
-        return Err(Refusal::Fault(Cause::UnknownOption));
+        return Err(WordRefusal::Fault(Cause::UnknownOption));
     };
     if !reader.has_equals() {
-        return Err(Refusal::Fault(Cause::UnknownOption));
+        return Err(WordRefusal::Fault(Cause::UnknownOption));
     }
     reader.skip_equals();
     let list = list_value(alloc, false, reader)?;
@@ -42,11 +43,13 @@ fn change_piece(alloc: Global, reader: &mut Reader<'_>) -> Result<(Change, Named
 }
 
 /// All changes, where there is one.
-fn changes_whole(changes: List<(Change, NamedList)>) -> Result<List<(Change, NamedList)>, Refusal>
-    ensures { Gives result (spec.changes_whole changes) }
+fn changes_whole(
+    changes: List<(Change, NamedList)>,
+) -> Result<List<(Change, NamedList)>, WordRefusal>
+    ensures { AnswersAs result (spec.changes_whole changes) }
 {
     if changes.is_empty() {
-        return Err(Refusal::Fault(Cause::MissingArgument));
+        return Err(WordRefusal::Fault(Cause::MissingArgument));
     }
     Ok(changes)
 }
@@ -55,8 +58,8 @@ fn changes_whole(changes: List<(Change, NamedList)>) -> Result<List<(Change, Nam
 pub(crate) fn changes(
     alloc: Global,
     reader: &mut Reader<'_>,
-) -> Result<List<(Change, NamedList)>, Refusal>
-    ensures { Reads result reader.new (spec.changes reader.old) }
+) -> Result<List<(Change, NamedList)>, WordRefusal>
+    ensures { TakesAs result reader.new (spec.changes reader.old) }
 {
     let mut so_far = List::new(alloc);
     let mut turns = reader.rest();

@@ -4,12 +4,13 @@ ghost use Rattle.syn_words.specs.FileCommands as spec;
 ghost use Rattle.word_reader.specs.Words as words;
 
 use crate::first_words::{Said, awaited, command};
-use crate::refusal::Refusal;
+use crate::refusal::WordRefusal;
 use crate::{Cause, Command, Commands, What, WordFault};
 use std::alloc::Global;
 use syn_base::{List, Memory};
 use syn_lines::{LogicalLine, LogicalLines, logical_lines};
-use word_reader::{Reader, front};
+use text_scan::front;
+use word_reader::Reader;
 
 /// Which command of the guard comes next, with the line of its `if`.
 #[derive(Clone, Copy)]
@@ -88,11 +89,11 @@ fn read_outside(
     match command(alloc, reader) {
         Ok(Said::Does(what)) => Ok(with_command(progress, number, what)?),
         Ok(Said::OpensGuard) => Ok(with_guard(progress, Guard::AwaitsFinish(number))),
-        Err(Refusal::Fault(cause)) => {
+        Err(WordRefusal::Fault(cause)) => {
             reader.leave();
             Ok(with_fault(progress, number, cause))
         }
-        Err(Refusal::Memory) => Err(Memory),
+        Err(WordRefusal::Memory) => Err(Memory),
     }
 }
 
@@ -108,11 +109,11 @@ fn read_finish(
 {
     match awaited(alloc, "finish", reader) {
         Ok(()) => Ok(with_guard(progress, Guard::AwaitsEndif(opened))),
-        Err(Refusal::Fault(cause)) => {
+        Err(WordRefusal::Fault(cause)) => {
             reader.leave();
             Ok(guard_fault(progress, opened, number, cause))
         }
-        Err(Refusal::Memory) => Err(Memory),
+        Err(WordRefusal::Memory) => Err(Memory),
     }
 }
 
@@ -128,11 +129,11 @@ fn read_endif(
 {
     match awaited(alloc, "endif", reader) {
         Ok(()) => Ok(with_command(progress, opened, What::Nothing)?),
-        Err(Refusal::Fault(cause)) => {
+        Err(WordRefusal::Fault(cause)) => {
             reader.leave();
             Ok(guard_fault(progress, opened, number, cause))
         }
-        Err(Refusal::Memory) => Err(Memory),
+        Err(WordRefusal::Memory) => Err(Memory),
     }
 }
 

@@ -1,16 +1,17 @@
 //! Commands by their first word.
 ghost use Rattle.std.specs.Prelude.{◌≡◌, Some, None};
-ghost use Rattle.syn_words.specs.Answers.{Leaves, Reads};
+ghost use Rattle.syn_words.specs.Answers.{LeavesAs, TakesAs};
 ghost use Rattle.syn_words.specs.Commands as spec;
 
 use crate::arguments::{no_more, word_start};
 use crate::file_names::file_argument;
 use crate::highlight::highlight_command;
-use crate::refusal::Refusal;
+use crate::refusal::WordRefusal;
 use crate::syntax::{alone, quiet, syntax_command};
 use crate::{Cause, What};
 use std::alloc::Global;
-use word_reader::{Reader, Until, front, is_word};
+use text_scan::front;
+use word_reader::{Reader, Until, behind_first, is_word};
 use word_values::{CommandName, begins_cpo, begins_variable, command_name, is_guard};
 
 /// What a command outside the guard says.
@@ -21,84 +22,85 @@ pub(crate) enum Said {
     OpensGuard,
 }
 
+/// LeavesAs the line where a variable is named.
+fn variable(reader: &mut Reader<'_>) -> Result<What, WordRefusal>
+    ensures { TakesAs result reader.new (spec.variable_at reader.old) }
+{
+    match front(reader.rest()) {
+        Some((c, _)) if begins_variable(c) => {
+            reader.leave();
+            Ok(What::Nothing)
+        }
+        _ => Err(WordRefusal::Fault(Cause::UnknownCommand)),
+    }
+}
+
+/// LeavesAs the line where Vim's option 'cpoptions' is named behind an ampersand.
+fn cpoptions(alloc: Global, reader: &mut Reader<'_>) -> Result<What, WordRefusal>
+    ensures { TakesAs result reader.new (spec.cpoptions_at reader.old) }
+{
+    if !begins_cpo(alloc, behind_first(reader.rest()))? {
+        return Err(WordRefusal::Fault(Cause::UnknownCommand));
+    }
+    reader.leave();
+    Ok(What::Nothing)
+}
+
 /// Takes a command behind its word `let`.
-fn let_command(alloc: Global, reader: &mut Reader<'_>) -> Result<What, Refusal>
-    ensures { Reads result reader.new (spec.let_command reader.old) }
+fn let_command(alloc: Global, reader: &mut Reader<'_>) -> Result<What, WordRefusal>
+    ensures { TakesAs result reader.new (spec.let_command reader.old) }
 {
-    reader.skip_blanks();
-    match front(reader.rest()) {
-        None => Err(Refusal::Fault(Cause::MissingArgument)),
-        Some(('"', _)) => Err(Refusal::Fault(Cause::MissingArgument)),
-        Some(('&', option)) => {
-            if begins_cpo(alloc, option)? {
-                reader.leave();
-                Ok(What::Nothing)
-            } else {
-                Err(Refusal::Fault(Cause::UnknownCommand))
-            }
-        }
-        Some((c, _)) => {
-            if begins_variable(c) {
-                reader.leave();
-                Ok(What::Nothing)
-            } else {
-                Err(Refusal::Fault(Cause::UnknownCommand))
-            }
-        }
+    word_start(reader)?;
+    if reader.begins('&') {
+        return cpoptions(alloc, reader);
     }
+    variable(reader)
 }
 
-fn unlet_command(reader: &mut Reader<'_>) -> Result<What, Refusal>
-    ensures { Reads result reader.new (spec.unlet_command reader.old) }
+fn unlet_command(reader: &mut Reader<'_>) -> Result<What, WordRefusal>
+    ensures { TakesAs result reader.new (spec.unlet_command reader.old) }
 {
-    reader.skip_blanks();
-    match front(reader.rest()) {
-        None => Err(Refusal::Fault(Cause::MissingArgument)),
-        Some(('"', _)) => Err(Refusal::Fault(Cause::MissingArgument)),
-        Some((c, _)) => {
-            if begins_variable(c) {
-                reader.leave();
-                Ok(What::Nothing)
-            } else {
-                Err(Refusal::Fault(Cause::UnknownCommand))
-            }
-        }
-    }
+    word_start(reader)?;
+    variable(reader)
 }
 
-fn set_command(alloc: Global, reader: &mut Reader<'_>) -> Result<What, Refusal>
-    ensures { Reads result reader.new (spec.set_command reader.old) }
+fn set_command(alloc: Global, reader: &mut Reader<'_>) -> Result<What, WordRefusal>
+    ensures { TakesAs result reader.new (spec.set_command reader.old) }
 {
     word_start(reader)?;
     if begins_cpo(alloc, reader.rest())? {
         return Ok(quiet(reader));
     }
-    Err(Refusal::Fault(Cause::UnknownCommand))
+    Err(WordRefusal::Fault(Cause::UnknownCommand))
 }
 
-fn runtime_command(alloc: Global, reader: &mut Reader<'_>) -> Result<What, Refusal>
-    ensures { Reads result reader.new (spec.runtime_command reader.old) }
+fn runtime_command(alloc: Global, reader: &mut Reader<'_>) -> Result<What, WordRefusal>
+    ensures { TakesAs result reader.new (spec.runtime_command reader.old) }
 {
     let name = file_argument(alloc, reader)?;
     alone(What::Runtime(name), reader)
 }
 
 /// Takes the guard's condition behind `if`.
-fn guard(alloc: Global, reader: &mut Reader<'_>) -> Result<Said, Refusal>
-    ensures { Reads result reader.new (spec.guard reader.old) }
+fn guard(alloc: Global, reader: &mut Reader<'_>) -> Result<Said, WordRefusal>
+    ensures { TakesAs result reader.new (spec.guard reader.old) }
 {
     reader.skip_blanks();
     let word = reader.run(alloc, Until::Word)?;
     if !is_guard(word.as_slice()) {
-        return Err(Refusal::Fault(Cause::UnknownCommand));
+        return Err(WordRefusal::Fault(Cause::UnknownCommand));
     }
     no_more(reader)?;
     Ok(Said::OpensGuard)
 }
 
 /// Takes a command other than the guard's, behind its first word.
-fn plain_command(alloc: Global, name: CommandName, reader: &mut Reader<'_>) -> Result<What, Refusal>
-    ensures { Reads result reader.new (spec.plain_command name reader.old) }
+fn plain_command(
+    alloc: Global,
+    name: CommandName,
+    reader: &mut Reader<'_>,
+) -> Result<What, WordRefusal>
+    ensures { TakesAs result reader.new (spec.plain_command name reader.old) }
 {
     match name {
         CommandName::Syntax => syntax_command(alloc, reader),
@@ -107,18 +109,18 @@ fn plain_command(alloc: Global, name: CommandName, reader: &mut Reader<'_>) -> R
         CommandName::Set => set_command(alloc, reader),
         CommandName::Scriptencoding => Ok(quiet(reader)),
         CommandName::Runtime => runtime_command(alloc, reader),
-        CommandName::If => Err(Refusal::Fault(Cause::UnknownCommand)),
+        CommandName::If => Err(WordRefusal::Fault(Cause::UnknownCommand)),
         CommandName::Highlight { force } => highlight_command(alloc, force, reader),
     }
 }
 
 /// Takes the command that begins here.
-pub(crate) fn command(alloc: Global, reader: &mut Reader<'_>) -> Result<Said, Refusal>
-    ensures { Reads result reader.new (spec.command reader.old) }
+pub(crate) fn command(alloc: Global, reader: &mut Reader<'_>) -> Result<Said, WordRefusal>
+    ensures { TakesAs result reader.new (spec.command reader.old) }
 {
     let word = reader.run(alloc, Until::Word)?;
     match command_name(word.as_slice()) {
-        None => Err(Refusal::Fault(Cause::UnknownCommand)),
+        None => Err(WordRefusal::Fault(Cause::UnknownCommand)),
         Some(CommandName::If) => guard(alloc, reader),
         Some(name) => {
             let what = plain_command(alloc, name, reader)?;
@@ -128,12 +130,12 @@ pub(crate) fn command(alloc: Global, reader: &mut Reader<'_>) -> Result<Said, Re
 }
 
 /// Takes a command of the guard, where this word is awaited.
-pub(crate) fn awaited(alloc: Global, word: &str, reader: &mut Reader<'_>) -> Result<(), Refusal>
-    ensures { Leaves result reader.new (spec.awaited word.now reader.old) }
+pub(crate) fn awaited(alloc: Global, word: &str, reader: &mut Reader<'_>) -> Result<(), WordRefusal>
+    ensures { LeavesAs result reader.new (spec.awaited word.now reader.old) }
 {
     let found = reader.run(alloc, Until::Word)?;
     if !is_word(found.as_slice(), word) {
-        return Err(Refusal::Fault(Cause::GuardUnfinished));
+        return Err(WordRefusal::Fault(Cause::GuardUnfinished));
     }
     no_more(reader)
 }

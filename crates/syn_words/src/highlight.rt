@@ -1,11 +1,11 @@
 //! Highlight commands.
 ghost use Rattle.std.specs.Prelude.{◌≡◌, true, false};
-ghost use Rattle.syn_words.specs.Answers.{Reads};
+ghost use Rattle.syn_words.specs.Answers.{TakesAs};
 ghost use Rattle.syn_words.specs.Highlight as spec;
 
 use crate::arguments::argument;
 use crate::names::{group_argument, group_name};
-use crate::refusal::Refusal;
+use crate::refusal::WordRefusal;
 use crate::styles::style_parts;
 use crate::syntax::alone;
 use crate::{Cause, What};
@@ -32,8 +32,8 @@ fn link_command(
     unset: bool,
     force: bool,
     reader: &mut Reader<'_>,
-) -> Result<What, Refusal>
-    ensures { Reads result reader.new (spec.link_command unset force reader.old) }
+) -> Result<What, WordRefusal>
+    ensures { TakesAs result reader.new (spec.link_command unset force reader.old) }
 {
     let from = group_argument(alloc, reader)?;
     let word = argument(alloc, reader)?;
@@ -54,8 +54,8 @@ fn style_command(
     unset: bool,
     word: List<char>,
     reader: &mut Reader<'_>,
-) -> Result<What, Refusal>
-    ensures { Reads result reader.new (spec.style_command unset word reader.old) }
+) -> Result<What, WordRefusal>
+    ensures { TakesAs result reader.new (spec.style_command unset word reader.old) }
 {
     let group = group_name(word)?;
     let parts = style_parts(alloc, reader)?;
@@ -73,8 +73,8 @@ fn link_or_style(
     force: bool,
     word: List<char>,
     reader: &mut Reader<'_>,
-) -> Result<What, Refusal>
-    ensures { Reads result reader.new (spec.link_or_style unset force word reader.old) }
+) -> Result<What, WordRefusal>
+    ensures { TakesAs result reader.new (spec.link_or_style unset force word reader.old) }
 {
     if is_word(word.as_slice(), "link") {
         return link_command(alloc, unset, force, reader);
@@ -89,8 +89,8 @@ fn is_default(word: &[char]) -> bool
 }
 
 /// Behind `default`.
-fn unset_command(alloc: Global, force: bool, reader: &mut Reader<'_>) -> Result<What, Refusal>
-    ensures { Reads result reader.new (spec.unset_command force reader.old) }
+fn unset_command(alloc: Global, force: bool, reader: &mut Reader<'_>) -> Result<What, WordRefusal>
+    ensures { TakesAs result reader.new (spec.unset_command force reader.old) }
 {
     let word = argument(alloc, reader)?;
     link_or_style(alloc, true, force, word, reader)
@@ -101,8 +101,8 @@ pub(crate) fn highlight_command(
     alloc: Global,
     force: bool,
     reader: &mut Reader<'_>,
-) -> Result<What, Refusal>
-    ensures { Reads result reader.new (spec.highlight_command force reader.old) }
+) -> Result<What, WordRefusal>
+    ensures { TakesAs result reader.new (spec.highlight_command force reader.old) }
 {
     let word = argument(alloc, reader)?;
     if is_default(word.as_slice()) {

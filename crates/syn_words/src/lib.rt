@@ -13,6 +13,7 @@ mod file;
 mod file_names;
 mod first_words;
 mod highlight;
+pub mod laws;
 mod lists;
 mod names;
 mod options;

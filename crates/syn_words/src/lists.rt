@@ -1,16 +1,17 @@
 //! Lists of groups.
 ghost use Rattle.std.specs.Prelude.{◌≡◌, ◌∷◌, ◌++◌, [], OnOk};
-ghost use Rattle.syn_words.specs.Answers.{Reads};
+ghost use Rattle.syn_words.specs.Answers.{TakesAs};
 ghost use Rattle.syn_words.specs.Lists as spec;
 
 use crate::NamedList;
 use crate::arguments::value_start;
 use crate::names::{cluster_in_list, group_in_list};
-use crate::refusal::Refusal;
+use crate::refusal::WordRefusal;
 use std::alloc::Global;
 use syn_base::List;
 use syntax_set::Special;
-use word_reader::{Reader, Until, front};
+use text_scan::front;
+use word_reader::{Reader, Until};
 use word_values::special_of;
 
 fn no_names(alloc: Global) -> NamedList
@@ -27,8 +28,8 @@ fn with_cluster(
     alloc: Global,
     list: NamedList,
     reader: &mut Reader<'_>,
-) -> Result<NamedList, Refusal>
-    ensures { Reads result reader.new (spec.with_cluster list reader.old) }
+) -> Result<NamedList, WordRefusal>
+    ensures { TakesAs result reader.new (spec.with_cluster list reader.old) }
 {
     let NamedList { special, mut names } = list;
     let word = reader.run(alloc, Until::ListName)?;
@@ -43,8 +44,8 @@ fn with_word(
     may_be_special: bool,
     list: NamedList,
     reader: &mut Reader<'_>,
-) -> Result<NamedList, Refusal>
-    ensures { Reads result reader.new (spec.with_word_here may_be_special list reader.old) }
+) -> Result<NamedList, WordRefusal>
+    ensures { TakesAs result reader.new (spec.with_word_here may_be_special list reader.old) }
 {
     let NamedList { special, mut names } = list;
     let word = reader.run(alloc, Until::ListName)?;
@@ -77,8 +78,8 @@ fn with_name(
     may_be_special: bool,
     list: NamedList,
     reader: &mut Reader<'_>,
-) -> Result<NamedList, Refusal>
-    ensures { Reads result reader.new (spec.with_name may_be_special list reader.old) }
+) -> Result<NamedList, WordRefusal>
+    ensures { TakesAs result reader.new (spec.with_name may_be_special list reader.old) }
 {
     if reader.begins('@') {
         reader.skip_one();
@@ -93,8 +94,8 @@ fn names_from(
     alloc: Global,
     may_be_special: bool,
     reader: &mut Reader<'_>,
-) -> Result<NamedList, Refusal>
-    ensures { Reads result reader.new (spec.names_from may_be_special reader.old) }
+) -> Result<NamedList, WordRefusal>
+    ensures { TakesAs result reader.new (spec.names_from may_be_special reader.old) }
 {
     let mut list = no_names(alloc);
     let mut may_be_special = may_be_special;
@@ -118,8 +119,8 @@ pub(crate) fn list_value(
     alloc: Global,
     may_be_special: bool,
     reader: &mut Reader<'_>,
-) -> Result<NamedList, Refusal>
-    ensures { Reads result reader.new (spec.list_value may_be_special reader.old) }
+) -> Result<NamedList, WordRefusal>
+    ensures { TakesAs result reader.new (spec.list_value may_be_special reader.old) }
 {
     value_start(reader)?;
     names_from(alloc, may_be_special, reader)

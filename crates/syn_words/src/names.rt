@@ -1,10 +1,10 @@
 //! Names of groups and clusters.
 ghost use Rattle.std.specs.Prelude.{◌≡◌};
-ghost use Rattle.syn_words.specs.Answers.{Reads};
+ghost use Rattle.syn_words.specs.Answers.{TakesAs};
 ghost use Rattle.syn_words.specs.Names as spec;
 
 use crate::arguments::argument;
-use crate::refusal::Refusal;
+use crate::refusal::WordRefusal;
 use crate::{Cause, Named};
 use std::alloc::Global;
 use syn_base::List;
@@ -25,8 +25,11 @@ pub(crate) fn group_name(word: List<char>) -> Result<List<char>, Cause>
 }
 
 /// Takes the next word as a name.
-pub(crate) fn group_argument(alloc: Global, reader: &mut Reader<'_>) -> Result<List<char>, Refusal>
-    ensures { Reads result reader.new (spec.group_argument reader.old) }
+pub(crate) fn group_argument(
+    alloc: Global,
+    reader: &mut Reader<'_>,
+) -> Result<List<char>, WordRefusal>
+    ensures { TakesAs result reader.new (spec.group_argument reader.old) }
 {
     let word = argument(alloc, reader)?;
     let name = group_name(word)?;

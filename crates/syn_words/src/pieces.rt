@@ -1,6 +1,6 @@
 //! The pieces of an item's command.
 ghost use Rattle.std.specs.Prelude.{◌≡◌, ◌∷◌, ◌++◌, [], None, Some};
-ghost use Rattle.syn_words.specs.Answers.{Gives, Leaves, Reads};
+ghost use Rattle.syn_words.specs.Answers.{AnswersAs, LeavesAs, TakesAs};
 ghost use Rattle.syn_words.specs.Pieces as spec;
 
 use crate::arguments::value_start;
@@ -8,11 +8,12 @@ use crate::lists::list_value;
 use crate::names::group_name;
 use crate::options::{OptionWord, option_of};
 use crate::quoted::quote;
-use crate::refusal::Refusal;
+use crate::refusal::WordRefusal;
 use crate::{Cause, Field, Flag, ItemCommand, Piece, Role};
 use std::alloc::Global;
 use syn_base::List;
-use word_reader::{Reader, Until, begins, can_delimit, front, past, run};
+use text_scan::front;
+use word_reader::{Reader, Until, begins, can_delimit, past, run};
 use word_values::is_none;
 
 /// Which patterns an item has so far.
@@ -95,8 +96,8 @@ fn only_character(word: &[char]) -> Result<char, Cause>
     }
 }
 
-fn cchar(alloc: Global, reader: &mut Reader<'_>) -> Result<Piece, Refusal>
-    ensures { Reads result reader.new (spec.cchar reader.old) }
+fn cchar(alloc: Global, reader: &mut Reader<'_>) -> Result<Piece, WordRefusal>
+    ensures { TakesAs result reader.new (spec.cchar reader.old) }
 {
     value_start(reader)?;
     let word = reader.run(alloc, Until::Word)?;
@@ -113,8 +114,8 @@ fn may_be_special(field: Field) -> bool
     }
 }
 
-fn names(alloc: Global, field: Field, reader: &mut Reader<'_>) -> Result<Piece, Refusal>
-    ensures { Reads result reader.new (spec.names field reader.old) }
+fn names(alloc: Global, field: Field, reader: &mut Reader<'_>) -> Result<Piece, WordRefusal>
+    ensures { TakesAs result reader.new (spec.names field reader.old) }
 {
     let list = list_value(alloc, may_be_special(field), reader)?;
     Ok(Piece::Names(field, list))
@@ -129,8 +130,8 @@ fn group_or_none(word: List<char>) -> Result<List<char>, Cause>
     group_name(word)
 }
 
-fn matchgroup(alloc: Global, reader: &mut Reader<'_>) -> Result<Piece, Refusal>
-    ensures { Reads result reader.new (spec.matchgroup reader.old) }
+fn matchgroup(alloc: Global, reader: &mut Reader<'_>) -> Result<Piece, WordRefusal>
+    ensures { TakesAs result reader.new (spec.matchgroup reader.old) }
 {
     value_start(reader)?;
     let word = reader.run(alloc, Until::Word)?;
@@ -138,8 +139,8 @@ fn matchgroup(alloc: Global, reader: &mut Reader<'_>) -> Result<Piece, Refusal>
     Ok(Piece::Matchgroup(name))
 }
 
-fn quote_as(alloc: Global, role: Role, reader: &mut Reader<'_>) -> Result<Piece, Refusal>
-    ensures { Reads result reader.new (spec.quote_as role reader.old) }
+fn quote_as(alloc: Global, role: Role, reader: &mut Reader<'_>) -> Result<Piece, WordRefusal>
+    ensures { TakesAs result reader.new (spec.quote_as role reader.old) }
 {
     let quoted = quote(alloc, reader)?;
     Ok(Piece::Quote(role, quoted))
@@ -160,11 +161,11 @@ fn region_quote(
     seen: Seen,
     role: Role,
     reader: &mut Reader<'_>,
-) -> Result<Piece, Refusal>
-    ensures { Reads result reader.new (spec.region_quote seen role reader.old) }
+) -> Result<Piece, WordRefusal>
+    ensures { TakesAs result reader.new (spec.region_quote seen role reader.old) }
 {
     if is_skip(role) && seen.skip {
-        return Err(Refusal::Fault(Cause::TwoSkips));
+        return Err(WordRefusal::Fault(Cause::TwoSkips));
     }
     reader.skip_blanks();
     quote_as(alloc, role, reader)
@@ -185,8 +186,8 @@ fn plain_piece(
     kind: ItemCommand,
     seen: Seen,
     reader: &mut Reader<'_>,
-) -> Result<Piece, Refusal>
-    ensures { Reads result reader.new (spec.plain_piece kind seen reader.old) }
+) -> Result<Piece, WordRefusal>
+    ensures { TakesAs result reader.new (spec.plain_piece kind seen reader.old) }
 {
     match kind {
         ItemCommand::Keyword => {
@@ -197,10 +198,10 @@ fn plain_piece(
             if begins_pattern(reader.rest()) && !seen.pattern {
                 quote_as(alloc, Role::Match, reader)
             } else {
-                Err(Refusal::Fault(Cause::UnknownOption))
+                Err(WordRefusal::Fault(Cause::UnknownOption))
             }
         }
-        ItemCommand::Region => Err(Refusal::Fault(Cause::UnknownOption)),
+        ItemCommand::Region => Err(WordRefusal::Fault(Cause::UnknownOption)),
     }
 }
 
@@ -211,8 +212,8 @@ fn flag_piece(
     seen: Seen,
     flag: Flag,
     reader: &mut Reader<'_>,
-) -> Result<Piece, Refusal>
-    ensures { Reads result reader.new (spec.flag_piece kind seen flag reader.old) }
+) -> Result<Piece, WordRefusal>
+    ensures { TakesAs result reader.new (spec.flag_piece kind seen flag reader.old) }
 {
     if begins('=', past(Until::Key, reader.rest())) {
         return plain_piece(alloc, kind, seen, reader);
@@ -258,12 +259,12 @@ fn is_match(kind: ItemCommand) -> bool
 }
 
 /// Passes a key and the equals sign behind it.
-fn skip_key(reader: &mut Reader<'_>) -> Result<(), Refusal>
-    ensures { Leaves result reader.new (spec.behind_key reader.old) }
+fn skip_key(reader: &mut Reader<'_>) -> Result<(), WordRefusal>
+    ensures { LeavesAs result reader.new (spec.behind_key reader.old) }
 {
     reader.skip_run(Until::Key);
     if !reader.has_equals() {
-        return Err(Refusal::Fault(Cause::UnknownOption));
+        return Err(WordRefusal::Fault(Cause::UnknownOption));
     }
     reader.skip_equals();
     Ok(())
@@ -274,18 +275,18 @@ fn names_piece(
     kind: ItemCommand,
     field: Field,
     reader: &mut Reader<'_>,
-) -> Result<Piece, Refusal>
-    ensures { Reads result reader.new (spec.names_piece kind field reader.old) }
+) -> Result<Piece, WordRefusal>
+    ensures { TakesAs result reader.new (spec.names_piece kind field reader.old) }
 {
     if is_keyword(kind) && is_contains(field) {
-        return Err(Refusal::Fault(Cause::OptionHere));
+        return Err(WordRefusal::Fault(Cause::OptionHere));
     }
     skip_key(reader)?;
     names(alloc, field, reader)
 }
 
-fn cchar_piece(alloc: Global, reader: &mut Reader<'_>) -> Result<Piece, Refusal>
-    ensures { Reads result reader.new (spec.cchar_piece reader.old) }
+fn cchar_piece(alloc: Global, reader: &mut Reader<'_>) -> Result<Piece, WordRefusal>
+    ensures { TakesAs result reader.new (spec.cchar_piece reader.old) }
 {
     skip_key(reader)?;
     cchar(alloc, reader)
@@ -296,8 +297,8 @@ fn matchgroup_piece(
     kind: ItemCommand,
     seen: Seen,
     reader: &mut Reader<'_>,
-) -> Result<Piece, Refusal>
-    ensures { Reads result reader.new (spec.matchgroup_piece kind seen reader.old) }
+) -> Result<Piece, WordRefusal>
+    ensures { TakesAs result reader.new (spec.matchgroup_piece kind seen reader.old) }
 {
     if !is_region(kind) {
         return plain_piece(alloc, kind, seen, reader);
@@ -312,8 +313,8 @@ fn quote_piece(
     seen: Seen,
     role: Role,
     reader: &mut Reader<'_>,
-) -> Result<Piece, Refusal>
-    ensures { Reads result reader.new (spec.quote_piece kind seen role reader.old) }
+) -> Result<Piece, WordRefusal>
+    ensures { TakesAs result reader.new (spec.quote_piece kind seen role reader.old) }
 {
     if !is_region(kind) {
         return plain_piece(alloc, kind, seen, reader);
@@ -328,8 +329,8 @@ fn piece_at(
     kind: ItemCommand,
     seen: Seen,
     reader: &mut Reader<'_>,
-) -> Result<Piece, Refusal>
-    ensures { Reads result reader.new (spec.piece_at kind seen reader.old) }
+) -> Result<Piece, WordRefusal>
+    ensures { TakesAs result reader.new (spec.piece_at kind seen reader.old) }
 {
     let key = run(alloc, Until::Key, reader.rest())?;
     match option_of(key.as_slice()) {
@@ -353,12 +354,16 @@ fn pieces_end(kind: ItemCommand, seen: Seen, text: &[char]) -> bool
 }
 
 /// All pieces, where no part is missing.
-fn pieces_whole(kind: ItemCommand, seen: Seen, pieces: List<Piece>) -> Result<List<Piece>, Refusal>
-    ensures { Gives result (spec.pieces_whole (spec.missing kind seen) pieces) }
+fn pieces_whole(
+    kind: ItemCommand,
+    seen: Seen,
+    pieces: List<Piece>,
+) -> Result<List<Piece>, WordRefusal>
+    ensures { AnswersAs result (spec.pieces_whole (spec.missing kind seen) pieces) }
 {
     match missing(kind, seen) {
         None => Ok(pieces),
-        Some(cause) => Err(Refusal::Fault(cause)),
+        Some(cause) => Err(WordRefusal::Fault(cause)),
     }
 }
 
@@ -367,8 +372,8 @@ pub(crate) fn pieces(
     alloc: Global,
     kind: ItemCommand,
     reader: &mut Reader<'_>,
-) -> Result<List<Piece>, Refusal>
-    ensures { Reads result reader.new (spec.pieces kind reader.old) }
+) -> Result<List<Piece>, WordRefusal>
+    ensures { TakesAs result reader.new (spec.pieces kind reader.old) }
 {
     let mut seen = NOTHING_SEEN;
     let mut so_far = List::new(alloc);

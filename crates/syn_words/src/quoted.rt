@@ -1,13 +1,14 @@
 //! A pattern between its delimiters, with its offsets.
 ghost use Rattle.std.specs.Prelude.{◌≡◌};
-ghost use Rattle.syn_words.specs.Answers.{Reads};
+ghost use Rattle.syn_words.specs.Answers.{TakesAs};
 ghost use Rattle.syn_words.specs.Quoted as spec;
 
-use crate::refusal::Refusal;
+use crate::refusal::WordRefusal;
 use crate::{Cause, Quoted};
 use std::alloc::Global;
 use syn_base::List;
-use word_reader::{Adjusts, Reader, can_delimit, front};
+use text_scan::front;
+use word_reader::{Adjusts, Reader, can_delimit};
 
 fn quoted_of(text: List<char>, adjusts: Adjusts) -> Quoted
     ensures { result ≡ spec.quoted_of text adjusts }
@@ -25,21 +26,21 @@ fn quoted_of(text: List<char>, adjusts: Adjusts) -> Quoted
 }
 
 /// Takes the pattern that begins here.
-pub(crate) fn quote(alloc: Global, reader: &mut Reader<'_>) -> Result<Quoted, Refusal>
-    ensures { Reads result reader.new (spec.quoted reader.old) }
+pub(crate) fn quote(alloc: Global, reader: &mut Reader<'_>) -> Result<Quoted, WordRefusal>
+    ensures { TakesAs result reader.new (spec.quoted reader.old) }
 {
     let Some((delimiter, _)) = front(reader.rest()) else {
-        return Err(Refusal::Fault(Cause::NoPattern));
+        return Err(WordRefusal::Fault(Cause::NoPattern));
     };
     if !can_delimit(delimiter) {
-        return Err(Refusal::Fault(Cause::NoPattern));
+        return Err(WordRefusal::Fault(Cause::NoPattern));
     }
     reader.skip_one();
     let Some(pattern) = reader.delimited(alloc, delimiter)? else {
-        return Err(Refusal::Fault(Cause::NoDelimiter));
+        return Err(WordRefusal::Fault(Cause::NoDelimiter));
     };
     let Some(adjusts) = reader.offsets() else {
-        return Err(Refusal::Fault(Cause::BadOffset));
+        return Err(WordRefusal::Fault(Cause::BadOffset));
     };
     Ok(quoted_of(pattern, adjusts))
 }

@@ -1,15 +1,16 @@
 //! The parts of a style command.
 ghost use Rattle.std.specs.Prelude.{◌≡◌, ◌∷◌, ◌++◌, [], OnOk, Ok};
 ghost use Rattle.std.specs.Option.{option_to_list};
-ghost use Rattle.syn_words.specs.Answers.{Gives, Reads};
+ghost use Rattle.syn_words.specs.Answers.{AnswersAs, TakesAs};
 ghost use Rattle.syn_words.specs.Styles as spec;
 
 use crate::arguments::value_start;
-use crate::refusal::Refusal;
+use crate::refusal::WordRefusal;
 use crate::{Cause, StylePart};
 use std::alloc::Global;
 use syn_base::{List, Memory};
-use word_reader::{Reader, Until, begins, behind_first, front, is_word};
+use text_scan::front;
+use word_reader::{Reader, Until, begins, behind_first, is_word};
 use word_values::{StyleKey, has_part, rgb, style_key};
 
 /// What the value of a colour says; the name of a colour says nothing.
@@ -41,19 +42,13 @@ fn shape(value: &[char]) -> StylePart
 fn front_part(colour: Option<Option<u32>>) -> Option<StylePart>
     ensures { result ≡ spec.front_part colour }
 {
-    match colour {
-        None => None,
-        Some(colour) => Some(StylePart::Front(colour)),
-    }
+    Some(StylePart::Front(colour?))
 }
 
 fn back_part(colour: Option<Option<u32>>) -> Option<StylePart>
     ensures { result ≡ spec.back_part colour }
 {
-    match colour {
-        None => None,
-        Some(colour) => Some(StylePart::Back(colour)),
-    }
+    Some(StylePart::Back(colour?))
 }
 
 fn style_part(key: StyleKey, value: &[char]) -> Result<Option<StylePart>, Cause>
@@ -78,8 +73,8 @@ fn keyed(
     alloc: Global,
     key: StyleKey,
     reader: &mut Reader<'_>,
-) -> Result<Option<StylePart>, Refusal>
-    ensures { Reads result reader.new (spec.keyed key reader.old) }
+) -> Result<Option<StylePart>, WordRefusal>
+    ensures { TakesAs result reader.new (spec.keyed key reader.old) }
 {
     value_start(reader)?;
     let value = reader.run(alloc, Until::Word)?;
@@ -88,15 +83,15 @@ fn keyed(
 }
 
 /// Takes one key with its value.
-fn style_piece(alloc: Global, reader: &mut Reader<'_>) -> Result<Option<StylePart>, Refusal>
-    ensures { Reads result reader.new (spec.style_piece reader.old) }
+fn style_piece(alloc: Global, reader: &mut Reader<'_>) -> Result<Option<StylePart>, WordRefusal>
+    ensures { TakesAs result reader.new (spec.style_piece reader.old) }
 {
     let word = reader.run(alloc, Until::Key)?;
     let Some(key) = style_key(word.as_slice()) else {
-        return Err(Refusal::Fault(Cause::UnknownOption));
+        return Err(WordRefusal::Fault(Cause::UnknownOption));
     };
     if !reader.has_equals() {
-        return Err(Refusal::Fault(Cause::UnknownOption));
+        return Err(WordRefusal::Fault(Cause::UnknownOption));
     }
     reader.skip_equals();
     keyed(alloc, key, reader)
@@ -112,13 +107,13 @@ fn push_some(parts: &mut List<StylePart>, part: Option<StylePart>) -> Result<(),
 }
 
 /// All parts, where there was a key.
-fn parts_whole(some: bool, parts: List<StylePart>) -> Result<List<StylePart>, Refusal>
-    ensures { Gives result (spec.parts_whole some parts) }
+fn parts_whole(some: bool, parts: List<StylePart>) -> Result<List<StylePart>, WordRefusal>
+    ensures { AnswersAs result (spec.parts_whole some parts) }
 {
     if some {
         Ok(parts)
     } else {
-        Err(Refusal::Fault(Cause::MissingArgument))
+        Err(WordRefusal::Fault(Cause::MissingArgument))
     }
 }
 
@@ -126,8 +121,8 @@ fn parts_whole(some: bool, parts: List<StylePart>) -> Result<List<StylePart>, Re
 pub(crate) fn style_parts(
     alloc: Global,
     reader: &mut Reader<'_>,
-) -> Result<List<StylePart>, Refusal>
-    ensures { Reads result reader.new (spec.style_parts reader.old) }
+) -> Result<List<StylePart>, WordRefusal>
+    ensures { TakesAs result reader.new (spec.style_parts reader.old) }
 {
     let mut some = false;
     let mut so_far = List::new(alloc);

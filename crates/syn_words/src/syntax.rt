@@ -1,6 +1,6 @@
 //! Syntax commands.
 ghost use Rattle.std.specs.Prelude.{◌≡◌, ◌∷◌, ◌++◌, [], Some, None, IfOk};
-ghost use Rattle.syn_words.specs.Answers.{Reads};
+ghost use Rattle.syn_words.specs.Answers.{TakesAs};
 ghost use Rattle.syn_words.specs.Alone as alone_spec;
 ghost use Rattle.syn_words.specs.Commands as spec;
 
@@ -9,11 +9,12 @@ use crate::clusters::changes;
 use crate::file_names::file_argument;
 use crate::names::{group_argument, group_name};
 use crate::pieces::pieces;
-use crate::refusal::Refusal;
+use crate::refusal::WordRefusal;
 use crate::{Cause, ItemCommand, Named, What};
 use std::alloc::Global;
 use syn_base::{List, Memory};
-use word_reader::{Reader, Until, front, is_over, is_word, past, past_blanks, run};
+use text_scan::{front, past_blanks};
+use word_reader::{Reader, Until, is_over, is_word, past, run};
 
 /// The word behind `syntax`.
 #[derive(Clone, Copy)]
@@ -32,8 +33,8 @@ pub(crate) enum Subcommand {
 }
 
 /// A command that takes no more words.
-pub(crate) fn alone(what: What, reader: &mut Reader<'_>) -> Result<What, Refusal>
-    ensures { Reads result reader.new (alone_spec.alone what reader.old) }
+pub(crate) fn alone(what: What, reader: &mut Reader<'_>) -> Result<What, WordRefusal>
+    ensures { TakesAs result reader.new (alone_spec.alone what reader.old) }
 {
     no_more(reader)?;
     Ok(what)
@@ -51,8 +52,8 @@ fn ignored_case(word: &[char]) -> Result<bool, Cause>
     }
 }
 
-fn case_command(alloc: Global, reader: &mut Reader<'_>) -> Result<What, Refusal>
-    ensures { Reads result reader.new (spec.case_command reader.old) }
+fn case_command(alloc: Global, reader: &mut Reader<'_>) -> Result<What, WordRefusal>
+    ensures { TakesAs result reader.new (spec.case_command reader.old) }
 {
     let word = argument(alloc, reader)?;
     let ignore = ignored_case(word.as_slice())?;
@@ -68,15 +69,19 @@ fn keyword_set(word: List<char>) -> Option<List<char>>
     Some(word)
 }
 
-fn iskeyword_command(alloc: Global, reader: &mut Reader<'_>) -> Result<What, Refusal>
-    ensures { Reads result reader.new (spec.iskeyword_command reader.old) }
+fn iskeyword_command(alloc: Global, reader: &mut Reader<'_>) -> Result<What, WordRefusal>
+    ensures { TakesAs result reader.new (spec.iskeyword_command reader.old) }
 {
     let word = argument(alloc, reader)?;
     alone(What::Iskeyword(keyword_set(word)), reader)
 }
 
-fn item_command(alloc: Global, kind: ItemCommand, reader: &mut Reader<'_>) -> Result<What, Refusal>
-    ensures { Reads result reader.new (spec.item_command kind reader.old) }
+fn item_command(
+    alloc: Global,
+    kind: ItemCommand,
+    reader: &mut Reader<'_>,
+) -> Result<What, WordRefusal>
+    ensures { TakesAs result reader.new (spec.item_command kind reader.old) }
 {
     let group = group_argument(alloc, reader)?;
     let pieces = pieces(alloc, kind, reader)?;
@@ -87,8 +92,8 @@ fn item_command(alloc: Global, kind: ItemCommand, reader: &mut Reader<'_>) -> Re
     })
 }
 
-fn cluster_command(alloc: Global, reader: &mut Reader<'_>) -> Result<What, Refusal>
-    ensures { Reads result reader.new (spec.cluster_command reader.old) }
+fn cluster_command(alloc: Global, reader: &mut Reader<'_>) -> Result<What, WordRefusal>
+    ensures { TakesAs result reader.new (spec.cluster_command reader.old) }
 {
     let name = group_argument(alloc, reader)?;
     let changes = changes(alloc, reader)?;
@@ -99,24 +104,24 @@ fn included(
     alloc: Global,
     cluster: Option<List<char>>,
     reader: &mut Reader<'_>,
-) -> Result<What, Refusal>
-    ensures { Reads result reader.new (spec.included cluster reader.old) }
+) -> Result<What, WordRefusal>
+    ensures { TakesAs result reader.new (spec.included cluster reader.old) }
 {
     let name = file_argument(alloc, reader)?;
     alone(What::Include { cluster, name }, reader)
 }
 
 /// Behind the at sign of the cluster.
-fn include_in(alloc: Global, reader: &mut Reader<'_>) -> Result<What, Refusal>
-    ensures { Reads result reader.new (spec.include_in reader.old) }
+fn include_in(alloc: Global, reader: &mut Reader<'_>) -> Result<What, WordRefusal>
+    ensures { TakesAs result reader.new (spec.include_in reader.old) }
 {
     let word = reader.run(alloc, Until::Word)?;
     let cluster = group_name(word)?;
     included(alloc, Some(cluster), reader)
 }
 
-fn include_command(alloc: Global, reader: &mut Reader<'_>) -> Result<What, Refusal>
-    ensures { Reads result reader.new (spec.include_command reader.old) }
+fn include_command(alloc: Global, reader: &mut Reader<'_>) -> Result<What, WordRefusal>
+    ensures { TakesAs result reader.new (spec.include_command reader.old) }
 {
     word_start(reader)?;
     if reader.begins('@') {
@@ -134,8 +139,8 @@ fn is_fromstart(alloc: Global, text: &[char]) -> Result<bool, Memory>
     Ok(is_word(word.as_slice(), "fromstart") && is_over(past_blanks(past(Until::Word, text))))
 }
 
-fn sync_command(alloc: Global, reader: &mut Reader<'_>) -> Result<What, Refusal>
-    ensures { Reads result reader.new (spec.sync_command reader.old) }
+fn sync_command(alloc: Global, reader: &mut Reader<'_>) -> Result<What, WordRefusal>
+    ensures { TakesAs result reader.new (spec.sync_command reader.old) }
 {
     word_start(reader)?;
     let fromstart = is_fromstart(alloc, reader.rest())?;
@@ -143,16 +148,16 @@ fn sync_command(alloc: Global, reader: &mut Reader<'_>) -> Result<What, Refusal>
     Ok(What::Sync { fromstart })
 }
 
-fn cleared_cluster(alloc: Global, reader: &mut Reader<'_>) -> Result<Named, Refusal>
-    ensures { Reads result reader.new (spec.cleared_cluster reader.old) }
+fn cleared_cluster(alloc: Global, reader: &mut Reader<'_>) -> Result<Named, WordRefusal>
+    ensures { TakesAs result reader.new (spec.cleared_cluster reader.old) }
 {
     let word = reader.run(alloc, Until::Word)?;
     let name = group_name(word)?;
     Ok(Named::Cluster(name))
 }
 
-fn cleared_group(alloc: Global, reader: &mut Reader<'_>) -> Result<Named, Refusal>
-    ensures { Reads result reader.new (spec.cleared_group reader.old) }
+fn cleared_group(alloc: Global, reader: &mut Reader<'_>) -> Result<Named, WordRefusal>
+    ensures { TakesAs result reader.new (spec.cleared_group reader.old) }
 {
     let word = reader.run(alloc, Until::Word)?;
     let name = group_name(word)?;
@@ -160,8 +165,8 @@ fn cleared_group(alloc: Global, reader: &mut Reader<'_>) -> Result<Named, Refusa
 }
 
 /// Takes a group or a cluster to be cleared.
-fn cleared(alloc: Global, reader: &mut Reader<'_>) -> Result<Named, Refusal>
-    ensures { Reads result reader.new (spec.cleared reader.old) }
+fn cleared(alloc: Global, reader: &mut Reader<'_>) -> Result<Named, WordRefusal>
+    ensures { TakesAs result reader.new (spec.cleared reader.old) }
 {
     if reader.begins('@') {
         reader.skip_one();
@@ -179,8 +184,8 @@ fn clear_whole(names: List<Named>) -> What
     What::Clear(names)
 }
 
-fn clear_command(alloc: Global, reader: &mut Reader<'_>) -> Result<What, Refusal>
-    ensures { Reads result reader.new (spec.clear_command reader.old) }
+fn clear_command(alloc: Global, reader: &mut Reader<'_>) -> Result<What, WordRefusal>
+    ensures { TakesAs result reader.new (spec.clear_command reader.old) }
 {
     let mut so_far = List::new(alloc);
     let mut turns = reader.rest();
@@ -261,12 +266,12 @@ fn subcommand_of(word: &[char]) -> Option<Subcommand>
 }
 
 /// Takes a command behind its word `syntax`.
-pub(crate) fn syntax_command(alloc: Global, reader: &mut Reader<'_>) -> Result<What, Refusal>
-    ensures { Reads result reader.new (spec.syntax_command reader.old) }
+pub(crate) fn syntax_command(alloc: Global, reader: &mut Reader<'_>) -> Result<What, WordRefusal>
+    ensures { TakesAs result reader.new (spec.syntax_command reader.old) }
 {
     let word = argument(alloc, reader)?;
     match subcommand_of(word.as_slice()) {
-        None => Err(Refusal::Fault(Cause::UnknownSubcommand)),
+        None => Err(WordRefusal::Fault(Cause::UnknownSubcommand)),
         Some(Subcommand::Item(kind)) => item_command(alloc, kind, reader),
         Some(Subcommand::Cluster) => cluster_command(alloc, reader),
         Some(Subcommand::Case) => case_command(alloc, reader),
@@ -275,6 +280,6 @@ pub(crate) fn syntax_command(alloc: Global, reader: &mut Reader<'_>) -> Result<W
         Some(Subcommand::Sync) => sync_command(alloc, reader),
         Some(Subcommand::Clear) => clear_command(alloc, reader),
         Some(Subcommand::Quiet) => Ok(quiet(reader)),
-        Some(Subcommand::LeftOut) => Err(Refusal::Fault(Cause::NotInProfile { word })),
+        Some(Subcommand::LeftOut) => Err(WordRefusal::Fault(Cause::NotInProfile { word })),
     }
 }

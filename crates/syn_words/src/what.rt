@@ -99,7 +99,7 @@ pub enum Piece {
     Word(List<char>),
 }
 
-/// What a key of a style says (`:highlight-args`). Colours are 0xRRGGBB, and none for `NONE`.
+/// What a key of a style says (`highlight-args`). Colours are 0xRRGGBB, and none for `NONE`.
 #[derive(Clone, Copy, Debug, PartialEq, Eq)]
 pub enum StylePart {
     Front(Option<u32>),

@@ -10,7 +10,8 @@ use Rattle.pattern_items.specs.ClassNames.{name_at, word, class_names}
 use Rattle.pattern_items.specs.declared.class_names.ClassName.{ClassName}
 use Rattle.pattern_items.specs.declared.class_names.ClassName.TheVariants.{Alnum, Alpha, Blank, Cntrl, Digit, Graph, Lower, Print, Punct, Space, Upper, Xdigit, Return, Tab, Escape, Backspace, Ident, Keyword, Fname}
 use Rattle.word_reader.specs.declared.words.Until.{Until}
-use Rattle.word_reader.specs.Words.{behind_first, past_blanks, past, past_command, is_blank, stops}
+use Rattle.text_scan.specs.Characters.{is_blank, past_blanks}
+use Rattle.word_reader.specs.Words.{behind_first, past, past_command, stops}
 use Rattle.word_reader.specs.Vain.{plain_after, plain_close, PlainlyIf, ClosesPlainly, IsVain, Known, Keeps}
 
 -- what is in vain is so wherever the count begins
@@ -314,6 +315,15 @@ known_end false = tt
 keeps_first : (text : List ℕ) → Keeps text (behind_first text)
 keeps_first [] v = v
 keeps_first (c ∷ cs) v = v.1
+
+-- what follows some characters
+keeps_drop : (n : ℕ) (text : List ℕ) → Keeps text (drop n text)
+keeps_drop zero text v = v
+keeps_drop (suc n) [] v = v
+keeps_drop (suc n) (c ∷ cs) v = keeps_drop n cs v.1
+
+pub keeps_dropped : (n : ℕ) (text rest : List ℕ) → rest ≡ drop n text → Keeps text rest
+keeps_dropped n text rest is v = subst IsVain (sym is) (keeps_drop n text v)
 
 pub known_first : (v : Bool) (text : List ℕ) → Known v text → Known v (behind_first text)
 known_first v text k = known_on v text (behind_first text) (keeps_first text) k

@@ -8,7 +8,7 @@ use Rattle.pattern_items.specs.Collection.{collection_end}
 use Rattle.word_reader.specs.declared.delimited.Next.{Next}
 use Rattle.word_reader.specs.declared.delimited.Next.TheVariants.{Free, Escaped, ClassLetter, Percent, Mark, Inside}
 use Rattle.word_reader.specs.declared.delimited.Scan.{Scan}
-use Rattle.word_reader.specs.Words.{is_blank, is_letter, is_digit}
+use Rattle.text_scan.specs.Characters.{is_blank, is_digit, is_letter}
 
 abbrev pub can_delimit : ℕ → Bool
 can_delimit c = not (is_blank c || is_letter c || is_digit c || nat_eq c 92)

@@ -1,7 +1,7 @@
 -- Offsets of a pattern (Vim's help, :syn-pattern-offset): directly behind its delimiter, separated by commas.
 use Rattle.std.specs.Prelude.{ℕ, nat_eq, List, [], ◌∷◌, Option, Some, None, Bool, true, false, if◌then◌else◌, codes, ℤ, pos, neg_ℤ}
 use Rattle.syntax_set.specs.declared.item.Offset.{Offset}
-use Rattle.pattern_items.specs.Numbers.{digits}
+use Rattle.text_scan.specs.Numbers.{digits}
 use Rattle.word_reader.specs.declared.offsets.Edge.{Edge}
 use Rattle.word_reader.specs.declared.offsets.Edge.TheVariants.{MatchStart, MatchEnd, HighlightStart, HighlightEnd, RegionStart, RegionEnd}
 use Rattle.word_reader.specs.declared.offsets.Adjust.{Adjust}

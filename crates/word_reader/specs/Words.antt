@@ -1,19 +1,9 @@
 -- Words of a line. Blanks are space and tab. A bar ends a command, and a quote where a word could begin starts a comment.
-use Rattle.std.specs.Prelude.{ℕ, ◌+◌, ◌-◌, nat_eq, nat_le, not, ◌&&◌, ◌||◌, List, [], ◌∷◌, Option, Some, None, Bool, true, false, if◌then◌else◌}
+use Rattle.std.specs.Prelude.{ℕ, ◌-◌, nat_eq, not, ◌&&◌, ◌||◌, List, [], ◌∷◌, Option, Some, None, Bool, true, false, if◌then◌else◌}
+use Rattle.std.specs.Char.{eq_ignore_ascii_case}
+use Rattle.text_scan.specs.Characters.{is_blank, is_digit, is_letter, past_blanks}
 use Rattle.word_reader.specs.declared.words.Until.{Until}
 use Rattle.word_reader.specs.declared.words.Until.TheVariants.{Word, Key, ListName, OptionName}
-
-abbrev pub is_blank : ℕ → Bool
-is_blank c = nat_eq c 32 || nat_eq c 9
-
-abbrev pub is_between : ℕ → ℕ → ℕ → Bool
-is_between low high c = nat_le low c && nat_le c high
-
-abbrev pub is_letter : ℕ → Bool
-is_letter c = is_between 65 90 c || is_between 97 122 c
-
-abbrev pub is_digit : ℕ → Bool
-is_digit c = is_between 48 57 c
 
 -- Where a run of characters ends: a word at a blank or a bar, a key also at an equals sign, a name of a list also at a
 -- comma; the name of one of Vim's options at what isn't a letter, a digit or an underscore.
@@ -30,10 +20,6 @@ run until (c ∷ cs) = if stops until c then [] else c ∷ run until cs
 abbrev pub past : Until → List ℕ → List ℕ
 past until [] = []
 past until (c ∷ cs) = if stops until c then c ∷ cs else past until cs
-
-abbrev pub past_blanks : List ℕ → List ℕ
-past_blanks [] = []
-past_blanks (c ∷ cs) = if is_blank c then past_blanks cs else c ∷ cs
 
 abbrev pub begins : ℕ → List ℕ → Bool
 begins d [] = false
@@ -67,11 +53,8 @@ past_command may_begin (c ∷ cs) = if nat_eq c 124 || (may_begin && nat_eq c 34
 
 -- Comparing words.
 
-abbrev pub lower : ℕ → ℕ
-lower c = if is_between 65 90 c then c + 32 else c
-
 abbrev pub alike : Bool → ℕ → ℕ → Bool
-alike true c d = nat_eq (lower c) (lower d)
+alike true c d = eq_ignore_ascii_case c d
 alike false c d = nat_eq c d
 
 abbrev pub same : Bool → List ℕ → List ℕ → Bool

@@ -4,10 +4,10 @@ ghost use Rattle.word_reader.specs.Delimited as spec;
 ghost use Rattle.word_reader.specs.Vain.{Known};
 
 use crate::vain::{collection_close, vain_behind};
-use crate::words::{front, is_blank, is_digit, is_letter};
 use pattern_items::Level;
 use std::alloc::Global;
 use syn_base::{List, Memory};
+use text_scan::{front, is_blank, is_digit, is_letter};
 
 /// How the next character of a pattern is read.
 #[derive(Clone, Copy)]

@@ -17,6 +17,6 @@ pub use delimited::can_delimit;
 pub use offsets::Adjusts;
 pub use reader::Reader;
 pub use words::{
-    Until, abbreviates, begins, behind_first, front, is_blank, is_digit, is_letter, is_over,
-    is_word, is_word_in_any_case, past, past_blanks, run, strip,
+    Until, abbreviates, begins, behind_first, is_over, is_word, is_word_in_any_case, past, run,
+    strip,
 };

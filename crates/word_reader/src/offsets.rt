@@ -1,11 +1,11 @@
 //! Offsets of a pattern.
 ghost use Rattle.std.specs.Prelude.{◌≡◌, ◌≤◌, ◌<◌, ◌+◌, Some, None, IfSome, MatchOption, pos, neg_ℤ};
-ghost use Rattle.pattern_items.specs.Numbers as numbers;
 ghost use Rattle.word_reader.specs.Offsets as spec;
 ghost use Rattle.word_reader.specs.Vain.{Keeps};
 
-use crate::words::{begins, behind_first, ends_word, front, is_digit, strip};
+use crate::words::{begins, behind_first, ends_word, strip};
 use syntax_set::Offset;
+use text_scan::{digits, front};
 
 /// Which place an offset moves (`:syn-pattern-offset`).
 #[derive(Clone, Copy)]
@@ -39,48 +39,8 @@ pub struct Adjusts {
     pub lc: u32,
 }
 
-/// A number, none above 65,535, with one digit more.
-fn with_digit(value: Option<u32>, digit: u32) -> Option<u32>
-    requires digit { digit < 10 }
-    requires small { IfSome value (λ n. n ≤ 65535) }
-    ensures value { result ≡ numbers.with_digit value digit }
-    ensures small { IfSome result (λ n. n ≤ 65535) }
-{
-    match value {
-        None => None,
-        Some(n) => {
-            if n * 10 + digit <= 65535 {
-                Some(n * 10 + digit)
-            } else {
-                None
-            }
-        }
-    }
-}
-
-/// The digits at the front: their number, how many they are, and what follows.
-fn digits(text: &[char]) -> (Option<u32>, usize, &[char])
-    ensures value { result.0 ≡ (numbers.digits text.now).value }
-    ensures small { IfSome result.0 (λ n. n ≤ 65535) }
-    ensures count { result.1 ≡ (numbers.digits text.now).count }
-    ensures rest { result.2.now ≡ (numbers.digits text.now).rest }
-    ensures keeps { Keeps text.now result.2.now }
-{
-    let mut value = Some(0);
-    let mut count: usize = 0;
-    let mut rest = text;
-    while let Some((c, more)) = front(rest) {
-        if !is_digit(c) {
-            break;
-        }
-        value = with_digit(value, c as u32 - 48);
-        count += 1;
-        rest = more;
-    }
-    (value, count, rest)
-}
-
 /// The number at the front, up to 65,535, and what follows.
+#[tactic(auto, using(crate::proofs::VainLaws::keeps_dropped))]
 fn number(text: &[char]) -> Option<(u32, &[char])>
     ensures value { MatchOption result
         (spec.number text.now ≡ None)
@@ -88,14 +48,11 @@ fn number(text: &[char]) -> Option<(u32, &[char])>
     ensures small { IfSome result (λ p. p.0 ≤ 65535) }
     ensures keeps { IfSome result (λ p. Keeps text.now p.1.now) }
 {
-    let (value, count, rest) = digits(text);
-    if count == 0 {
+    let (number, rest) = digits(text);
+    if number.count == 0 {
         return None;
     }
-    match value {
-        None => None,
-        Some(n) => Some((n, rest)),
-    }
+    Some((number.value?, rest))
 }
 
 fn offset(from_end: bool, by: i32) -> Offset
@@ -126,14 +83,14 @@ fn signed(from_end: bool, text: &[char]) -> Option<(Offset, &[char])>
     ensures keeps { IfSome result (λ p. Keeps text.now p.1.now) }
 {
     match front(text) {
-        Some(('+', more)) => match number(more) {
-            None => None,
-            Some((n, rest)) => Some((offset(from_end, forwards(n)), rest)),
-        },
-        Some(('-', more)) => match number(more) {
-            None => None,
-            Some((n, rest)) => Some((offset(from_end, backwards(n)), rest)),
-        },
+        Some(('+', more)) => {
+            let (n, rest) = number(more)?;
+            Some((offset(from_end, forwards(n)), rest))
+        }
+        Some(('-', more)) => {
+            let (n, rest) = number(more)?;
+            Some((offset(from_end, backwards(n)), rest))
+        }
         _ => Some((offset(from_end, 0), text)),
     }
 }
@@ -186,13 +143,9 @@ fn moved(text: &[char]) -> Option<(Adjust, &[char])>
         (λ p. spec.moved (spec.edge_at text.now) ≡ Some (p.0, p.1.now)) }
     ensures keeps { IfSome result (λ p. Keeps text.now p.1.now) }
 {
-    match edge_at(text) {
-        None => None,
-        Some((edge, rest)) => match place(rest) {
-            None => None,
-            Some((offset, left)) => Some((Adjust::Moves(edge, offset), left)),
-        },
-    }
+    let (edge, rest) = edge_at(text)?;
+    let (offset, left) = place(rest)?;
+    Some((Adjust::Moves(edge, offset), left))
 }
 
 /// The offset at the front, and what follows.
@@ -202,13 +155,11 @@ fn adjust_at(text: &[char]) -> Option<(Adjust, &[char])>
         (λ p. spec.adjust_at text.now ≡ Some (p.0, p.1.now)) }
     ensures keeps { IfSome result (λ p. Keeps text.now p.1.now) }
 {
-    match strip("lc=", text) {
-        None => moved(text),
-        Some(rest) => match number(rest) {
-            None => None,
-            Some((n, left)) => Some((Adjust::Leads(n), left)),
-        },
-    }
+    let Some(rest) = strip("lc=", text) else {
+        return moved(text);
+    };
+    let (n, left) = number(rest)?;
+    Some((Adjust::Leads(n), left))
 }
 
 const NO_ADJUSTS: Adjusts = Adjusts {
@@ -276,9 +227,7 @@ pub(crate) fn offsets(text: &[char]) -> Option<(Adjusts, &[char])>
     let mut turns = text;
     let mut rest = text;
     while let Some((_, fewer)) = front(turns) {
-        let Some((found, left)) = adjust_at(rest) else {
-            return None;
-        };
+        let (found, left) = adjust_at(rest)?;
         adjusts = with_adjust(adjusts, found);
         if ends_word(left) {
             return Some((adjusts, left));

@@ -1,5 +1,6 @@
 //! What is left of a line, and words taken from it.
 ghost use Rattle.std.specs.Prelude.{◌≡◌, [], false, IfOk, Some, None, MatchOption};
+ghost use Rattle.text_scan.specs.Characters as scan;
 ghost use Rattle.word_reader.specs.Delimited as delimited_spec;
 ghost use Rattle.word_reader.specs.Offsets as offsets_spec;
 ghost use Rattle.word_reader.specs.Vain.{Known};
@@ -8,10 +9,11 @@ ghost use Rattle.word_reader.specs.Words as spec;
 use crate::Adjusts;
 use crate::delimited::delimited;
 use crate::offsets::offsets;
-use crate::words::{Until, begins, behind_first, is_over, past, past_blanks, past_command, run};
+use crate::words::{Until, begins, behind_first, is_over, past, past_command, run};
 use std::alloc::Global;
 use std::marker::Model;
 use syn_base::{List, Memory};
+use text_scan::past_blanks;
 
 /// What is left of a line, which contracts see as its characters.
 #[derive(Drop)]
@@ -83,7 +85,7 @@ impl<'a> Reader<'a> {
     /// Passes blanks.
     #[tactic(auto, using(crate::proofs::VainLaws::known_blanks))]
     pub fn skip_blanks(&mut self)
-        ensures { self.new ≡ spec.past_blanks self.old }
+        ensures { self.new ≡ scan.past_blanks self.old }
     {
         self.rest = past_blanks(self.rest);
     }
@@ -159,9 +161,7 @@ impl<'a> Reader<'a> {
             (offsets_spec.offsets self.old ≡ None)
             (λ adjusts. offsets_spec.offsets self.old ≡ Some (adjusts, self.new)) }
     {
-        let Some((adjusts, rest)) = offsets(self.rest) else {
-            return None;
-        };
+        let (adjusts, rest) = offsets(self.rest)?;
         self.rest = rest;
         Some(adjusts)
     }

@@ -1,5 +1,6 @@
-use crate::{Adjusts, Reader, Until, abbreviates, front};
+use crate::{Adjusts, Reader, Until, abbreviates};
 use syn_base::{List, Memory};
+use text_scan::front;
 
 fn line(rt: &HostRuntime, text: &str) -> Result<List<char>, Memory> {
     Ok(List::from_vec(text.chars().collect(rt.alloc())?))

@@ -4,7 +4,7 @@ ghost use Rattle.pattern_items.specs.Collection.{collection_end};
 ghost use Rattle.word_reader.specs.Vain as spec;
 ghost use Rattle.word_reader.specs.Vain.{Known};
 
-use crate::words::front;
+use text_scan::front;
 use vim_pattern::collection_end;
 
 /// How many characters there are up to a `]`, with it, where neither a backslash nor an opening

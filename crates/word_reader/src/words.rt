@@ -5,6 +5,7 @@ ghost use Rattle.word_reader.specs.Words as spec;
 
 use std::alloc::Global;
 use syn_base::{List, Memory};
+use text_scan::{front, is_blank, is_digit, is_letter};
 
 /// Where a run of characters ends.
 #[derive(Clone, Copy, Debug, PartialEq, Eq)]
@@ -17,37 +18,6 @@ pub enum Until {
     ListName,
     /// At what isn't a letter, a digit or an underscore.
     OptionName,
-}
-
-/// The first element, and what follows it.
-pub fn front<T: Copy>(text: &[T]) -> Option<(T, &[T])>
-    ensures { MatchOption result (text.now ≡ []) (λ p. text.now ≡ p.0 ∷ p.1.now) }
-{
-    match text.split_first() {
-        None => None,
-        Some((c, rest)) => Some((*c, rest)),
-    }
-}
-
-/// Whether the character is a space or a tab.
-pub fn is_blank(c: char) -> bool
-    ensures { result ≡ spec.is_blank c }
-{
-    c == ' ' || c == '\t'
-}
-
-/// Whether the character is an ASCII letter.
-pub fn is_letter(c: char) -> bool
-    ensures { result ≡ spec.is_letter c }
-{
-    ('A' <= c && c <= 'Z') || ('a' <= c && c <= 'z')
-}
-
-/// Whether the character is an ASCII digit.
-pub fn is_digit(c: char) -> bool
-    ensures { result ≡ spec.is_digit c }
-{
-    '0' <= c && c <= '9'
 }
 
 pub(crate) fn stops(until: Until, c: char) -> bool
@@ -82,20 +52,6 @@ pub fn past(until: Until, text: &[char]) -> &[char]
     let mut rest = text;
     while let Some((c, more)) = front(rest) {
         if stops(until, c) {
-            break;
-        }
-        rest = more;
-    }
-    rest
-}
-
-/// What follows the blanks at the front of a text.
-pub fn past_blanks(text: &[char]) -> &[char]
-    ensures { result.now ≡ spec.past_blanks text.now }
-{
-    let mut rest = text;
-    while let Some((c, more)) = front(rest) {
-        if !is_blank(c) {
             break;
         }
         rest = more;
@@ -159,33 +115,14 @@ pub fn is_over(text: &[char]) -> bool
     }
 }
 
-fn lower(c: char) -> u32
-    ensures { result ≡ spec.lower c }
-{
-    if 'A' <= c && c <= 'Z' {
-        c as u32 + 32
-    } else {
-        c as u32
-    }
-}
-
-fn lower_byte(c: u8) -> u32
-    ensures { result ≡ spec.lower c }
-{
-    if b'A' <= c && c <= b'Z' {
-        c as u32 + 32
-    } else {
-        c as u32
-    }
-}
-
 fn alike(ignore: bool, c: char, d: u8) -> bool
     ensures { result ≡ spec.alike ignore c d }
 {
+    let d = char::from(d);
     if ignore {
-        lower(c) == lower_byte(d)
+        c.eq_ignore_ascii_case(&d)
     } else {
-        c as u32 == d as u32
+        c == d
     }
 }
 

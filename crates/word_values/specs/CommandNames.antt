@@ -3,7 +3,8 @@ use Rattle.std.specs.Prelude.{ℕ, nat_eq, not, ◌||◌, List, Option, Some, No
 use Rattle.word_values.specs.declared.command_names.CommandName.{CommandName}
 use Rattle.word_values.specs.declared.command_names.CommandName.TheVariants as name
 use Rattle.word_reader.specs.declared.words.Until.TheVariants as until
-use Rattle.word_reader.specs.Words.{run, is_letter, is_word, abbreviates}
+use Rattle.text_scan.specs.Characters.{is_letter}
+use Rattle.word_reader.specs.Words.{run, is_word, abbreviates}
 
 abbrev pub is_plain : Option Bool → Bool
 is_plain None = false

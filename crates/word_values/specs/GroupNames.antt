@@ -3,7 +3,8 @@ use Rattle.std.specs.Prelude.{ℕ, nat_eq, nat_le, not, ◌&&◌, ◌||◌, List
 use Rattle.std.specs.List.{list_all, list_any}
 use Rattle.syntax_set.specs.declared.item.Special.{Special}
 use Rattle.syntax_set.specs.declared.item.Special.TheVariants as special
-use Rattle.word_reader.specs.Words.{is_letter, is_digit, is_word_in_any_case}
+use Rattle.text_scan.specs.Characters.{is_digit, is_letter}
+use Rattle.word_reader.specs.Words.{is_word_in_any_case}
 
 -- a letter, a digit, `_`, `.` or `-`
 abbrev pub is_name_character : ℕ → Bool

@@ -1,4 +1,4 @@
--- Keys of a style, and colours (Vim's help, :highlight-args).
+-- Keys of a style, and colours (Vim's help, highlight-args).
 use Rattle.std.specs.Prelude.{ℕ, ◌+◌, ◌*◌, nat_eq, nat_lt, nat_le, ◌&&◌, ◌||◌, List, [], ◌∷◌, length, Option, Some, None, Bool, if◌then◌else◌, codes}
 use Rattle.std.specs.Char.{digit_value}
 use Rattle.word_values.specs.declared.style_words.StyleKey.{StyleKey}

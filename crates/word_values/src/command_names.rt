@@ -5,7 +5,8 @@ ghost use Rattle.word_values.specs.CommandNames as spec;
 
 use std::alloc::Global;
 use syn_base::Memory;
-use word_reader::{Until, abbreviates, is_letter, is_word, run};
+use text_scan::is_letter;
+use word_reader::{Until, abbreviates, is_word, run};
 
 /// A command by its first word.
 #[derive(Clone, Copy, Debug, PartialEq, Eq)]
@@ -25,29 +26,21 @@ pub enum CommandName {
 fn is_cut(word: &[char], least: usize, full: &str) -> bool
     ensures { result ≡ spec.is_plain (abbreviates least full.now word.now) }
 {
-    match abbreviates(least, full, word) {
-        None => false,
-        Some(bang) => !bang,
-    }
+    matches!(abbreviates(least, full, word), Some(false))
 }
 
 /// The same, with a `!` or without.
 fn is_cut_or_banged(word: &[char], least: usize, full: &str) -> bool
     ensures { result ≡ spec.is_some_way (abbreviates least full.now word.now) }
 {
-    match abbreviates(least, full, word) {
-        None => false,
-        Some(_) => true,
-    }
+    abbreviates(least, full, word).is_some()
 }
 
 fn highlight_name(word: &[char]) -> Option<CommandName>
     ensures { result ≡ spec.highlight_name word.now }
 {
-    match abbreviates(2, "highlight", word) {
-        None => None,
-        Some(force) => Some(CommandName::Highlight { force }),
-    }
+    let force = abbreviates(2, "highlight", word)?;
+    Some(CommandName::Highlight { force })
 }
 
 /// The command that a word names.

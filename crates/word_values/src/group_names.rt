@@ -3,7 +3,8 @@ ghost use Rattle.std.specs.Prelude.{◌≡◌};
 ghost use Rattle.word_values.specs.GroupNames as spec;
 
 use syntax_set::Special;
-use word_reader::{is_digit, is_letter, is_word_in_any_case};
+use text_scan::{is_digit, is_letter};
+use word_reader::is_word_in_any_case;
 
 /// The most characters of a group's name.
 const MOST_CHARACTERS: usize = 200;

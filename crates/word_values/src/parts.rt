@@ -2,7 +2,7 @@
 ghost use Rattle.std.specs.Prelude.{◌≡◌};
 ghost use Rattle.word_values.specs.Parts as spec;
 
-use word_reader::front;
+use text_scan::front;
 
 /// Whether this part stands at the front of a text, up to a separator or the end.
 fn part_here(separator: char, part: &[u8], text: &[char]) -> bool

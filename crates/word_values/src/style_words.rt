@@ -2,9 +2,10 @@
 ghost use Rattle.std.specs.Prelude.{◌≡◌, ◌≤◌, IfSome};
 ghost use Rattle.word_values.specs.StyleWords as spec;
 
-use word_reader::{front, is_word};
+use text_scan::front;
+use word_reader::is_word;
 
-/// A key of a style (`:highlight-args`).
+/// A key of a style (`highlight-args`).
 #[derive(Clone, Copy, Debug, PartialEq, Eq)]
 pub enum StyleKey {
     /// `guifg`.
@@ -55,15 +56,11 @@ fn with_hex(n: u32, c: char) -> Option<u32>
     ensures value { result ≡ spec.with_hex n c }
     ensures small { IfSome result (λ m. m ≤ 16777215) }
 {
-    match c.to_digit(16) {
-        None => None,
-        Some(digit) => {
-            if n * 16 + digit <= 0xFFFFFF {
-                Some(n * 16 + digit)
-            } else {
-                None
-            }
-        }
+    let longer = n * 16 + c.to_digit(16)?;
+    if longer <= 0xFFFFFF {
+        Some(longer)
+    } else {
+        None
     }
 }
 
@@ -77,13 +74,8 @@ pub fn rgb(digits: &[char]) -> Option<u32>
     let mut n = 0;
     let mut rest = digits;
     while let Some((c, more)) = front(rest) {
-        match with_hex(n, c) {
-            None => return None,
-            Some(m) => {
-                n = m;
-                rest = more;
-            }
-        }
+        n = with_hex(n, c)?;
+        rest = more;
     }
     Some(n)
 }
