@@ -8,7 +8,7 @@
 //!                                   for a dash; other options are none and `number`
 
 ghost use Rattle.std.specs.Prelude.{◌<◌, [], ◌∷◌, length, All, IsTrue};
-ghost use Rattle.html_writer.specs.Page.{IsFromColumn};
+ghost use Rattle.syn_base.specs.SpansFit.{IsFromColumn};
 
 use crate::fault::{Fault, number_of, printed, two_of};
 use crate::links::Shown;

@@ -10,9 +10,7 @@ ghost use Rattle.std.specs.Prelude.{◌<◌, length};
 
 use crate::fault::{Fault, add_answer, number_of, told};
 use std::alloc::Global;
-use syn_base::{
-    List, MemorySource, Place, Put, Sink, Source, StdSink, StdSource, Taken, put_all,
-};
+use syn_base::{List, MemorySource, Place, Put, Sink, Source, StdSink, StdSource, Taken, put_all};
 
 /// How many bytes a buffer has at most.
 const MOST: usize = 1000;
@@ -77,12 +75,7 @@ pub(crate) fn writer(alloc: Global, arguments: &[&str]) -> Result<String, Fault>
 }
 
 /// Whether a sink takes all of a text, and how many bytes of each more text.
-fn puts<S: Sink>(
-    alloc: Global,
-    sink: &mut S,
-    text: &str,
-    more: &[&str],
-) -> Result<String, Fault> {
+fn puts<S: Sink>(alloc: Global, sink: &mut S, text: &str, more: &[&str]) -> Result<String, Fault> {
     let mut answers = told(alloc, put_all(sink, text.as_bytes()))?;
     for piece in more {
         add_answer(&mut answers, taking(alloc, sink, piece)?.as_str())?;

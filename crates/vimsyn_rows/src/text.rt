@@ -1,7 +1,7 @@
 //! Words, names and texts of a session: bytes, escapes and repetitions.
 
 use crate::mistake::{Mistake, Unread};
-use byte_text::push_number;
+use byte_text::{push_number, push_number_from_one};
 use std::alloc::Global;
 
 /// The most bytes of a text, and the most turns of a repetition.
@@ -44,11 +44,11 @@ pub(crate) fn push_text(alloc: Global, bytes: &mut Vec<u8>, text: &[u8]) -> Resu
 }
 
 /// Appends a repetition, and answers what stands behind its end.
-fn push_repetition<'p>(
+fn push_repetition<'p, 't>(
     bytes: &mut Vec<u8>,
     count: usize,
-    pieces: &'p [Piece<'p>],
-) -> Result<&'p [Piece<'p>], Unread> {
+    pieces: &'p [Piece<'t>],
+) -> Result<&'p [Piece<'t>], Unread> {
     let Some((repeated, behind)) = split_at_closing(pieces) else {
         return Err(Unread::Mistake(Mistake::Repetition));
     };
@@ -61,33 +61,25 @@ fn push_repetition<'p>(
 }
 
 /// The pieces before the first end of a repetition, and those behind it.
-fn split_at_closing<'p>(pieces: &'p [Piece<'p>]) -> Option<(&'p [Piece<'p>], &'p [Piece<'p>])> {
+fn split_at_closing<'p, 't>(pieces: &'p [Piece<'t>]) -> Option<(&'p [Piece<'t>], &'p [Piece<'t>])> {
     let mut parts = pieces.splitn(2, |piece: &Piece<'_>| matches!(piece, Piece::Closing));
     Some((parts.next()?, parts.next()?))
 }
 
-/// Appends the bytes of a piece that is no part of a repetition's bounds.
+/// Appends the bytes of a piece that is no bound of a repetition; `turn` is that of the repetition in which
+/// it stands, if it stands in one.
 fn push_piece(bytes: &mut Vec<u8>, piece: Piece<'_>, turn: Option<usize>) -> Result<(), Unread> {
     match piece {
         Piece::Plain(plain) => bytes.extend_from_slice(plain)?,
         Piece::Byte(byte) => bytes.push(byte)?,
         Piece::Nothing => {}
-        Piece::Turn => push_turn(bytes, turn, 0)?,
-        Piece::NextTurn => push_turn(bytes, turn, 1)?,
+        Piece::Turn => push_number(bytes, turn.ok_or(Mistake::Nested)?)?,
+        Piece::NextTurn => push_number_from_one(bytes, turn.ok_or(Mistake::Nested)?)?,
         Piece::Opening(_) | Piece::Closing => return Err(Unread::Mistake(Mistake::Nested)),
     }
     if bytes.len() > MOST_BYTES {
         return Err(Unread::Mistake(Mistake::TooLong));
     }
-    Ok(())
-}
-
-/// Appends the number of the turn and so many more, if there is a turn.
-fn push_turn(bytes: &mut Vec<u8>, turn: Option<usize>, more: u8) -> Result<(), Unread> {
-    let Some(turn) = turn else {
-        return Err(Unread::Mistake(Mistake::Nested));
-    };
-    push_number(bytes, turn as u128 + more as u128)?;
     Ok(())
 }
 
