@@ -1,10 +1,9 @@
 -- Spelled commands, and lines of them, read back.
-use Rattle.std.proofs.Common.{◌≡◌, ℕ, suc, ◌+◌, ◌<◌, ◌≤◌, Bool, true, false, List, [], ◌∷◌, ◌++◌, length, refl, ap, sym, subst, ◌∙◌, cond, arith, append_assoc, length-append}
-use Rattle.std.specs.Prelude.{Option, Some, None, Result, Ok, Err, codes, nat_eq, not, ◌&&◌, ◌||◌, if◌then◌else◌}
+use Rattle.std.proofs.Common.{◌≡◌, ℕ, ◌<◌, ◌≤◌, Bool, true, false, List, [], ◌∷◌, ◌++◌, length, refl, ap, sym, ◌∙◌, arith, append_assoc, length-append}
+use Rattle.std.specs.Prelude.{Option, Some, None, Result, Ok, codes, if◌then◌else◌}
 use Rattle.std.proofs.lemmas.List.{append-nil}
-use Rattle.text_scan.specs.Characters.{past_blanks}
 use Rattle.word_reader.specs.declared.words.Until.TheVariants as until
-use Rattle.word_reader.specs.Words.{begins, behind_first, is_over, is_word, past, run}
+use Rattle.word_reader.specs.Words.{is_over, is_word, past}
 use Rattle.word_values.specs.GroupNames.{is_listed, is_none}
 use Rattle.syn_words.specs.declared.cause.Cause.{Cause}
 use Rattle.syn_words.specs.declared.first_words.Said.{Said}
@@ -21,7 +20,7 @@ use Rattle.syn_words.specs.Answers.{Read, ◌>>=◌}
 use Rattle.syn_words.specs.Arguments.{argument}
 use Rattle.syn_words.specs.Commands.{clear_command, clear_whole, cleared, cleared_after, command, item_command, iskeyword_command, keyword_set}
 use Rattle.syn_words.specs.Highlight.{link_command, link_target}
-use Rattle.syn_words.specs.Names.{group_argument, group_name}
+use Rattle.syn_words.specs.Names.{group_name}
 use Rattle.syn_words.specs.Pieces.{pieces}
 use Rattle.syn_words.specs.Spelled.{AreCleared, ArePlainPieces, HasItsPatterns, IsPlain, IsPlainCleared, IsPlainTarget, bang_text, begins_word, cleared_text, default_text, is_one_word, kind_text, named_text, pieces_text, target_text, what_text}
 use Rattle.syn_words.proofs.WordLaws.{otherwise, past_word, run_word}
@@ -36,7 +35,8 @@ done w = Ok (w, [])
 
 -- Items.
 
-item_at : (kind : ItemCommand) (text : List ℕ) → command (kind_text kind ++ text) ≡ does (item_command kind (32 ∷ text))
+item_at : (kind : ItemCommand) (text : List ℕ)
+    → command (kind_text kind ++ text) ≡ does (item_command kind (32 ∷ text))
 item_at Keyword text = refl
 item_at Match text = refl
 item_at Region text = refl
@@ -47,7 +47,9 @@ with_group kind r = r >>= λ group. pieces kind group.1 >>= λ found. Ok (what.I
 abbrev with_pieces : ItemCommand → List ℕ → Read (List Piece) → Read What
 with_pieces kind group r = r >>= λ found. Ok (what.Item kind group found.0, found.1)
 
-item_read : (kind : ItemCommand) (group : List ℕ) (ps : List Piece) → is_listed group ≡ true → ArePlainPieces kind ps → HasItsPatterns kind ps → item_command kind (32 ∷ group ++ pieces_text ps) ≡ done (what.Item kind group ps)
+item_read : (kind : ItemCommand) (group : List ℕ) (ps : List Piece) → is_listed group ≡ true
+    → ArePlainPieces kind ps → HasItsPatterns kind ps
+    → item_command kind (32 ∷ group ++ pieces_text ps) ≡ done (what.Item kind group ps)
 item_read kind group ps listed plain has =
     ap (λ (rest : List ℕ). item_command kind (32 ∷ group ++ rest)) (tail_is ps)
     ∙ ap (with_group kind) (group_argument_word group (tail_of ps) listed)
@@ -59,10 +61,12 @@ item_read kind group ps listed plain has =
 abbrev with_value : Read (List ℕ) → Read What
 with_value r = r >>= λ word. alone (what.Iskeyword (keyword_set word.0)) word.1
 
-value_set : (value : List ℕ) → is_word value (codes "clear") ≡ false → keyword_set value ≡ Some value
+value_set : (value : List ℕ) → is_word value (codes "clear") ≡ false
+    → keyword_set value ≡ Some value
 value_set value is = rw is refl
 
-iskeyword_read : (value : List ℕ) → is_one_word value ≡ true → is_word value (codes "clear") ≡ false → iskeyword_command (32 ∷ value) ≡ done (what.Iskeyword (Some value))
+iskeyword_read : (value : List ℕ) → is_one_word value ≡ true → is_word value (codes "clear") ≡ false
+    → iskeyword_command (32 ∷ value) ≡ done (what.Iskeyword (Some value))
 iskeyword_read value one other =
     ap (λ (rest : List ℕ). iskeyword_command (32 ∷ rest)) (sym (append-nil value))
     ∙ ap with_value (argument_word value None one)
@@ -76,7 +80,9 @@ to_link unset force from r = r >>= λ word. link_target word.0 >>= λ to. alone 
 abbrev from_link : Bool → Bool → Read (List ℕ) → Read What
 from_link unset force r = r >>= λ from. to_link unset force from.0 (argument from.1)
 
-link_at : (unset force : Bool) (rest : List ℕ) → command (bang_text force ++ default_text unset ++ rest) ≡ does (link_command unset force (32 ∷ rest))
+link_at : (unset force : Bool) (rest : List ℕ)
+    → command (bang_text force ++ default_text unset ++ rest)
+    ≡ does (link_command unset force (32 ∷ rest))
 link_at true true rest = refl
 link_at true false rest = refl
 link_at false true rest = refl
@@ -100,7 +106,10 @@ target_read (Some name) plain = named_target name plain
 abbrev linked : Bool → Bool → List ℕ → Result (Option (List ℕ)) Cause → Read What
 linked unset force from r = r >>= λ to. alone (what.Link from to unset force) []
 
-link_read : (unset force : Bool) (from : List ℕ) (to : Option (List ℕ)) → is_listed from ≡ true → IsPlainTarget to → link_command unset force (32 ∷ from ++ 32 ∷ target_text to) ≡ done (what.Link from to unset force)
+link_read : (unset force : Bool) (from : List ℕ) (to : Option (List ℕ)) → is_listed from ≡ true
+    → IsPlainTarget to
+    → link_command unset force (32 ∷ from ++ 32 ∷ target_text to)
+    ≡ done (what.Link from to unset force)
 link_read unset force from to listed plain =
     ap (from_link unset force) (group_argument_word from (Some (target_text to)) listed)
     ∙ ap (λ (word : List ℕ). to_link unset force from (argument (32 ∷ word))) (sym (append-nil (target_text to)))
@@ -115,7 +124,8 @@ as_group rest r = r >>= λ name. Ok (named.Group name, rest)
 abbrev as_cluster : List ℕ → Result (List ℕ) Cause → Read Named
 as_cluster rest r = r >>= λ name. Ok (named.Cluster name, rest)
 
-cleared_read : (n : Named) (tail : Option (List ℕ)) → IsPlainCleared n → cleared (named_text n ++ behind tail) ≡ Ok (n, behind tail)
+cleared_read : (n : Named) (tail : Option (List ℕ)) → IsPlainCleared n
+    → cleared (named_text n ++ behind tail) ≡ Ok (n, behind tail)
 cleared_read (named.Names pattern) tail plain = absurd plain
 cleared_read (named.Group name) tail plain =
     let one = listed_word name plain in
@@ -149,10 +159,12 @@ clear_rest so_far turns r = r >>= λ p. cleared_after (so_far ++ p.0 ∷ []) tur
 abbrev clear_turn : List Named → List ℕ → List ℕ → Read What
 clear_turn so_far turns text = if is_over text then Ok (clear_whole so_far, text) else clear_rest so_far turns (cleared text)
 
-clear_turn_at : (so_far : List Named) (turns text : List ℕ) → is_over text ≡ false → clear_turn so_far turns text ≡ clear_rest so_far turns (cleared text)
+clear_turn_at : (so_far : List Named) (turns text : List ℕ) → is_over text ≡ false
+    → clear_turn so_far turns text ≡ clear_rest so_far turns (cleared text)
 clear_turn_at so_far turns text is = rw is refl
 
-clear_read : (ns so_far : List Named) (turns : List ℕ) → length ns < length turns → AreCleared ns → cleared_after so_far turns (cleared_text ns) ≡ done (clear_whole (so_far ++ ns))
+clear_read : (ns so_far : List Named) (turns : List ℕ) → length ns < length turns → AreCleared ns
+    → cleared_after so_far turns (cleared_text ns) ≡ done (clear_whole (so_far ++ ns))
 clear_read ns so_far [] enough plain = absurd (omega (arith, enough))
 clear_read [] so_far (t ∷ turns) enough plain = ap (λ (all : List Named). done (clear_whole all)) (sym (append-nil so_far))
 clear_read (n ∷ ns) so_far (t ∷ turns) enough plain =
@@ -173,7 +185,8 @@ cleared_longer (n ∷ ns) =
     let both = length-append (named_text n) (cleared_text ns) in
     omega (arith, later, both)
 
-all_cleared : (n : Named) (ns : List Named) → IsPlainCleared n → AreCleared ns → clear_command (cleared_text (n ∷ ns)) ≡ done (what.Clear (n ∷ ns))
+all_cleared : (n : Named) (ns : List Named) → IsPlainCleared n → AreCleared ns
+    → clear_command (cleared_text (n ∷ ns)) ≡ done (what.Clear (n ∷ ns))
 all_cleared n ns first more =
     let later = cleared_longer ns in
     let both = length-append (named_text n) (cleared_text ns) in
@@ -183,10 +196,12 @@ all_cleared n ns first more =
 
 -- Each command.
 
-clear_at : (text : List ℕ) → command (codes "syn clear" ++ 32 ∷ text) ≡ does (clear_command (32 ∷ text))
+clear_at : (text : List ℕ)
+    → command (codes "syn clear" ++ 32 ∷ text) ≡ does (clear_command (32 ∷ text))
 clear_at text = refl
 
-value_at : (text : List ℕ) → command (codes "syn iskeyword " ++ text) ≡ does (iskeyword_command (32 ∷ text))
+value_at : (text : List ℕ)
+    → command (codes "syn iskeyword " ++ text) ≡ does (iskeyword_command (32 ∷ text))
 value_at text = refl
 
 pub command_read : (w : What) → IsPlain w → command (what_text w) ≡ Ok (Does w, [])

@@ -1,7 +1,6 @@
 -- Lines of spelled commands, and files of them, read back.
-use Rattle.std.proofs.Common.{◌≡◌, ℕ, suc, ◌<◌, Bool, true, false, List, [], ◌∷◌, ◌++◌, map, refl, ap, sym, ◌∙◌, cond, arith, append_assoc}
-use Rattle.std.specs.Prelude.{Option, Some, None, Result, Ok, Err, nat_eq, nat_lt, not, ◌&&◌, if◌then◌else◌}
-use Rattle.std.specs.List.{list_all}
+use Rattle.std.proofs.Common.{◌≡◌, ℕ, suc, Bool, true, false, List, [], ◌∷◌, ◌++◌, map, refl, ap, sym, ◌∙◌, append_assoc}
+use Rattle.std.specs.Prelude.{Some, None, Ok, nat_eq, nat_lt, not, ◌&&◌, if◌then◌else◌}
 use Rattle.std.specs.Str.{IsAscii, chars, is_utf8}
 use Rattle.std.proofs.lemmas.List.{append-nil}
 use Rattle.std.proofs.lemmas.Str.{IsUtf8-from_ascii, chars-IsAscii, is_utf8-from_IsUtf8}
@@ -25,7 +24,7 @@ use Rattle.syn_words.specs.declared.what.What.{What}
 use Rattle.syn_words.specs.declared.what.What.TheVariants as what
 use Rattle.syn_words.specs.Answers.{Read}
 use Rattle.syn_words.specs.Commands.{command}
-use Rattle.syn_words.specs.FileCommands.{by_said, commands_in, commands_of, line_after, line_is_over, lines_after, no_progress, read_one, whole, with_command}
+use Rattle.syn_words.specs.FileCommands.{by_said, commands_in, commands_of, line_after, line_is_over, lines_after, read_one, whole}
 use Rattle.syn_words.specs.Spelled.{ArePlain, IsPlain, begins_word, file_text, is_line, numbered, what_text}
 use Rattle.syn_words.proofs.SpelledCommands.{command_read}
 use Rattle.syn_words.proofs.SpelledWords.{no_bar, no_blank, no_quote}
@@ -52,10 +51,14 @@ first_blank c cs is = let blank = no_blank c cs is in rw blank refl
 abbrev read_so : List Command → ℕ → List ℕ → Read Said → Progress
 read_so list number turns r = line_after (by_said (so_far list) number r).0 number turns (by_said (so_far list) number r).1
 
-turn_at : (list : List Command) (number c : ℕ) (cs turns : List ℕ) → nat_eq c 34 ≡ false → nat_eq c 124 ≡ false → turn list number turns (c ∷ cs) ≡ read_so list number turns (command (c ∷ cs))
+turn_at : (list : List Command) (number c : ℕ) (cs turns : List ℕ) → nat_eq c 34 ≡ false
+    → nat_eq c 124 ≡ false
+    → turn list number turns (c ∷ cs) ≡ read_so list number turns (command (c ∷ cs))
 turn_at list number c cs turns quote bar = rw (quote, bar) refl
 
-line_read : (list : List Command) (number : ℕ) (text : List ℕ) (w : What) → begins_word text ≡ true → command text ≡ Ok (Does w, []) → line_after (so_far list) number text text ≡ so_far (more list number w)
+line_read : (list : List Command) (number : ℕ) (text : List ℕ) (w : What) → begins_word text ≡ true
+    → command text ≡ Ok (Does w, [])
+    → line_after (so_far list) number text text ≡ so_far (more list number w)
 line_read list number [] w begin is = absurd cc
 line_read list number (c ∷ cs) w begin is =
     ap (turn list number cs) (first_blank c cs begin)
@@ -91,7 +94,8 @@ abbrev lines_of : ℕ → List What → List LogicalLine
 lines_of number [] = []
 lines_of number (w ∷ ws) = line_of number w ∷ lines_of (suc number) ws
 
-lines_read : (ws : List What) (list : List Command) (number : ℕ) → ArePlain ws → lines_after (so_far list) (lines_of number ws) ≡ so_far (list ++ numbered number ws)
+lines_read : (ws : List What) (list : List Command) (number : ℕ) → ArePlain ws
+    → lines_after (so_far list) (lines_of number ws) ≡ so_far (list ++ numbered number ws)
 lines_read [] list number plain = ap so_far (sym (append-nil list))
 lines_read (w ∷ ws) list number plain =
     ap (λ p. lines_after p (lines_of (suc number) ws)) (line_read list number (what_text w) w (what_begins w plain.0) (command_read w plain.0))
@@ -109,7 +113,8 @@ line_ascii (c ∷ cs) is =
     let here = and_left (is_line_character c) (is_line cs) is in
     IsAscii-cons c cs (ltb-true c 128 (and_left (nat_lt c 128) (not (nat_eq c 10)) here)) (line_ascii cs (and_right (is_line_character c) (is_line cs) is))
 
-line_broken : (text rest : List ℕ) → is_line text ≡ true → pieces_of (text ++ 10 ∷ rest) ≡ text ∷ pieces_of rest
+line_broken : (text rest : List ℕ) → is_line text ≡ true
+    → pieces_of (text ++ 10 ∷ rest) ≡ text ∷ pieces_of rest
 line_broken [] rest is = refl
 line_broken (c ∷ cs) rest is =
     let unbroken = not_true (nat_eq c 10) (and_right (nat_lt c 128) (not (nat_eq c 10)) (and_left (is_line_character c) (is_line cs) is)) in
@@ -134,11 +139,13 @@ without_last (line ∷ []) = by_first line
     by_first (c ∷ cs) = refl
 without_last (line ∷ next ∷ lines) = by_first line (without_last (next ∷ lines))
   where
-    by_first : (line : List ℕ) → without_empty_last (next ∷ (lines ++ [] ∷ [])) ≡ next ∷ lines → without_empty_last (line ∷ next ∷ (lines ++ [] ∷ [])) ≡ line ∷ next ∷ lines
+    by_first : (line : List ℕ) → without_empty_last (next ∷ (lines ++ [] ∷ [])) ≡ next ∷ lines
+        → without_empty_last (line ∷ next ∷ (lines ++ [] ∷ [])) ≡ line ∷ next ∷ lines
     by_first [] rest = ap (λ ls. [] ∷ ls) rest
     by_first (c ∷ cs) rest = ap (λ ls. (c ∷ cs) ∷ ls) rest
 
-file_lines : (w : What) (ws : List What) → ArePlain (w ∷ ws) → byte_lines (file_text (w ∷ ws)) ≡ texts_of (w ∷ ws)
+file_lines : (w : What) (ws : List What) → ArePlain (w ∷ ws)
+    → byte_lines (file_text (w ∷ ws)) ≡ texts_of (w ∷ ws)
 file_lines w ws plain =
     ap lines_of_pieces (file_pieces (w ∷ ws) plain) ∙ ap (λ ls. what_text w ∷ ls) (without_last (texts_of ws))
 
@@ -188,19 +195,22 @@ nothing_appended : (ws : List What) → ArePlain ws → appended (texts_of ws) �
 nothing_appended [] plain = refl
 nothing_appended (w ∷ ws) plain = ap (appended_by (texts_of ws)) (what_starts w plain.0)
 
-from_line : (number : ℕ) (w : What) (ws : List What) → ArePlain (w ∷ ws) → logical number (what_text w) (texts_of ws) ≡ line_of number w
+from_line : (number : ℕ) (w : What) (ws : List What) → ArePlain (w ∷ ws)
+    → logical number (what_text w) (texts_of ws) ≡ line_of number w
 from_line number w ws plain =
     ap (λ rest. line_with number (what_text w ++ rest)) (nothing_appended ws plain.2)
     ∙ ap (line_with number) (append-nil (what_text w))
 
-lines_after_first : (ws : List What) (number : ℕ) → ArePlain ws → lines_from number (texts_of ws) ≡ lines_of number ws
+lines_after_first : (ws : List What) (number : ℕ) → ArePlain ws
+    → lines_from number (texts_of ws) ≡ lines_of number ws
 lines_after_first [] number plain = refl
 lines_after_first (w ∷ ws) number plain =
     ap (from_by number (what_text w) (texts_of ws)) (what_starts w plain.0)
     ∙ ap (λ line. line ∷ lines_from (suc number) (texts_of ws)) (from_line number w ws plain)
     ∙ ap (λ lines. line_of number w ∷ lines) (lines_after_first ws (suc number) plain.2)
 
-lines_joined : (w : What) (ws : List What) → ArePlain (w ∷ ws) → joined_lines (texts_of (w ∷ ws)) ≡ lines_of 1 (w ∷ ws)
+lines_joined : (w : What) (ws : List What) → ArePlain (w ∷ ws)
+    → joined_lines (texts_of (w ∷ ws)) ≡ lines_of 1 (w ∷ ws)
 lines_joined w ws plain =
     ap (λ line. line ∷ lines_from 2 (texts_of ws)) (from_line 1 w ws plain)
     ∙ ap (λ lines. line_of 1 w ∷ lines) (lines_after_first ws 2 plain.2)
@@ -208,7 +218,8 @@ lines_joined w ws plain =
 abbrev read_lines : List LogicalLine → LogicalLines
 read_lines lines = Lines lines
 
-file_is : (w : What) (ws : List What) → ArePlain (w ∷ ws) → logical_lines_of (file_text (w ∷ ws)) ≡ Lines (lines_of 1 (w ∷ ws))
+file_is : (w : What) (ws : List What) → ArePlain (w ∷ ws)
+    → logical_lines_of (file_text (w ∷ ws)) ≡ Lines (lines_of 1 (w ∷ ws))
 file_is w ws plain =
     ap (λ lines. lines_unless (first_bad 1 lines) lines) (file_lines w ws plain)
     ∙ ap (λ bad. lines_unless bad (texts_of (w ∷ ws))) (all_good (w ∷ ws) 1 plain)

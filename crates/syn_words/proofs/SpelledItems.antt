@@ -1,6 +1,6 @@
 -- All pieces of a spelled item, read back.
-use Rattle.std.proofs.Common.{◌≡◌, ℕ, suc, ◌+◌, ◌<◌, ◌≤◌, Bool, true, false, List, [], ◌∷◌, ◌++◌, length, refl, ap, sym, subst, ◌∙◌, cond, arith, append_assoc, length-append}
-use Rattle.std.specs.Prelude.{Option, Some, None, Result, Ok, Err, count_by, is_none, nat_eq, not, ◌&&◌, ◌||◌, if◌then◌else◌}
+use Rattle.std.proofs.Common.{◌≡◌, ℕ, ◌+◌, ◌<◌, ◌≤◌, Bool, true, false, List, [], ◌∷◌, ◌++◌, length, refl, ap, sym, ◌∙◌, cond, arith, append_assoc, length-append}
+use Rattle.std.specs.Prelude.{Option, Some, None, Result, Ok, is_none, nat_eq, not, ◌&&◌, if◌then◌else◌}
 use Rattle.std.proofs.lemmas.List.{append-nil}
 use Rattle.std.proofs.lemmas.List.Sums.{sum_by-cons}
 use Rattle.syntax_set.specs.declared.item.Special.{Special}
@@ -8,7 +8,7 @@ use Rattle.syntax_set.specs.declared.item.Special.TheVariants as special
 use Rattle.text_scan.specs.Characters.{is_blank, past_blanks}
 use Rattle.word_reader.specs.declared.words.Until.TheVariants as until
 use Rattle.word_reader.specs.Words.{begins, behind_first, past, run, stops}
-use Rattle.word_values.specs.GroupNames.{is_listed, is_none as is_none_word, is_pattern, special_of}
+use Rattle.word_values.specs.GroupNames.{is_listed, is_none as is_none_word, is_pattern}
 use Rattle.syn_words.specs.declared.cause.Cause.{Cause}
 use Rattle.syn_words.specs.declared.options.OptionWord.{OptionWord}
 use Rattle.syn_words.specs.declared.what.Field.{Field}
@@ -28,18 +28,20 @@ use Rattle.syn_words.specs.declared.what.Role.TheVariants as role
 use Rattle.syn_words.specs.declared.pieces.Seen.{Seen}
 use Rattle.syn_words.specs.Answers.{Read, ◌>>=◌}
 use Rattle.syn_words.specs.Arguments.{value_start}
-use Rattle.syn_words.specs.Lists.{list_value, names_after, names_from, no_names, special_here, with_cluster, with_group, with_name, with_named, with_word}
+use Rattle.syn_words.specs.Lists.{list_value, names_after, names_from, no_names, special_here, with_name, with_named, with_word}
 use Rattle.syn_words.specs.Names.{cluster_in_list, group_in_list, group_name}
 use Rattle.syn_words.specs.Options.{option_of}
-use Rattle.syn_words.specs.Pieces.{begins_pattern, cchar, group_or_none, may_be_special, matchgroup, missing, names, nothing_seen, only_character, piece_at, piece_by, pieces, pieces_after, pieces_end, pieces_so_far, pieces_whole, plain_piece, quote_as, with_piece}
+use Rattle.syn_words.specs.Pieces.{cchar, group_or_none, may_be_special, matchgroup, missing, names, nothing_seen, only_character, piece_at, piece_by, pieces, pieces_after, pieces_end, pieces_so_far, pieces_whole, quote_as, with_piece}
 use Rattle.syn_words.specs.Spelled.{ArePlainNames, ArePlainPieces, AreSomeNames, HasItsPatterns, IsPlainList, IsPlainNamed, IsPlainPiece, begins_word, field_text, flag_text, further_text, has_role, is_one_word, is_plain_keyword, may_list, may_quote, named_text, names_text, piece_text, pieces_text, quote_count, quoted_text, role_text}
 use Rattle.syn_words.proofs.WordLaws.{and_left, and_right, ends_run, goes_on, not_true, otherwise, past_word, run_behind, run_word}
 use Rattle.syn_words.proofs.SpelledPieces.{flag_read, quote_read}
-use Rattle.syn_words.proofs.SpelledWords.{behind, key_ends, listed_group, listed_word, name_begins, name_ends, name_in_list, no_bar, no_blank, no_quote, not_at, not_none, not_special, one_word_begins, or_left, or_right, value_word, word_begins, word_ends, word_goes_on}
+use Rattle.syn_words.proofs.SpelledWords.{behind, key_ends, listed_group, listed_word, name_begins, name_ends, name_in_list, no_bar, no_quote, not_at, not_none, not_special, one_word_begins, or_left, or_right, value_word, word_begins, word_ends, word_goes_on}
 
 -- Blanks.
 
-by_blank : (b : Bool) (c : ℕ) (cs : List ℕ) → is_blank c ≡ b → past_blanks (past_blanks cs) ≡ past_blanks cs → past_blanks (cond b (past_blanks cs) (c ∷ cs)) ≡ cond b (past_blanks cs) (c ∷ cs)
+by_blank : (b : Bool) (c : ℕ) (cs : List ℕ) → is_blank c ≡ b
+    → past_blanks (past_blanks cs) ≡ past_blanks cs
+    → past_blanks (cond b (past_blanks cs) (c ∷ cs)) ≡ cond b (past_blanks cs) (c ∷ cs)
 by_blank true c cs is twice = twice
 by_blank false c cs is twice = rw is refl
 
@@ -52,20 +54,25 @@ blanks_once (c ∷ cs) = by_blank (is_blank c) c cs refl (blanks_once cs)
 abbrev one_more : NamedList → List ℕ → Read Named → Read NamedList
 one_more list rest r = r >>= λ found. Ok (with_named list found.0, found.1)
 
-cluster_named : (name : List ℕ) → is_listed name ≡ true → cluster_in_list name ≡ Ok (named.Cluster name)
+cluster_named : (name : List ℕ) → is_listed name ≡ true
+    → cluster_in_list name ≡ Ok (named.Cluster name)
 cluster_named name is = rw is refl
 
-group_named : (name : List ℕ) → is_listed name ≡ true → is_pattern name ≡ false → group_in_list name ≡ Ok (named.Group name)
+group_named : (name : List ℕ) → is_listed name ≡ true → is_pattern name ≡ false
+    → group_in_list name ≡ Ok (named.Group name)
 group_named name is plain = rw (plain, is) refl
 
 abbrev listed_as : NamedList → List ℕ → Result Named Cause → Read NamedList
 listed_as list rest r = r >>= λ found. Ok (with_named list found, rest)
 
-here_plain : (b : Bool) (name : List ℕ) → is_listed name ≡ true → special_here b name ≡ special.Plain
+here_plain : (b : Bool) (name : List ℕ) → is_listed name ≡ true
+    → special_here b name ≡ special.Plain
 here_plain true name is = not_special name is
 here_plain false name is = refl
 
-pub name_read : (b : Bool) (list : NamedList) (n : Named) (rest : List ℕ) → IsPlainNamed n → ends_run until.ListName rest ≡ true → with_name b list (named_text n ++ rest) ≡ Ok (with_named list n, rest)
+pub name_read : (b : Bool) (list : NamedList) (n : Named) (rest : List ℕ) → IsPlainNamed n
+    → ends_run until.ListName rest ≡ true
+    → with_name b list (named_text n ++ rest) ≡ Ok (with_named list n, rest)
 name_read b list (named.Names pattern) rest plain end = absurd plain
 name_read b list (named.Cluster name) rest plain end =
     let word = run_word until.ListName name rest (name_in_list name plain) end in
@@ -101,7 +108,9 @@ go_on turns r = r >>= λ longer. if begins 44 (past_blanks longer.1) then names_
 abbrev list_answer : List ℕ → NamedList → Read NamedList
 list_answer rest list = Ok (list, rest)
 
-names_read : (names : List Named) (n : Named) (b : Bool) (list : NamedList) (turns : List ℕ) (tail : Option (List ℕ)) → IsPlainNamed n → ArePlainNames names → length names < length turns → IsFresh tail
+names_read : (names : List Named) (n : Named) (b : Bool) (list : NamedList) (turns : List ℕ)
+    (tail : Option (List ℕ))
+    → IsPlainNamed n → ArePlainNames names → length names < length turns → IsFresh tail
     → names_after b list turns (named_text n ++ (further_text names ++ behind tail)) ≡ Ok (with_all list (n ∷ names), past_blanks (behind tail))
 names_read names n b list [] tail plain more enough fresh = absurd (omega (arith, enough))
 names_read [] n b list (t ∷ turns) tail plain more enough fresh =
@@ -125,7 +134,8 @@ pub some_length : (word : List ℕ) → begins_word word ≡ true → 1 ≤ leng
 some_length [] is = absurd cc
 some_length (c ∷ cs) is = omega arith
 
-enough_turns : (n : Named) (names : List Named) (rest : List ℕ) → IsPlainNamed n → length names < length (named_text n ++ (further_text names ++ rest))
+enough_turns : (n : Named) (names : List Named) (rest : List ℕ) → IsPlainNamed n
+    → length names < length (named_text n ++ (further_text names ++ rest))
 enough_turns n names rest plain =
     omega (arith, further_longer names, some_length (named_text n) (named_begins n plain), length-append (named_text n) (further_text names ++ rest), length-append (further_text names) rest)
 
@@ -148,7 +158,10 @@ as_names asked r = r >>= λ list. Ok (Names asked list.0, list.1)
 abbrev names_answer : Field → List ℕ → NamedList → Read Piece
 names_answer asked rest list = Ok (Names asked list, rest)
 
-names_piece_read : (asked : Field) (list : NamedList) (tail : Option (List ℕ)) → IsPlainList list → IsFresh tail → names asked (names_text list.names ++ behind tail) ≡ Ok (Names asked list, past_blanks (behind tail))
+names_piece_read : (asked : Field) (list : NamedList) (tail : Option (List ℕ)) → IsPlainList list
+    → IsFresh tail
+    → names asked (names_text list.names ++ behind tail)
+    ≡ Ok (Names asked list, past_blanks (behind tail))
 names_piece_read asked list tail plain fresh =
     ap (as_names asked) (list_read (may_be_special asked) list.names tail plain.names fresh)
     ∙ ap (λ (s : Special). names_answer asked (past_blanks (behind tail)) (record { special = s; names = list.names })) (sym plain.no_special)
@@ -160,7 +173,9 @@ none_of (Some found) is = absurd cc
 abbrev word_answer : List ℕ → List ℕ → Read Piece
 word_answer word rest = Ok (Word word, rest)
 
-keyword_read : (seen : Seen) (word : List ℕ) (tail : Option (List ℕ)) → is_one_word word ≡ true → option_of (run until.Key word) ≡ None → piece_at Keyword seen (word ++ behind tail) ≡ Ok (Word word, behind tail)
+keyword_read : (seen : Seen) (word : List ℕ) (tail : Option (List ℕ)) → is_one_word word ≡ true
+    → option_of (run until.Key word) ≡ None
+    → piece_at Keyword seen (word ++ behind tail) ≡ Ok (Word word, behind tail)
 keyword_read seen word tail one none =
     ap (λ (o : Option OptionWord). piece_by Keyword seen o (word ++ behind tail)) (ap option_of (run_behind until.Key word (behind tail) (key_ends tail)) ∙ none)
     ∙ ap (λ (w : List ℕ). word_answer w (past until.Word (word ++ behind tail))) (run_word until.Word word (behind tail) (word_goes_on word one) (word_ends tail))
@@ -175,7 +190,8 @@ group_answer rest r = r >>= λ name. Ok (Matchgroup name, rest)
 named_group : (name : List ℕ) → is_listed name ≡ true → group_or_none name ≡ Ok name
 named_group name is = otherwise (is_none_word name) (Ok name) (group_name name) (not_none name is) ∙ listed_group name is
 
-matchgroup_read : (name : List ℕ) (tail : Option (List ℕ)) → is_listed name ≡ true → matchgroup (name ++ behind tail) ≡ Ok (Matchgroup name, behind tail)
+matchgroup_read : (name : List ℕ) (tail : Option (List ℕ)) → is_listed name ≡ true
+    → matchgroup (name ++ behind tail) ≡ Ok (Matchgroup name, behind tail)
 matchgroup_read name tail is =
     let one = listed_word name is in
     ap as_matchgroup (value_word name (behind tail) (name_begins name is))
@@ -189,13 +205,15 @@ as_cchar r = r >>= λ start. only_character (run until.Word start) >>= λ c. Ok 
 abbrev character_answer : List ℕ → List ℕ → Read Piece
 character_answer rest word = only_character word >>= λ c. Ok (Cchar c, rest)
 
-value_character : (c : ℕ) (rest : List ℕ) → stops until.Word c ≡ false → value_start (c ∷ rest) ≡ Ok (c ∷ rest)
+value_character : (c : ℕ) (rest : List ℕ) → stops until.Word c ≡ false
+    → value_start (c ∷ rest) ≡ Ok (c ∷ rest)
 value_character c rest is =
     let blank = or_left (is_blank c) (nat_eq c 124) is in
     let bar = or_right (is_blank c) (nat_eq c 124) is in
     rw (blank, bar) refl
 
-cchar_read : (c : ℕ) (tail : Option (List ℕ)) → stops until.Word c ≡ false → cchar (c ∷ behind tail) ≡ Ok (Cchar c, behind tail)
+cchar_read : (c : ℕ) (tail : Option (List ℕ)) → stops until.Word c ≡ false
+    → cchar (c ∷ behind tail) ≡ Ok (Cchar c, behind tail)
 cchar_read c tail is =
     let inside : goes_on until.Word (c ∷ []) ≡ true = rw is refl in
     ap as_cchar (value_character c (behind tail) is)
@@ -221,7 +239,8 @@ left_blanks (Matchgroup name) rest = refl
 left_blanks (Quote r q) rest = refl
 left_blanks (Word word) rest = refl
 
-names_at : (kind : ItemCommand) (seen : Seen) (asked : Field) (text : List ℕ) → may_list kind asked ≡ true → piece_at kind seen (field_text asked ++ text) ≡ names asked text
+names_at : (kind : ItemCommand) (seen : Seen) (asked : Field) (text : List ℕ)
+    → may_list kind asked ≡ true → piece_at kind seen (field_text asked ++ text) ≡ names asked text
 names_at Keyword seen field.Contains text may = absurd cc
 names_at Keyword seen field.Containedin text may = refl
 names_at Keyword seen field.Nextgroup text may = refl
@@ -232,7 +251,10 @@ names_at Region seen field.Contains text may = refl
 names_at Region seen field.Containedin text may = refl
 names_at Region seen field.Nextgroup text may = refl
 
-quote_at : (kind : ItemCommand) (seen : Seen) (r : Role) (q : Quoted) (rest : List ℕ) → may_quote kind r ≡ true → Allows seen (Quote r q) → piece_at kind seen (role_text r ++ (quoted_text q ++ rest)) ≡ quote_as r (quoted_text q ++ rest)
+quote_at : (kind : ItemCommand) (seen : Seen) (r : Role) (q : Quoted) (rest : List ℕ)
+    → may_quote kind r ≡ true → Allows seen (Quote r q)
+    → piece_at kind seen (role_text r ++ (quoted_text q ++ rest))
+    ≡ quote_as r (quoted_text q ++ rest)
 quote_at Keyword seen r q rest may allowed = absurd cc
 quote_at Match seen role.Match q rest may allowed = rw allowed refl
 quote_at Match seen role.Start q rest may allowed = absurd cc
@@ -243,12 +265,16 @@ quote_at Region seen role.Start q rest may allowed = refl
 quote_at Region seen role.Skip q rest may allowed = rw allowed refl
 quote_at Region seen role.End q rest may allowed = refl
 
-keyword_plain : (word : List ℕ) → is_plain_keyword word ≡ true → (is_one_word word ≡ true) × (not (begins 44 word) ≡ true) × (is_none (option_of (run until.Key word)) ≡ true)
+keyword_plain : (word : List ℕ) → is_plain_keyword word ≡ true
+    → (is_one_word word ≡ true) × (not (begins 44 word) ≡ true)
+    × (is_none (option_of (run until.Key word)) ≡ true)
 keyword_plain word is =
     let front = and_left (is_one_word word && not (begins 44 word)) (is_none (option_of (run until.Key word))) is in
     (and_left (is_one_word word) (not (begins 44 word)) front, and_right (is_one_word word) (not (begins 44 word)) front, and_right (is_one_word word && not (begins 44 word)) (is_none (option_of (run until.Key word))) is)
 
-pub piece_read : (kind : ItemCommand) (seen : Seen) (piece : Piece) (tail : Option (List ℕ)) → IsPlainPiece kind piece → Allows seen piece → IsFresh tail → piece_at kind seen (piece_text piece ++ behind tail) ≡ Ok (piece, left_by piece (behind tail))
+pub piece_read : (kind : ItemCommand) (seen : Seen) (piece : Piece) (tail : Option (List ℕ))
+    → IsPlainPiece kind piece → Allows seen piece → IsFresh tail
+    → piece_at kind seen (piece_text piece ++ behind tail) ≡ Ok (piece, left_by piece (behind tail))
 piece_read kind seen (Has f) tail plain allowed fresh = flag_read kind seen f tail
 piece_read kind seen (Cchar c) tail plain allowed fresh = cchar_read c tail plain
 piece_read kind seen (Names asked list) tail plain allowed fresh =
@@ -298,7 +324,8 @@ keyword_begins word is =
     let parts = keyword_plain word is in
     both_hold (begins_word word) (not (begins 44 word)) (one_word_begins word parts.0) parts.1
 
-piece_begins : (kind : ItemCommand) (piece : Piece) → IsPlainPiece kind piece → begins_piece (piece_text piece) ≡ true
+piece_begins : (kind : ItemCommand) (piece : Piece) → IsPlainPiece kind piece
+    → begins_piece (piece_text piece) ≡ true
 piece_begins kind (Has f) plain = flag_begins f
 piece_begins kind (Cchar c) plain = refl
 piece_begins kind (Names field.Contains list) plain = refl
@@ -338,7 +365,8 @@ tail_fresh kind (piece ∷ ps) plain =
     ap (begins 44) (word_begins (piece_text piece) (pieces_text ps) (starts_word (piece_text piece) begin))
     ∙ no_comma (piece_text piece) (pieces_text ps) begin
 
-goes_on_at : (kind : ItemCommand) (seen : Seen) (word rest : List ℕ) → begins_word word ≡ true → pieces_end kind seen (word ++ rest) ≡ false
+goes_on_at : (kind : ItemCommand) (seen : Seen) (word rest : List ℕ) → begins_word word ≡ true
+    → pieces_end kind seen (word ++ rest) ≡ false
 goes_on_at kind seen [] rest is = absurd cc
 goes_on_at kind seen (c ∷ cs) rest is =
     let bar = no_bar c cs is in
@@ -358,13 +386,16 @@ Awaits Region seen ps =
     (1 ≤ number_of seen.start + quote_count role.Start ps) × (1 ≤ number_of seen.end_ + quote_count role.End ps)
     × (number_of seen.skip + quote_count role.Skip ps ≤ 1)
 
-count_first : (r : Role) (piece : Piece) (ps : List Piece) → quote_count r (piece ∷ ps) ≡ cond (has_role r piece) 1 0 + quote_count r ps
+count_first : (r : Role) (piece : Piece) (ps : List Piece)
+    → quote_count r (piece ∷ ps) ≡ cond (has_role r piece) 1 0 + quote_count r ps
 count_first r piece ps = sum_by-cons (λ p. cond (has_role r p) 1 0) piece ps
 
-count_other : (r : Role) (piece : Piece) (ps : List Piece) → has_role r piece ≡ false → quote_count r (piece ∷ ps) ≡ quote_count r ps
+count_other : (r : Role) (piece : Piece) (ps : List Piece) → has_role r piece ≡ false
+    → quote_count r (piece ∷ ps) ≡ quote_count r ps
 count_other r piece ps is = count_first r piece ps ∙ rw is (omega arith)
 
-count_this : (r : Role) (piece : Piece) (ps : List Piece) → has_role r piece ≡ true → quote_count r (piece ∷ ps) ≡ 1 + quote_count r ps
+count_this : (r : Role) (piece : Piece) (ps : List Piece) → has_role r piece ≡ true
+    → quote_count r (piece ∷ ps) ≡ 1 + quote_count r ps
 count_this r piece ps is = count_first r piece ps ∙ rw is refl
 
 no_number : (b : Bool) → number_of b ≡ 0 → b ≡ false
@@ -376,7 +407,8 @@ some_number true is = refl
 some_number false is = absurd (omega (arith, is))
 
 -- a piece that is no pattern
-awaits_on : (kind : ItemCommand) (seen : Seen) (piece : Piece) (ps : List Piece) → ((r : Role) → has_role r piece ≡ false) → Awaits kind seen (piece ∷ ps) → Awaits kind seen ps
+awaits_on : (kind : ItemCommand) (seen : Seen) (piece : Piece) (ps : List Piece)
+    → ((r : Role) → has_role r piece ≡ false) → Awaits kind seen (piece ∷ ps) → Awaits kind seen ps
 awaits_on Keyword seen piece ps other awaits = tt
 awaits_on Match seen piece ps other awaits =
     let same = count_other role.Match piece ps (other role.Match) in
@@ -387,7 +419,9 @@ awaits_on Region seen piece ps other awaits =
     let skips = count_other role.Skip piece ps (other role.Skip) in
     (omega (arith, awaits.0, starts), omega (arith, awaits.1, ends), omega (arith, awaits.2, skips))
 
-awaits_quote : (kind : ItemCommand) (seen : Seen) (r : Role) (q : Quoted) (ps : List Piece) → may_quote kind r ≡ true → Awaits kind seen (Quote r q ∷ ps) → Awaits kind (with_piece seen (Quote r q)) ps
+awaits_quote : (kind : ItemCommand) (seen : Seen) (r : Role) (q : Quoted) (ps : List Piece)
+    → may_quote kind r ≡ true → Awaits kind seen (Quote r q ∷ ps)
+    → Awaits kind (with_piece seen (Quote r q)) ps
 awaits_quote Keyword seen r q ps may awaits = tt
 awaits_quote Match seen role.Match q ps may awaits =
     let this = count_this role.Match (Quote role.Match q) ps refl in
@@ -410,7 +444,9 @@ awaits_quote Region seen role.End q ps may awaits =
     let skips = count_other role.Skip (Quote role.End q) ps refl in
     (omega (arith, awaits.0, starts), omega arith, omega (arith, awaits.2, skips))
 
-awaits_next : (kind : ItemCommand) (seen : Seen) (piece : Piece) (ps : List Piece) → IsPlainPiece kind piece → Awaits kind seen (piece ∷ ps) → Awaits kind (with_piece seen piece) ps
+awaits_next : (kind : ItemCommand) (seen : Seen) (piece : Piece) (ps : List Piece)
+    → IsPlainPiece kind piece → Awaits kind seen (piece ∷ ps)
+    → Awaits kind (with_piece seen piece) ps
 awaits_next kind seen (Has f) ps plain awaits = awaits_on kind seen (Has f) ps (λ r. refl) awaits
 awaits_next kind seen (Cchar c) ps plain awaits = awaits_on kind seen (Cchar c) ps (λ r. refl) awaits
 awaits_next kind seen (Names asked list) ps plain awaits = awaits_on kind seen (Names asked list) ps (λ r. refl) awaits
@@ -418,7 +454,8 @@ awaits_next kind seen (Matchgroup name) ps plain awaits = awaits_on kind seen (M
 awaits_next kind seen (Quote r q) ps plain awaits = awaits_quote kind seen r q ps plain.0 awaits
 awaits_next kind seen (Word word) ps plain awaits = awaits_on kind seen (Word word) ps (λ r. refl) awaits
 
-allows_quote : (kind : ItemCommand) (seen : Seen) (r : Role) (q : Quoted) (ps : List Piece) → may_quote kind r ≡ true → Awaits kind seen (Quote r q ∷ ps) → Allows seen (Quote r q)
+allows_quote : (kind : ItemCommand) (seen : Seen) (r : Role) (q : Quoted) (ps : List Piece)
+    → may_quote kind r ≡ true → Awaits kind seen (Quote r q ∷ ps) → Allows seen (Quote r q)
 allows_quote Keyword seen r q ps may awaits = absurd cc
 allows_quote Match seen role.Match q ps may awaits =
     let this = count_this role.Match (Quote role.Match q) ps refl in
@@ -433,7 +470,8 @@ allows_quote Region seen role.Skip q ps may awaits =
     no_number seen.skip (omega (arith, awaits.2, this))
 allows_quote Region seen role.End q ps may awaits = tt
 
-allows_next : (kind : ItemCommand) (seen : Seen) (piece : Piece) (ps : List Piece) → IsPlainPiece kind piece → Awaits kind seen (piece ∷ ps) → Allows seen piece
+allows_next : (kind : ItemCommand) (seen : Seen) (piece : Piece) (ps : List Piece)
+    → IsPlainPiece kind piece → Awaits kind seen (piece ∷ ps) → Allows seen piece
 allows_next kind seen (Has f) ps plain awaits = tt
 allows_next kind seen (Cchar c) ps plain awaits = tt
 allows_next kind seen (Names asked list) ps plain awaits = tt
@@ -442,7 +480,8 @@ allows_next kind seen (Quote r q) ps plain awaits = allows_quote kind seen r q p
 allows_next kind seen (Word word) ps plain awaits = tt
 
 -- nothing is missing behind the last one
-nothing_missing : (kind : ItemCommand) (seen : Seen) → Awaits kind seen [] → missing kind seen ≡ None
+nothing_missing : (kind : ItemCommand) (seen : Seen) → Awaits kind seen []
+    → missing kind seen ≡ None
 nothing_missing Keyword seen awaits = refl
 nothing_missing Match seen awaits =
     let there = some_number seen.pattern (omega (arith, awaits)) in
@@ -466,10 +505,15 @@ whole so_far lack = pieces_whole lack so_far >>= λ all. Ok (all, [])
 abbrev answer : List Piece → Read (List Piece)
 answer found = Ok (found, [])
 
-turn_at : (kind : ItemCommand) (seen : Seen) (so_far : List Piece) (turns text : List ℕ) → pieces_end kind seen text ≡ false → turn kind seen so_far turns text ≡ rest_of kind seen so_far turns (piece_at kind seen text)
+turn_at : (kind : ItemCommand) (seen : Seen) (so_far : List Piece) (turns text : List ℕ)
+    → pieces_end kind seen text ≡ false
+    → turn kind seen so_far turns text ≡ rest_of kind seen so_far turns (piece_at kind seen text)
 turn_at kind seen so_far turns text is = rw is refl
 
-pub pieces_read : (kind : ItemCommand) (ps : List Piece) (seen : Seen) (so_far : List Piece) (turns text : List ℕ) → length ps < length turns → ArePlainPieces kind ps → Awaits kind seen ps → past_blanks text ≡ past_blanks (pieces_text ps)
+pub pieces_read : (kind : ItemCommand) (ps : List Piece) (seen : Seen) (so_far : List Piece)
+    (turns text : List ℕ)
+    → length ps < length turns → ArePlainPieces kind ps → Awaits kind seen ps
+    → past_blanks text ≡ past_blanks (pieces_text ps)
     → pieces_after kind seen so_far turns text ≡ Ok (so_far ++ ps, [])
 pieces_read kind ps seen so_far [] text enough plain awaits same = absurd (omega (arith, enough))
 pieces_read kind [] seen so_far (t ∷ turns) text enough plain awaits same =
@@ -496,12 +540,14 @@ pieces_longer (piece ∷ ps) =
     let both = length-append (piece_text piece) (pieces_text ps) in
     omega (arith, later, both)
 
-awaits_first : (kind : ItemCommand) (ps : List Piece) → HasItsPatterns kind ps → Awaits kind nothing_seen ps
+awaits_first : (kind : ItemCommand) (ps : List Piece) → HasItsPatterns kind ps
+    → Awaits kind nothing_seen ps
 awaits_first Keyword ps has = tt
 awaits_first Match ps has = omega (arith, has)
 awaits_first Region ps has = (omega (arith, has.0), omega (arith, has.1), omega (arith, has.2))
 
-pub all_pieces_read : (kind : ItemCommand) (ps : List Piece) → ArePlainPieces kind ps → HasItsPatterns kind ps → pieces kind (pieces_text ps) ≡ Ok (ps, [])
+pub all_pieces_read : (kind : ItemCommand) (ps : List Piece) → ArePlainPieces kind ps
+    → HasItsPatterns kind ps → pieces kind (pieces_text ps) ≡ Ok (ps, [])
 all_pieces_read kind [] plain has = ap (whole []) (nothing_missing kind nothing_seen (awaits_first kind [] has))
 all_pieces_read kind (piece ∷ ps) plain has =
     let later = pieces_longer ps in

@@ -1,6 +1,6 @@
 -- Single words of a spelled line, read back.
-use Rattle.std.proofs.Common.{◌≡◌, ℕ, ◌≤◌, Bool, true, false, List, [], ◌∷◌, ◌++◌, length, refl, ap, sym, ◌∙◌, cond, arith}
-use Rattle.std.specs.Prelude.{Option, Some, None, Result, Ok, Err, nat_eq, nat_le, not, ◌&&◌, ◌||◌, codes, if◌then◌else◌}
+use Rattle.std.proofs.Common.{◌≡◌, ℕ, Bool, true, false, List, [], ◌∷◌, ◌++◌, length, refl, ap, ◌∙◌}
+use Rattle.std.specs.Prelude.{Option, Some, None, Result, Ok, nat_eq, nat_le, not, ◌&&◌, ◌||◌, codes, if◌then◌else◌}
 use Rattle.std.specs.List.{list_all}
 use Rattle.std.proofs.lemmas.Bool.{ne_eqb}
 use Rattle.syntax_set.specs.declared.item.Special.TheVariants as special
@@ -44,7 +44,8 @@ name_ends (Some more) = refl
 
 -- Where a word begins.
 
-begins_free : (c : ℕ) (cs : List ℕ) → begins_word (c ∷ cs) ≡ true → (is_blank c || nat_eq c 124 || nat_eq c 34) ≡ false
+begins_free : (c : ℕ) (cs : List ℕ) → begins_word (c ∷ cs) ≡ true
+    → (is_blank c || nat_eq c 124 || nat_eq c 34) ≡ false
 begins_free c cs is = not_true (is_blank c || nat_eq c 124 || nat_eq c 34) is
 
 pub no_blank : (c : ℕ) (cs : List ℕ) → begins_word (c ∷ cs) ≡ true → is_blank c ≡ false
@@ -58,7 +59,8 @@ no_bar c cs is =
 pub no_quote : (c : ℕ) (cs : List ℕ) → begins_word (c ∷ cs) ≡ true → nat_eq c 34 ≡ false
 no_quote c cs is = or_right (is_blank c || nat_eq c 124) (nat_eq c 34) (begins_free c cs is)
 
-pub word_begins : (word rest : List ℕ) → begins_word word ≡ true → past_blanks (word ++ rest) ≡ word ++ rest
+pub word_begins : (word rest : List ℕ) → begins_word word ≡ true
+    → past_blanks (word ++ rest) ≡ word ++ rest
 word_begins [] rest is = absurd cc
 word_begins (c ∷ cs) rest is = let blank = no_blank c cs is in rw blank refl
 
@@ -72,10 +74,12 @@ not_over (c ∷ cs) rest is =
 start_at : (text : List ℕ) → is_over text ≡ false → word_start_at text ≡ Ok text
 start_at text is = rw is refl
 
-pub start_word : (word rest : List ℕ) → begins_word word ≡ true → word_start (32 ∷ word ++ rest) ≡ Ok (word ++ rest)
+pub start_word : (word rest : List ℕ) → begins_word word ≡ true
+    → word_start (32 ∷ word ++ rest) ≡ Ok (word ++ rest)
 start_word word rest is = ap word_start_at (word_begins word rest is) ∙ start_at (word ++ rest) (not_over word rest is)
 
-pub value_word : (word rest : List ℕ) → begins_word word ≡ true → value_start (word ++ rest) ≡ Ok (word ++ rest)
+pub value_word : (word rest : List ℕ) → begins_word word ≡ true
+    → value_start (word ++ rest) ≡ Ok (word ++ rest)
 value_word [] rest is = absurd cc
 value_word (c ∷ cs) rest is =
     let blank = no_blank c cs is in
@@ -96,13 +100,15 @@ both word rest = Ok (word, rest)
 abbrev taken : Result (List ℕ) Cause → Read (List ℕ)
 taken r = r >>= λ start. Ok (run until.Word start, past until.Word start)
 
-taken_word : (word : List ℕ) (tail : Option (List ℕ)) → is_one_word word ≡ true → taken (Ok (word ++ behind tail)) ≡ Ok (word, behind tail)
+taken_word : (word : List ℕ) (tail : Option (List ℕ)) → is_one_word word ≡ true
+    → taken (Ok (word ++ behind tail)) ≡ Ok (word, behind tail)
 taken_word word tail is =
     let first = run_word until.Word word (behind tail) (word_goes_on word is) (word_ends tail) in
     let left = past_word until.Word word (behind tail) (word_goes_on word is) (word_ends tail) in
     ap (λ w. both w (past until.Word (word ++ behind tail))) first ∙ ap (λ rest. both word rest) left
 
-pub argument_word : (word : List ℕ) (tail : Option (List ℕ)) → is_one_word word ≡ true → argument (32 ∷ word ++ behind tail) ≡ Ok (word, behind tail)
+pub argument_word : (word : List ℕ) (tail : Option (List ℕ)) → is_one_word word ≡ true
+    → argument (32 ∷ word ++ behind tail) ≡ Ok (word, behind tail)
 argument_word word tail is =
     ap taken (start_word word (behind tail) (one_word_begins word is)) ∙ taken_word word tail is
 
@@ -138,7 +144,9 @@ in_name c is =
     let comma = differs is_name_character c 44 is refl in
     rw (space, tab, bar, comma) refl
 
-goes_on_by : (u : Until) (test : ℕ → Bool) (word : List ℕ) → ((c : ℕ) → test c ≡ true → stops u c ≡ false) → list_all test word ≡ true → goes_on u word ≡ true
+goes_on_by : (u : Until) (test : ℕ → Bool) (word : List ℕ)
+    → ((c : ℕ) → test c ≡ true → stops u c ≡ false) → list_all test word ≡ true
+    → goes_on u word ≡ true
 goes_on_by u test [] inside all = refl
 goes_on_by u test (c ∷ cs) inside all =
     let here = inside c (and_left (test c) (list_all test cs) all) in
@@ -162,7 +170,8 @@ some_characters name is =
 pub name_in_list : (name : List ℕ) → is_listed name ≡ true → goes_on until.ListName name ≡ true
 name_in_list name is = goes_on_by until.ListName is_name_character name in_name (name_characters name is)
 
-first_begins : (name : List ℕ) → nat_le 1 (length name) ≡ true → has_name_characters name ≡ true → begins_word name ≡ true
+first_begins : (name : List ℕ) → nat_le 1 (length name) ≡ true → has_name_characters name ≡ true
+    → begins_word name ≡ true
 first_begins [] some all = absurd cc
 first_begins (c ∷ cs) some all =
     let is = and_left (is_name_character c) (has_name_characters cs) all in
@@ -186,10 +195,12 @@ listed_word name is =
     (goes_on_by until.Word is_name_character name in_word (name_characters name is))
 
 -- a name begins with no character that names don't have
-pub not_at : (d : ℕ) (name rest : List ℕ) → is_name_character d ≡ false → is_listed name ≡ true → begins d (name ++ rest) ≡ false
+pub not_at : (d : ℕ) (name rest : List ℕ) → is_name_character d ≡ false → is_listed name ≡ true
+    → begins d (name ++ rest) ≡ false
 not_at d name rest other is = first_is name (some_characters name is) (name_characters name is)
   where
-    first_is : (word : List ℕ) → nat_le 1 (length word) ≡ true → has_name_characters word ≡ true → begins d (word ++ rest) ≡ false
+    first_is : (word : List ℕ) → nat_le 1 (length word) ≡ true → has_name_characters word ≡ true
+        → begins d (word ++ rest) ≡ false
     first_is [] some all = absurd cc
     first_is (c ∷ cs) some all = differs is_name_character c d (and_left (is_name_character c) (has_name_characters cs) all) other
 
@@ -205,7 +216,8 @@ as_name r = r >>= λ word. group_name word.0 >>= λ name. Ok (name, word.1)
 abbrev with_rest : List ℕ → Result (List ℕ) Cause → Read (List ℕ)
 with_rest rest r = r >>= λ name. Ok (name, rest)
 
-pub group_argument_word : (name : List ℕ) (tail : Option (List ℕ)) → is_listed name ≡ true → group_argument (32 ∷ name ++ behind tail) ≡ Ok (name, behind tail)
+pub group_argument_word : (name : List ℕ) (tail : Option (List ℕ)) → is_listed name ≡ true
+    → group_argument (32 ∷ name ++ behind tail) ≡ Ok (name, behind tail)
 group_argument_word name tail is =
     ap as_name (argument_word name tail (listed_word name is)) ∙ ap (with_rest (behind tail)) (listed_group name is)
 
@@ -217,7 +229,8 @@ not_none name is = first_of_six (is_none name) _ _ _ _ _ (not_reserved name is)
     first_of_six true b c d e f none = absurd cc
     first_of_six false b c d e f none = refl
 
-special_by : (none all allbut top contained contains : Bool) → (none || all || allbut || top || contained || contains) ≡ false →
+special_by : (none all allbut top contained contains : Bool)
+    → (none || all || allbut || top || contained || contains) ≡ false →
     (if all then special.All else if allbut then special.AllBut else if top then special.Top else if contained then special.Contained else if none then special.Nothing else special.Plain) ≡ special.Plain
 special_by true a b c d e h = absurd cc
 special_by false true b c d e h = absurd cc

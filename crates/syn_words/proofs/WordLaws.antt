@@ -1,10 +1,9 @@
 -- Words that stand in a line as they are spelled, and how much of a line is left behind them.
-use Rattle.std.proofs.Common.{◌≡◌, ℕ, suc, ◌<◌, ◌≤◌, Bool, true, false, List, [], ◌∷◌, ◌++◌, length, refl, ap, ◌∙◌, arith, cond}
-use Rattle.std.specs.Prelude.{nat_eq, not, ◌&&◌, ◌||◌}
+use Rattle.std.proofs.Common.{◌≡◌, ℕ, ◌≤◌, Bool, true, false, List, [], ◌∷◌, ◌++◌, length, refl, ap, ◌∙◌, arith, cond}
+use Rattle.std.specs.Prelude.{not, ◌&&◌}
 use Rattle.std.specs.List.{list_all}
 use Rattle.text_scan.specs.Characters.{is_blank, past_blanks}
 use Rattle.word_reader.specs.declared.words.Until.{Until}
-use Rattle.word_reader.specs.declared.words.Until.TheVariants as until
 use Rattle.word_reader.specs.Words.{past, run, stops}
 
 pub and_left : (a b : Bool) → (a && b) ≡ true → a ≡ true
@@ -32,7 +31,8 @@ abbrev pub ends_run : Until → List ℕ → Bool
 ends_run until [] = true
 ends_run until (c ∷ cs) = stops until c
 
-pub run_behind : (u : Until) (word rest : List ℕ) → ends_run u rest ≡ true → run u (word ++ rest) ≡ run u word
+pub run_behind : (u : Until) (word rest : List ℕ) → ends_run u rest ≡ true
+    → run u (word ++ rest) ≡ run u word
 run_behind u [] [] end = refl
 run_behind u [] (c ∷ rest) end = rw end refl
 run_behind u (c ∷ word) rest end = ap (λ w. cond (stops u c) [] (c ∷ w)) (run_behind u word rest end)
@@ -43,10 +43,12 @@ run_whole u (c ∷ word) all =
     let here : stops u c ≡ false = not_true (stops u c) (and_left (not (stops u c)) (goes_on u word) all) in
     rw here (ap (λ w. c ∷ w) (run_whole u word (and_right (not (stops u c)) (goes_on u word) all)))
 
-pub run_word : (u : Until) (word rest : List ℕ) → goes_on u word ≡ true → ends_run u rest ≡ true → run u (word ++ rest) ≡ word
+pub run_word : (u : Until) (word rest : List ℕ) → goes_on u word ≡ true → ends_run u rest ≡ true
+    → run u (word ++ rest) ≡ word
 run_word u word rest all end = run_behind u word rest end ∙ run_whole u word all
 
-pub past_word : (u : Until) (word rest : List ℕ) → goes_on u word ≡ true → ends_run u rest ≡ true → past u (word ++ rest) ≡ rest
+pub past_word : (u : Until) (word rest : List ℕ) → goes_on u word ≡ true → ends_run u rest ≡ true
+    → past u (word ++ rest) ≡ rest
 past_word u [] [] all end = refl
 past_word u [] (c ∷ rest) all end = rw end refl
 past_word u (c ∷ word) rest all end =
@@ -55,7 +57,8 @@ past_word u (c ∷ word) rest all end =
 
 -- what is left is no longer
 
-pub shorter_of : (b : Bool) (xs ys : List ℕ) (n : ℕ) → length xs ≤ n → length ys ≤ n → length (cond b xs ys) ≤ n
+pub shorter_of : (b : Bool) (xs ys : List ℕ) (n : ℕ) → length xs ≤ n → length ys ≤ n
+    → length (cond b xs ys) ≤ n
 shorter_of true xs ys n p q = p
 shorter_of false xs ys n p q = q
 
@@ -72,6 +75,7 @@ blanks_shorter (c ∷ cs) =
     shorter_of (is_blank c) (past_blanks cs) (c ∷ cs) (length (c ∷ cs)) (omega arith) (omega arith)
 
 -- two ways by one test
-pub same_by : {A : Type 0} (b : Bool) (x y z w : A) → (b ≡ true → x ≡ z) → (b ≡ false → y ≡ w) → cond b x y ≡ cond b z w
+pub same_by : {A : Type 0} (b : Bool) (x y z w : A) → (b ≡ true → x ≡ z) → (b ≡ false → y ≡ w)
+    → cond b x y ≡ cond b z w
 same_by true x y z w p q = p refl
 same_by false x y z w p q = q refl

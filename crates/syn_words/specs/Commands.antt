@@ -1,5 +1,5 @@
 -- Commands of a syntax file, each by its first word.
-use Rattle.std.specs.Prelude.{ℕ, nat_eq, ◌&&◌, ◌||◌, List, [], ◌∷◌, ◌++◌, Option, Some, None, Bool, true, false, if◌then◌else◌, Result, Ok, Err, codes}
+use Rattle.std.specs.Prelude.{ℕ, ◌&&◌, ◌||◌, List, [], ◌∷◌, ◌++◌, Option, Some, None, Bool, true, false, if◌then◌else◌, Result, Ok, Err, codes}
 use Rattle.syn_words.specs.declared.cause.Cause.{Cause}
 use Rattle.syn_words.specs.declared.cause.Cause.TheVariants as cause
 use Rattle.syn_words.specs.declared.what.ItemCommand.{ItemCommand}

@@ -1,3 +1,4 @@
+-- what a reader must believe
 pub use Rattle.word_values.specs.GroupNames
 pub mod Answers
 pub mod Arguments
@@ -13,5 +14,6 @@ pub mod Alone
 pub mod Highlight
 pub mod Commands
 pub mod FileCommands
+-- laws above it
 pub mod Spelled
 pub mod Laws

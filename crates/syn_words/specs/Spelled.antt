@@ -1,11 +1,10 @@
--- Plain commands as a file spells them: a line each, one blank before each word but the first, patterns
--- between slashes, no offsets, no comment and no continuation. The laws of `syn_words` say that such
--- lines are read as the commands that they spell.
+-- Plain commands as a file spells them: a line each, one blank before each word but the first,
+-- patterns between slashes, no offsets, no comment and no continuation. The laws of `syn_words` say
+-- that such lines are read as the commands that they spell.
 use Rattle.std.specs.Prelude.{◌≡◌, ℕ, suc, ◌≤◌, nat_eq, nat_lt, not, ◌&&◌, ◌||◌, List, [], ◌∷◌, ◌++◌, count_by, Option, Some, None, Bool, true, false, codes, is_none}
 use Rattle.std.specs.List.{list_all}
 use Rattle.text_scan.specs.Characters.{is_blank}
 use Rattle.syntax_set.specs.declared.item.Special.TheVariants as special
-use Rattle.word_reader.specs.declared.words.Until.{Until}
 use Rattle.word_reader.specs.declared.words.Until.TheVariants as until
 use Rattle.word_reader.specs.Words.{begins, is_word, run, stops}
 use Rattle.word_values.specs.GroupNames.{is_listed, is_pattern}
@@ -39,10 +38,11 @@ begins_word (c ∷ cs) = not (is_blank c || nat_eq c 124 || nat_eq c 34)
 abbrev pub is_one_word : List ℕ → Bool
 is_one_word word = begins_word word && list_all (λ c. not (stops until.Word c)) word
 
--- a word of a keyword command: not the name of an option, and without a comma at its front, which would
--- go on with a list
+-- a word of a keyword command: not the name of an option, and without a comma at its front, which
+-- would go on with a list
 abbrev pub is_plain_keyword : List ℕ → Bool
-is_plain_keyword word = is_one_word word && not (begins 44 word) && is_none (option_of (run until.Key word))
+is_plain_keyword word =
+    is_one_word word && not (begins 44 word) && is_none (option_of (run until.Key word))
 
 -- Patterns.
 
@@ -189,7 +189,8 @@ abbrev pub HasItsPatterns : ItemCommand → List Piece → Type 0
 HasItsPatterns Keyword pieces = Unit {0}
 HasItsPatterns Match pieces = quote_count role.Match pieces ≡ 1
 HasItsPatterns Region pieces =
-    (1 ≤ quote_count role.Start pieces) × (1 ≤ quote_count role.End pieces) × (quote_count role.Skip pieces ≤ 1)
+    (1 ≤ quote_count role.Start pieces) × (1 ≤ quote_count role.End pieces)
+    × (quote_count role.Skip pieces ≤ 1)
 
 -- Commands.
 
@@ -249,7 +250,8 @@ AreSomeCleared (name ∷ names) = IsPlainCleared name × AreCleared names
 abbrev pub IsPlain : What → Type 0
 IsPlain (what.CaseIgnore ignore) = Unit {0}
 IsPlain (what.Iskeyword None) = Unit {0}
-IsPlain (what.Iskeyword (Some value)) = (is_one_word value ≡ true) × (is_word value (codes "clear") ≡ false)
+IsPlain (what.Iskeyword (Some value)) =
+    (is_one_word value ≡ true) × (is_word value (codes "clear") ≡ false)
 IsPlain (what.Item kind group pieces) =
     (is_listed group ≡ true) × ArePlainPieces kind pieces × HasItsPatterns kind pieces
 IsPlain (what.Sync fromstart) = fromstart ≡ true

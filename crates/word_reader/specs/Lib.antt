@@ -1,4 +1,6 @@
+-- what a reader must believe
 pub mod Words
-pub mod Vain
 pub mod Delimited
 pub mod Offsets
+-- what only code and proofs cite
+pub mod Vain

@@ -131,8 +131,8 @@ impl<'a> Reader<'a> {
         self.skip_one();
     }
 
-    /// Takes the characters up to this delimiter, and the delimiter. Where none ends the pattern,
-    /// nothing is taken.
+    /// Takes the characters up to this delimiter, and the delimiter; none where no delimiter ends
+    /// the pattern.
     #[tactic(auto, using(crate::proofs::VainLaws::known_behind))]
     pub fn delimited(
         &mut self,

@@ -1,3 +1,4 @@
+-- what a reader must believe
 pub mod GroupNames
 pub mod Parts
 pub mod Paths
