@@ -26,21 +26,31 @@ enum Piece<'a> {
 /// Appends the bytes for which a text stands.
 pub(crate) fn push_text(alloc: Global, bytes: &mut Vec<u8>, text: &[u8]) -> Result<(), Unread> {
     let pieces = pieces_of(alloc, text)?;
-    let mut rest = pieces.as_slice();
+    push_pieces(bytes, pieces.as_slice())
+}
+
+fn push_pieces(bytes: &mut Vec<u8>, pieces: &[Piece<'_>]) -> Result<(), Unread> {
+    let mut rest = pieces;
     // Each turn takes a piece or more, so nothing is left in the end.
     for _ in 0..pieces.len() {
-        let Some((piece, behind)) = rest.split_first() else {
-            break;
-        };
-        rest = match *piece {
-            Piece::Opening(count) => push_repetition(bytes, count, behind)?,
-            piece => {
-                push_piece(bytes, piece, None)?;
-                behind
-            }
-        };
+        rest = push_front(bytes, rest)?;
     }
     Ok(())
+}
+
+/// Appends the first piece, or the repetition that it begins, and answers what stands behind that.
+fn push_front<'p, 't>(
+    bytes: &mut Vec<u8>,
+    pieces: &'p [Piece<'t>],
+) -> Result<&'p [Piece<'t>], Unread> {
+    match pieces.split_first() {
+        None => Ok(pieces),
+        Some((Piece::Opening(count), behind)) => push_repetition(bytes, *count, behind),
+        Some((piece, behind)) => {
+            push_piece(bytes, *piece, None)?;
+            Ok(behind)
+        }
+    }
 }
 
 /// Appends a repetition, and answers what stands behind its end.
