@@ -10,8 +10,6 @@ mod bytes;
 mod cause;
 mod counts;
 mod lines;
-#[cfg(test)]
-mod tests;
 
 pub use cause::cause_text;
 pub use counts::counts_text;

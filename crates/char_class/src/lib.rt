@@ -11,8 +11,6 @@ mod classes;
 mod folds;
 mod option_value;
 mod sets;
-#[cfg(test)]
-mod tests;
 
 pub use char_set::CharSet;
 pub use classes::class_has;

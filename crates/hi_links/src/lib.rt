@@ -6,8 +6,6 @@
 
 mod highlight;
 mod links;
-#[cfg(test)]
-mod tests;
 mod usual;
 
 pub use highlight::{Highlight, Style};

@@ -11,8 +11,6 @@ mod lines;
 mod numbers;
 mod shown;
 mod styles;
-#[cfg(test)]
-mod tests;
 
 pub use document::page;
 

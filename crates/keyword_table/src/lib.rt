@@ -10,8 +10,6 @@ mod abbreviation;
 mod errors;
 mod last_table;
 mod table;
-#[cfg(test)]
-mod tests;
 mod words;
 
 pub use abbreviation::expand;

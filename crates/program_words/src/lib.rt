@@ -5,8 +5,6 @@
 #![tactic(auto)]
 
 mod options;
-#[cfg(test)]
-mod tests;
 mod words;
 
 pub use words::{Asked, CheckWords, SpansWords};

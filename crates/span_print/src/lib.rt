@@ -5,7 +5,5 @@
 #![tactic(auto)]
 
 mod spans;
-#[cfg(test)]
-mod tests;
 
 pub use spans::{head_text, refusal_text, span_text};

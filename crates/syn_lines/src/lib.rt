@@ -8,8 +8,6 @@
 mod joined;
 mod line;
 mod reading;
-#[cfg(test)]
-mod tests;
 
 pub use line::{LogicalLine, LogicalLines};
 pub use reading::logical_lines;

@@ -26,6 +26,3 @@ mod syntax_of;
 
 pub use syntax::{ReadError, ReadOptions, Syntax};
 pub use syntax_of::read_syntax;
-
-#[cfg(test)]
-mod tests;

@@ -22,8 +22,6 @@ mod quoted;
 mod refusal;
 mod styles;
 mod syntax;
-#[cfg(test)]
-mod tests;
 mod what;
 
 pub use cause::Cause;

@@ -16,8 +16,6 @@ mod item;
 mod item_set;
 mod number_set;
 mod set_error;
-#[cfg(test)]
-mod tests;
 
 pub use added_item::AddedItem;
 pub use clusters::{Change, Clusters};

@@ -26,6 +26,3 @@ pub use pattern_items::{
 };
 pub use read::read_pattern;
 pub use tree::Tree;
-
-#[cfg(test)]
-mod tests;

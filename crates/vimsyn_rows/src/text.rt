@@ -9,9 +9,7 @@ const MOST_BYTES: usize = 100_000_000;
 
 /// A piece of a text.
 #[derive(Clone, Copy)]
-enum Piece<'a> {
-    /// Bytes up to the next backslash.
-    Plain(&'a [u8]),
+enum Piece {
     Byte(u8),
     Nothing,
     /// The number of the turn, from 0.
@@ -29,7 +27,7 @@ pub(crate) fn push_text(alloc: Global, bytes: &mut Vec<u8>, text: &[u8]) -> Resu
     push_pieces(bytes, pieces.as_slice())
 }
 
-fn push_pieces(bytes: &mut Vec<u8>, pieces: &[Piece<'_>]) -> Result<(), Unread> {
+fn push_pieces(bytes: &mut Vec<u8>, pieces: &[Piece]) -> Result<(), Unread> {
     let mut rest = pieces;
     // Each turn takes a piece or more, so nothing is left in the end.
     for _ in 0..pieces.len() {
@@ -39,10 +37,7 @@ fn push_pieces(bytes: &mut Vec<u8>, pieces: &[Piece<'_>]) -> Result<(), Unread> 
 }
 
 /// Appends the first piece, or the repetition that it begins, and answers what stands behind that.
-fn push_front<'p, 't>(
-    bytes: &mut Vec<u8>,
-    pieces: &'p [Piece<'t>],
-) -> Result<&'p [Piece<'t>], Unread> {
+fn push_front<'p>(bytes: &mut Vec<u8>, pieces: &'p [Piece]) -> Result<&'p [Piece], Unread> {
     match pieces.split_first() {
         None => Ok(pieces),
         Some((Piece::Opening(count), behind)) => push_repetition(bytes, *count, behind),
@@ -54,11 +49,11 @@ fn push_front<'p, 't>(
 }
 
 /// Appends a repetition, and answers what stands behind its end.
-fn push_repetition<'p, 't>(
+fn push_repetition<'p>(
     bytes: &mut Vec<u8>,
     count: usize,
-    pieces: &'p [Piece<'t>],
-) -> Result<&'p [Piece<'t>], Unread> {
+    pieces: &'p [Piece],
+) -> Result<&'p [Piece], Unread> {
     let Some((repeated, behind)) = split_at_closing(pieces) else {
         return Err(Unread::Mistake(Mistake::Repetition));
     };
@@ -71,16 +66,15 @@ fn push_repetition<'p, 't>(
 }
 
 /// The pieces before the first end of a repetition, and those behind it.
-fn split_at_closing<'p, 't>(pieces: &'p [Piece<'t>]) -> Option<(&'p [Piece<'t>], &'p [Piece<'t>])> {
-    let mut parts = pieces.splitn(2, |piece: &Piece<'_>| matches!(piece, Piece::Closing));
+fn split_at_closing(pieces: &[Piece]) -> Option<(&[Piece], &[Piece])> {
+    let mut parts = pieces.splitn(2, |piece: &Piece| matches!(piece, Piece::Closing));
     Some((parts.next()?, parts.next()?))
 }
 
 /// Appends the bytes of a piece that is no bound of a repetition; `turn` is that of the repetition in which
 /// it stands, if it stands in one.
-fn push_piece(bytes: &mut Vec<u8>, piece: Piece<'_>, turn: Option<usize>) -> Result<(), Unread> {
+fn push_piece(bytes: &mut Vec<u8>, piece: Piece, turn: Option<usize>) -> Result<(), Unread> {
     match piece {
-        Piece::Plain(plain) => bytes.extend_from_slice(plain)?,
         Piece::Byte(byte) => bytes.push(byte)?,
         Piece::Nothing => {}
         Piece::Turn => push_number(bytes, turn.ok_or(Mistake::Nested)?)?,
@@ -94,35 +88,32 @@ fn push_piece(bytes: &mut Vec<u8>, piece: Piece<'_>, turn: Option<usize>) -> Res
 }
 
 /// The pieces of a text in order.
-fn pieces_of(alloc: Global, text: &[u8]) -> Result<Vec<Piece<'_>>, Unread> {
+fn pieces_of(alloc: Global, text: &[u8]) -> Result<Vec<Piece>, Unread> {
     let mut pieces = Vec::new(alloc);
     let mut rest = text;
-    // Each piece takes a byte or more, so nothing is left in the end.
+    // Each turn takes a byte or more, so nothing is left in the end.
     for _ in 0..text.len() {
-        if rest.is_empty() {
+        let Some((byte, behind)) = rest.split_first() else {
             break;
-        }
-        let (piece, behind) = piece_of(rest)?;
+        };
+        let (piece, behind) = piece_of(*byte, behind)?;
         pieces.push(piece)?;
         rest = behind;
     }
     Ok(pieces)
 }
 
-/// The first piece of a text, and what stands behind it.
-fn piece_of(text: &[u8]) -> Result<(Piece<'_>, &[u8]), Mistake> {
-    match text.split_first() {
-        Some((b'\\', escape)) => escaped(escape),
-        _ => {
-            let end = text.iter().position(|byte| *byte == b'\\');
-            let (plain, behind) = text.split_at(end.unwrap_or(text.len()));
-            Ok((Piece::Plain(plain), behind))
-        }
+/// The piece that begins with a byte, and what stands behind it.
+fn piece_of(byte: u8, behind: &[u8]) -> Result<(Piece, &[u8]), Mistake> {
+    if byte == b'\\' {
+        escaped(behind)
+    } else {
+        Ok((Piece::Byte(byte), behind))
     }
 }
 
 /// The piece of an escape whose letter stands first, and what stands behind it.
-fn escaped(escape: &[u8]) -> Result<(Piece<'_>, &[u8]), Mistake> {
+fn escaped(escape: &[u8]) -> Result<(Piece, &[u8]), Mistake> {
     let (letter, behind) = escape.split_first().ok_or(Mistake::Escape)?;
     let piece = match *letter {
         b'n' => Piece::Byte(b'\n'),
@@ -141,7 +132,7 @@ fn escaped(escape: &[u8]) -> Result<(Piece<'_>, &[u8]), Mistake> {
 }
 
 /// The byte of two hexadecimal digits, and what stands behind them.
-fn hexadecimal(text: &[u8]) -> Result<(Piece<'_>, &[u8]), Mistake> {
+fn hexadecimal(text: &[u8]) -> Result<(Piece, &[u8]), Mistake> {
     let [high, low, behind @ ..] = text else {
         return Err(Mistake::Escape);
     };
@@ -161,7 +152,7 @@ fn digit_of(byte: u8) -> Option<u8> {
 }
 
 /// The front of a repetition, behind its bracket, and what stands behind the colon.
-fn opening(text: &[u8]) -> Result<(Piece<'_>, &[u8]), Mistake> {
+fn opening(text: &[u8]) -> Result<(Piece, &[u8]), Mistake> {
     let mut parts = text.splitn(2, |byte: &u8| *byte == b':');
     let (Some(count), Some(behind)) = (parts.next(), parts.next()) else {
         return Err(Mistake::Repetition);

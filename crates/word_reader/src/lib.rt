@@ -8,8 +8,6 @@
 mod delimited;
 mod offsets;
 mod reader;
-#[cfg(test)]
-mod tests;
 mod vain;
 mod words;
 

@@ -7,8 +7,6 @@ mod group_names;
 mod parts;
 mod paths;
 mod style_words;
-#[cfg(test)]
-mod tests;
 
 pub use command_names::{CommandName, begins_cpo, begins_variable, command_name, is_guard};
 pub use group_names::{is_group_name, is_listed, is_none, is_pattern, is_reserved, special_of};
