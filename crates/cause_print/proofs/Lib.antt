@@ -1,2 +1,1 @@
-pub mod Characters
 mod KnownTexts

@@ -3,7 +3,7 @@ ghost use Rattle.std.specs.Prelude.{◌≡◌, ◌+◌, ◌++◌, codes, decimal
 ghost use Rattle.pattern_items.specs.CauseText as pattern;
 ghost use Rattle.cause_print.specs.CauseText as spec;
 
-use crate::bytes::{print_bytes, print_characters, print_number};
+use byte_text::{push_bytes, push_chars, push_number};
 use std::alloc::{AllocError, Global};
 use syn_base::{List, Memory};
 use syn_words::Cause;
@@ -23,9 +23,9 @@ pub fn cause_text(alloc: Global, cause: &Cause) -> Result<List<u8>, Memory>
 pub(crate) fn print_cause(alloc: Global, out: &mut Vec<u8>, cause: &Cause) -> Result<(), AllocError>
     ensures { OnOk result (out.new.items ≡ out.old.items ++ spec.cause_bytes cause.now) }
 {
-    print_bytes(out, label(cause).as_bytes())?;
+    push_bytes(out, label(cause).as_bytes())?;
     match cause {
-        Cause::NotInProfile { word } => print_characters(out, word.as_slice()),
+        Cause::NotInProfile { word } => push_chars(out, word.as_slice()),
         Cause::Pattern { at, cause } => print_place(alloc, out, *at, cause),
         _ => Ok(()),
     }
@@ -40,9 +40,9 @@ fn print_place(
 ) -> Result<(), AllocError>
     ensures { OnOk result (out.new.items ≡ out.old.items ++ pattern.cause_text cause.now ++ codes " at " ++ decimal (at + 1)) }
 {
-    print_bytes(out, cause.to_string(alloc)?.as_bytes())?;
-    print_bytes(out, b" at ")?;
-    print_number(out, at as u128 + 1)?;
+    push_bytes(out, cause.to_string(alloc)?.as_bytes())?;
+    push_bytes(out, b" at ")?;
+    push_number(out, at as u128 + 1)?;
     Ok(())
 }
 

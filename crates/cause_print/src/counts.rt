@@ -2,7 +2,7 @@
 ghost use Rattle.std.specs.Prelude.{◌≡◌, ◌++◌, IfOk, OnOk};
 ghost use Rattle.cause_print.specs.CountText as spec;
 
-use crate::bytes::{print_bytes, print_number};
+use byte_text::{push_bytes, push_number};
 use std::alloc::{AllocError, Global};
 use syn_base::{List, Memory};
 
@@ -26,8 +26,8 @@ pub fn counts_text(
 fn print_count(out: &mut Vec<u8>, name: &[u8], number: usize) -> Result<(), AllocError>
     ensures { OnOk result (out.new.items ≡ out.old.items ++ spec.count_line name.now number) }
 {
-    print_bytes(out, name)?;
-    print_number(out, number as u128)?;
-    print_bytes(out, b"\n")?;
+    push_bytes(out, name)?;
+    push_number(out, number as u128)?;
+    push_bytes(out, b"\n")?;
     Ok(())
 }

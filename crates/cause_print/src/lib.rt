@@ -6,7 +6,6 @@
 //! writes.
 #![tactic(auto)]
 
-mod bytes;
 mod cause;
 mod counts;
 mod lines;

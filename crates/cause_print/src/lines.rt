@@ -2,8 +2,8 @@
 ghost use Rattle.std.specs.Prelude.{◌≡◌, ◌++◌, IfOk, OnOk};
 ghost use Rattle.cause_print.specs.FaultText as spec;
 
-use crate::bytes::{print_bytes, print_characters, print_number};
 use crate::cause::print_cause;
+use byte_text::{push_bytes, push_chars, push_number};
 use std::alloc::{AllocError, Global};
 use syn_base::{List, Memory};
 use syn_words::Cause;
@@ -35,7 +35,7 @@ pub fn refused_text(
     let mut out = Vec::new(alloc);
     print_place(&mut out, file, line)?;
     print_cause(alloc, &mut out, cause)?;
-    print_bytes(&mut out, b"\n")?;
+    push_bytes(&mut out, b"\n")?;
     Ok(List::from_vec(out))
 }
 
@@ -54,15 +54,15 @@ pub fn file_fault_text(
     if line > 0 {
         print_place(&mut out, file, line)?;
     }
-    print_characters(&mut out, name)?;
-    print_bytes(&mut out, fault.label().as_bytes())?;
-    print_bytes(&mut out, b"\n")?;
+    push_chars(&mut out, name)?;
+    push_bytes(&mut out, fault.label().as_bytes())?;
+    push_bytes(&mut out, b"\n")?;
     Ok(List::from_vec(out))
 }
 
 impl FileFault {
     /// The words for the fault, as they follow the file's name.
-    fn label(self) -> &'static str
+    pub fn label(self) -> &'static str
         ensures { result.now ≡ spec.file_fault self }
     {
         match self {
@@ -77,9 +77,9 @@ impl FileFault {
 fn print_place(out: &mut Vec<u8>, file: &[char], line: usize) -> Result<(), AllocError>
     ensures { OnOk result (out.new.items ≡ out.old.items ++ spec.place_text file.now line) }
 {
-    print_characters(out, file)?;
-    print_bytes(out, b":")?;
-    print_number(out, line as u128)?;
-    print_bytes(out, b": ")?;
+    push_chars(out, file)?;
+    push_bytes(out, b":")?;
+    push_number(out, line as u128)?;
+    push_bytes(out, b": ")?;
     Ok(())
 }
