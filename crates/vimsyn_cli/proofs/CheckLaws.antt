@@ -1,5 +1,5 @@
 -- What `check` comes to, against its session.
-use Rattle.std.proofs.Common.{◌≡◌, ℕ, false, List, refl, ap, subst}
+use Rattle.std.proofs.Common.{◌≡◌, ℕ, false, List, refl, ap, subst, ◌∙◌}
 use Rattle.std.specs.Prelude.{Option, Some, None, Ok, Err, IfSome, unwrap_or}
 use Rattle.cause_print.specs.declared.lines.FileFault.TheVariants as print
 use Rattle.cause_print.specs.FaultText.{file_fault_text, refused_text}
@@ -11,26 +11,28 @@ use Rattle.syn_reader.specs.declared.syntax.ReadOptions.{ReadOptions}
 use Rattle.syn_reader.specs.declared.syntax.Syntax.{Syntax}
 use Rattle.syn_reader.specs.Follows.{IsSyntaxOf}
 use Rattle.syn_reader.specs.SyntaxOf.{syntax_of}
-use Rattle.syn_words.specs.declared.cause.Cause.{Cause as SyntaxCause}
+use Rattle.syn_words.specs.declared.cause.Cause.{Cause}
 use Rattle.syn_words.specs.declared.cause.Cause.TheVariants.{TooLongFile}
-use Rattle.vimsyn_cli.specs.declared.fault.Cause.{Cause}
-use Rattle.vimsyn_cli.specs.declared.fault.Cause.TheVariants as cause
+use Rattle.vimsyn_cli.specs.declared.fault.FaultKind.{FaultKind}
+use Rattle.vimsyn_cli.specs.declared.fault.FaultKind.TheVariants as cause
 use Rattle.vimsyn_cli.specs.declared.fault.Fault.{Fault}
 use Rattle.vimsyn_cli.specs.declared.fault.Stop.{Stop}
 use Rattle.vimsyn_cli.specs.declared.fault.Stop.TheVariants as stop
 use Rattle.vimsyn_cli.specs.Check.{IsErrorStop, IsUnreadAsked, check_session, options_of, refused_cause, syntax_counts, with_result}
+use Rattle.vimsyn_cli.specs.Laws.{AcceptedSyntaxFile}
+use Rattle.vimsyn_cli.specs.Session.{session, with_asked}
 use Rattle.vimsyn_cli.specs.Stop.{Plans, OrUnread, is_unread}
-use Rattle.vimsyn_cli.specs.Written.{ends}
+use Rattle.vimsyn_cli.specs.Written.{ends, shows}
 
 some_is : {A : Type 0} (a b : A) → Some a ≡ Some b → a ≡ b
 some_is a b same = ap (λ o. unwrap_or o a) same
 
 -- a refusal isn't told of a file that can't be read
-never_unread : (why : SyntaxCause) → is_unread (refused_cause why) ≡ false
+never_unread : (why : Cause) → is_unread (refused_cause why) ≡ false
 never_unread (TooLongFile name) = refl
 never_unread other = refl
 
-decided_or : (cause : Cause) (unread planned : Type 0) → is_unread cause ≡ false → planned → OrUnread cause unread planned
+decided_or : (cause : FaultKind) (unread planned : Type 0) → is_unread cause ≡ false → planned → OrUnread cause unread planned
 decided_or cause.Missing unread planned known p = p
 decided_or cause.Unread unread planned known p = absurd cc
 decided_or cause.TooLong unread planned known p = p
@@ -69,3 +71,8 @@ error_planned (Some known) words name options error why named given told read =
     let G : ReadOptions → Type 0 = λ o. IsSyntaxOf known words.syntax o (Err error) in
     let read' : IsSyntaxOf known words.syntax (options_of words) (Err error) = subst G given (subst N named read) in
     error_planned_in known words error why read' told
+
+-- an accepted run prints the counts
+pub accepted_counted : (words : List (List ℕ)) (files : FileMap) (syntax : Syntax) → AcceptedSyntaxFile words files syntax → session words files ≡ shows (syntax_counts syntax)
+accepted_counted words files syntax accepted =
+    ap (with_asked files) accepted.words_are ∙ ap with_result accepted.syntax_is

@@ -7,17 +7,17 @@ use Rattle.program_words.specs.declared.words.Asked.{Asked}
 use Rattle.program_words.specs.Words.{asked_of}
 use Rattle.syn_base.specs.Causes.{Counted, Rose}
 use Rattle.syn_base.specs.Outside.{AppendsPrefix, FileMap, appended}
-use Rattle.vimsyn_cli.specs.declared.fault.Cause.{Cause}
-use Rattle.vimsyn_cli.specs.declared.fault.Cause.TheVariants.{Missing, Unread, TooLong, Content}
+use Rattle.vimsyn_cli.specs.declared.fault.FaultKind.{FaultKind}
+use Rattle.vimsyn_cli.specs.declared.fault.FaultKind.TheVariants.{Missing, Unread, TooLong, Content}
 use Rattle.vimsyn_cli.specs.declared.fault.Fault.{Fault as FaultOf}
 use Rattle.vimsyn_cli.specs.declared.fault.Stop.{Stop}
 use Rattle.vimsyn_cli.specs.declared.fault.Stop.TheVariants as stop
 use Rattle.vimsyn_cli.specs.declared.status.Status.{Status}
 use Rattle.vimsyn_cli.specs.declared.status.Status.TheVariants.{Done, Usage, ReadFault, WriteFault, Memory}
-use Rattle.vimsyn_cli.specs.Answers.{Delivers, Gives, IsFaultOfAsked, IsUnreadLine, IsUntouched, SinkChange, TellsAllUnread, TellsFault, TellsUnread, Writes, WroteAll}
+use Rattle.vimsyn_cli.specs.Answers.{Delivers, GivesSession, IsFaultOfAsked, IsUnreadLine, IsUntouched, SinkChange, TellsAllUnread, TellsFault, TellsUnread, Writes, WroteAll}
 use Rattle.vimsyn_cli.specs.Report.{cause_status, usage_line}
 use Rattle.vimsyn_cli.specs.Session.{asked_session, session}
-use Rattle.vimsyn_cli.specs.Stop.{Counts, IfFault, OrUnread, Plans, is_too_long, is_unread}
+use Rattle.vimsyn_cli.specs.Stop.{RaisesItsCount, IfFault, OrUnread, Plans, is_too_long, is_unread}
 use Rattle.vimsyn_cli.specs.Written.{Session, ends}
 
 nothing : (written : Option (List ℕ)) → written ≡ appended written []
@@ -57,7 +57,7 @@ err_unfailed (Err (stop.Fault fault)) out err answer delivered other = unfailed_
 err_unfailed (Err stop.Memory) out err answer delivered other = delivered.1.1
 
 -- the faulty words
-pub usage_gives : (told : Option FileMap) (words : List (List ℕ)) (out err : SinkChange) (faults faults_after : ℕ) (answer : Status) → asked_of words ≡ None → IsUntouched out → Writes err usage_line Usage answer → IfSome told (λ known. ¬ Rose faults faults_after → ¬ Rose out.faults out.faults_after → ¬ Rose err.faults err.faults_after → answer ≢ Memory → Gives (session words known) out.before out.after err.before err.after answer)
+pub usage_gives : (told : Option FileMap) (words : List (List ℕ)) (out err : SinkChange) (faults faults_after : ℕ) (answer : Status) → asked_of words ≡ None → IsUntouched out → Writes err usage_line Usage answer → IfSome told (λ known. ¬ Rose faults faults_after → ¬ Rose out.faults out.faults_after → ¬ Rose err.faults err.faults_after → answer ≢ Memory → GivesSession (session words known) out.before out.after err.before err.after answer)
 usage_gives None words out err faults faults_after answer faulty same written = tt
 usage_gives (Some known) words out err faults faults_after answer faulty same written =
     λ readable out_sound err_sound enough.
@@ -74,7 +74,7 @@ usage_part_or None words err answer faulty written = tt
 usage_part_or (Some known) words err answer faulty written = rw faulty (inl (part_of err usage_line Usage answer written))
 
 -- a cause that the files' map decides
-decided : (cause : Cause) (unread planned : Type 0) → OrUnread cause unread planned → is_unread cause ≡ false → planned
+decided : (cause : FaultKind) (unread planned : Type 0) → OrUnread cause unread planned → is_unread cause ≡ false → planned
 decided Missing unread planned p known = p
 decided Unread unread planned p known = absurd cc
 decided TooLong unread planned p known = p
@@ -85,17 +85,17 @@ uncounted true before after rose sound = absurd (sound rose)
 uncounted false before after same sound = refl
 
 -- a line is the session's, or one for a file that couldn't be read
-either : (cause : Cause) (unread planned : Type 0) → OrUnread cause unread planned → planned ⊎ ((is_unread cause ≡ true) × unread)
+either : (cause : FaultKind) (unread planned : Type 0) → OrUnread cause unread planned → planned ⊎ ((is_unread cause ≡ true) × unread)
 either Missing unread planned p = inl p
 either Unread unread planned p = inr (refl, p)
 either TooLong unread planned p = inl p
 either Content unread planned p = inl p
 
 -- what is delivered where nothing fails is the session
-gives_of : (s : Session) (IsLine : List ℕ → Type 0) (result : Result (List ℕ) Stop) (out err : SinkChange) (faults faults_after : ℕ) (answer : Status) → Plans s IsLine result → Delivers result out err answer → Counts is_unread result faults faults_after → ¬ Rose faults faults_after → ¬ Rose out.faults out.faults_after → ¬ Rose err.faults err.faults_after → answer ≢ Memory → Gives s out.before out.after err.before err.after answer
+gives_of : (s : Session) (IsLine : List ℕ → Type 0) (result : Result (List ℕ) Stop) (out err : SinkChange) (faults faults_after : ℕ) (answer : Status) → Plans s IsLine result → Delivers result out err answer → RaisesItsCount is_unread result faults faults_after → ¬ Rose faults faults_after → ¬ Rose out.faults out.faults_after → ¬ Rose err.faults err.faults_after → answer ≢ Memory → GivesSession s out.before out.after err.before err.after answer
 gives_of s IsLine (Ok bytes) out err faults faults_after answer planned delivered counted readable out_sound err_sound enough =
     let all = all_of out bytes Done answer delivered.1 out_sound in
-    let P : Session → Type 0 = λ t. Gives t out.before out.after err.before err.after answer in
+    let P : Session → Type 0 = λ t. GivesSession t out.before out.after err.before err.after answer in
     subst P (sym planned) (record { out = all.whole; err = untouched err delivered.0; status = all.status })
 gives_of s IsLine (Err stop.Memory) out err faults faults_after answer planned delivered counted readable out_sound err_sound enough =
     absurd (enough delivered.2)
@@ -103,7 +103,7 @@ gives_of s IsLine (Err (stop.Fault fault)) out err faults faults_after answer pl
     let known = uncounted (is_unread fault.cause) faults faults_after counted readable in
     let is : s ≡ ends fault = decided fault.cause (IsLine fault.line) (s ≡ ends fault) planned known in
     let all = all_of err fault.line (cause_status fault.cause) answer delivered.1 err_sound in
-    let P : Session → Type 0 = λ t. Gives t out.before out.after err.before err.after answer in
+    let P : Session → Type 0 = λ t. GivesSession t out.before out.after err.before err.after answer in
     subst P (sym is) (record { out = untouched out delivered.0; err = all.whole; status = all.status })
 
 -- `out` got a part of the session's bytes
@@ -119,7 +119,7 @@ line_part : (s : Session) (fault : FaultOf) (err : SinkChange) → s ≡ ends fa
 line_part s fault err is part = let P : Session → Type 0 = λ t. AppendsPrefix err.before err.after t.err in subst P (sym is) part
 
 -- where each file was read, `err` got a part of the session's bytes
-err_part_of : (s : Session) (IsLine : List ℕ → Type 0) (result : Result (List ℕ) Stop) (out err : SinkChange) (faults faults_after : ℕ) (answer : Status) → Plans s IsLine result → Delivers result out err answer → Counts is_unread result faults faults_after → ¬ Rose faults faults_after → AppendsPrefix err.before err.after s.err
+err_part_of : (s : Session) (IsLine : List ℕ → Type 0) (result : Result (List ℕ) Stop) (out err : SinkChange) (faults faults_after : ℕ) (answer : Status) → Plans s IsLine result → Delivers result out err answer → RaisesItsCount is_unread result faults faults_after → ¬ Rose faults faults_after → AppendsPrefix err.before err.after s.err
 err_part_of s IsLine (Ok bytes) out err faults faults_after answer planned delivered counted readable = none_of err s.err delivered.0
 err_part_of s IsLine (Err stop.Memory) out err faults faults_after answer planned delivered counted readable = none_of err s.err delivered.1
 err_part_of s IsLine (Err (stop.Fault fault)) out err faults faults_after answer planned delivered counted readable =
@@ -141,7 +141,7 @@ err_part_or s asked known (Err (stop.Fault fault)) out err answer planned delive
     by_line (inr unread) = inr (record { line = fault.line; unread = unread.1; part = part })
 
 -- which statuses go with what
-not_done : (cause : Cause) → cause_status cause ≢ Done
+not_done : (cause : FaultKind) → cause_status cause ≢ Done
 not_done Missing is = absurd cc
 not_done Unread is = absurd cc
 not_done TooLong is = absurd cc
@@ -170,7 +170,7 @@ read_fault_told_of s asked known (Err (stop.Fault fault)) out err answer planned
     by_line (inr unread) = inr (record { line = fault.line; unread = unread.1; whole = whole })
 
 -- the same for the words of the table
-pub session_gives : (told : Option FileMap) (words : List (List ℕ)) (asked : Asked) (result : Result (List ℕ) Stop) (out err : SinkChange) (faults faults_after : ℕ) (answer : Status) → asked_of words ≡ Some asked → IfSome told (λ known. Plans (asked_session asked known) (IsUnreadLine asked known) result) → Delivers result out err answer → Counts is_unread result faults faults_after → IfSome told (λ known. ¬ Rose faults faults_after → ¬ Rose out.faults out.faults_after → ¬ Rose err.faults err.faults_after → answer ≢ Memory → Gives (session words known) out.before out.after err.before err.after answer)
+pub session_gives : (told : Option FileMap) (words : List (List ℕ)) (asked : Asked) (result : Result (List ℕ) Stop) (out err : SinkChange) (faults faults_after : ℕ) (answer : Status) → asked_of words ≡ Some asked → IfSome told (λ known. Plans (asked_session asked known) (IsUnreadLine asked known) result) → Delivers result out err answer → RaisesItsCount is_unread result faults faults_after → IfSome told (λ known. ¬ Rose faults faults_after → ¬ Rose out.faults out.faults_after → ¬ Rose err.faults err.faults_after → answer ≢ Memory → GivesSession (session words known) out.before out.after err.before err.after answer)
 session_gives None words asked result out err faults faults_after answer is planned delivered counted = tt
 session_gives (Some known) words asked result out err faults faults_after answer is planned delivered counted =
     rw is (gives_of (asked_session asked known) (IsUnreadLine asked known) result out err faults faults_after answer planned delivered counted)
@@ -180,7 +180,7 @@ session_out_part None words asked result out err answer is planned delivered = t
 session_out_part (Some known) words asked result out err answer is planned delivered =
     rw is (out_part_of (asked_session asked known) (IsUnreadLine asked known) result out err answer planned delivered)
 
-pub session_err_part : (told : Option FileMap) (words : List (List ℕ)) (asked : Asked) (result : Result (List ℕ) Stop) (out err : SinkChange) (faults faults_after : ℕ) (answer : Status) → asked_of words ≡ Some asked → IfSome told (λ known. Plans (asked_session asked known) (IsUnreadLine asked known) result) → Delivers result out err answer → Counts is_unread result faults faults_after → IfSome told (λ known. ¬ Rose faults faults_after → AppendsPrefix err.before err.after (session words known).err)
+pub session_err_part : (told : Option FileMap) (words : List (List ℕ)) (asked : Asked) (result : Result (List ℕ) Stop) (out err : SinkChange) (faults faults_after : ℕ) (answer : Status) → asked_of words ≡ Some asked → IfSome told (λ known. Plans (asked_session asked known) (IsUnreadLine asked known) result) → Delivers result out err answer → RaisesItsCount is_unread result faults faults_after → IfSome told (λ known. ¬ Rose faults faults_after → AppendsPrefix err.before err.after (session words known).err)
 session_err_part None words asked result out err faults faults_after answer is planned delivered counted = tt
 session_err_part (Some known) words asked result out err faults faults_after answer is planned delivered counted =
     rw is (err_part_of (asked_session asked known) (IsUnreadLine asked known) result out err faults faults_after answer planned delivered counted)
@@ -196,7 +196,7 @@ session_read_fault (Some known) words asked result out err answer is planned del
     rw is (read_fault_told_of (asked_session asked known) asked known result out err answer planned delivered fault)
 
 -- the line of a fault, whatever the files tell
-tells_of : (asked : Asked) (result : Result (List ℕ) Stop) (out err : SinkChange) (longs longs_after : ℕ) (answer : Status) → IfFault result (IsFaultOfAsked asked) → Delivers result out err answer → Counts is_too_long result longs longs_after → answer ≢ Done → answer ≢ WriteFault → answer ≢ Memory → TellsFault asked err.before err.after longs longs_after answer
+tells_of : (asked : Asked) (result : Result (List ℕ) Stop) (out err : SinkChange) (longs longs_after : ℕ) (answer : Status) → IfFault result (IsFaultOfAsked asked) → Delivers result out err answer → RaisesItsCount is_too_long result longs longs_after → answer ≢ Done → answer ≢ WriteFault → answer ≢ Memory → TellsFault asked err.before err.after longs longs_after answer
 tells_of asked (Ok bytes) out err longs longs_after answer told delivered counted undone written enough = absurd (printed delivered.1)
   where
     printed : Writes out bytes Done answer → ⊥
@@ -212,6 +212,6 @@ tells_of asked (Err (stop.Fault fault)) out err longs longs_after answer told de
     whole (inl all) = record { fault = fault; asked_for = told; line = all.whole; status = all.status; too_long = long }
     whole (inr some) = absurd (written some.status)
 
-pub session_tells : (words : List (List ℕ)) (asked : Asked) (result : Result (List ℕ) Stop) (out err : SinkChange) (longs longs_after : ℕ) (answer : Status) → asked_of words ≡ Some asked → IfFault result (IsFaultOfAsked asked) → Delivers result out err answer → Counts is_too_long result longs longs_after → answer ≢ Done → answer ≢ WriteFault → answer ≢ Memory → IsSomeAnd (asked_of words) (λ given. TellsFault given err.before err.after longs longs_after answer)
+pub session_tells : (words : List (List ℕ)) (asked : Asked) (result : Result (List ℕ) Stop) (out err : SinkChange) (longs longs_after : ℕ) (answer : Status) → asked_of words ≡ Some asked → IfFault result (IsFaultOfAsked asked) → Delivers result out err answer → RaisesItsCount is_too_long result longs longs_after → answer ≢ Done → answer ≢ WriteFault → answer ≢ Memory → IsSomeAnd (asked_of words) (λ given. TellsFault given err.before err.after longs longs_after answer)
 session_tells words asked result out err longs longs_after answer is told delivered counted undone written enough =
     rw is (tells_of asked result out err longs longs_after answer told delivered counted undone written enough)

@@ -2,14 +2,16 @@
 use Rattle.std.proofs.Common.{◌≡◌, ℕ, ◌+◌, List, [], ◌∷◌, ◌++◌, drop, length, refl, ap, subst, sym, ◌∙◌, arith, Bool, true, false, inl, inr}
 use Rattle.std.specs.Prelude.{◌==◌, ◌⊎◌, nat_le, codes, not, ◌&&◌, ◌||◌, Some, None, if◌then◌else◌}
 use Rattle.std.specs.Char.{is_ascii_alphabetic, is_ascii_alphanumeric}
-use Rattle.std.specs.List.{before_first, list_all}
+use Rattle.hi_links.specs.UsualGroups.{usual_groups}
+use Rattle.std.specs.List.{before_first, list_all, list_any}
 use Rattle.std.specs.Str.{bytes_eq}
 use Rattle.std.proofs.Math.Seq.{drop-append-add}
 use Rattle.std.proofs.lemmas.Bool.{ne_eqb}
 use Rattle.std.proofs.lemmas.List.{append_assoc, append-nil}
 use Rattle.std.proofs.lemmas.List.Sums.{take_while-cons}
 use Rattle.std.proofs.lemmas.Slice.Eq.{bytes_eq-Decides}
-use Rattle.vimsyn_cli.specs.LiteralSyntax.{IsSyntaxFile, LiteralMatch, cut, is_group_name, is_literal, is_taken, literal_syntax, spelled, spells}
+use Rattle.vimsyn_cli.specs.declared.literal_syntax.TheConstants.{TAKEN_NAMES}
+use Rattle.vimsyn_cli.specs.LiteralSyntax.{IsSyntaxFile, LiteralMatch, cut, is_group_name, is_literal, is_taken, literal_syntax, same_name, spelled, spells}
 
 and_left : (a b : Bool) → (a && b) ≡ true → a ≡ true
 and_left true b both = refl
@@ -121,3 +123,8 @@ spelled_is_read bytes syntax file =
     let P : LiteralMatch → Type 0 = λ s. IsSyntaxFile bytes s in
     let cut_is : IsSyntaxFile bytes (cut bytes) = subst P (sym is) file in
     choosing (is_group_name (cut bytes).name) (is_literal (cut bytes).literal) (spells bytes (cut bytes)) (cut bytes) cut_is.name cut_is.literal (spells_by bytes (cut bytes) cut_is.spelling) ∙ ap Some is
+
+-- the names that the code has are those that the rules name
+pub taken_names : (name : List ℕ) → list_any (λ taken. same_name taken.now name) TAKEN_NAMES ≡ is_taken name
+unfolding usual_groups
+taken_names name = refl

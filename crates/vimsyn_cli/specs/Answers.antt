@@ -4,7 +4,7 @@ use Rattle.program_words.specs.declared.words.Asked.{Asked}
 use Rattle.program_words.specs.declared.words.Asked.TheVariants.{Spans, Check}
 use Rattle.syn_base.specs.Causes.{Rose}
 use Rattle.syn_base.specs.Outside.{appended, AppendsPrefix, FileMap}
-use Rattle.vimsyn_cli.specs.declared.fault.Cause.TheVariants.{TooLong}
+use Rattle.vimsyn_cli.specs.declared.fault.FaultKind.TheVariants.{TooLong}
 use Rattle.vimsyn_cli.specs.declared.fault.Fault.{Fault as FaultOf}
 use Rattle.vimsyn_cli.specs.declared.fault.Stop.{Stop}
 use Rattle.vimsyn_cli.specs.declared.fault.Stop.TheVariants.{Fault}
@@ -17,7 +17,7 @@ use Rattle.vimsyn_cli.specs.Spans.{IsFileFault, IsUnreadFile}
 use Rattle.vimsyn_cli.specs.Written.{Session}
 
 -- both sinks got the bytes of the session, and the status is its
-pub record Gives (session : Session) (out_before out_after err_before err_after : Option (List ℕ)) (answer : Status) : Type 0 where
+pub record GivesSession (session : Session) (out_before out_after err_before err_after : Option (List ℕ)) (answer : Status) : Type 0 where
   pub out : out_after ≡ appended out_before session.out
   pub err : err_after ≡ appended err_before session.err
   pub status : answer ≡ session.status
@@ -39,7 +39,7 @@ IsFaultOfAsked (Check words) fault = IsReadFault fault
 -- the line for a file of this command that can't be read: one that the words name, or that the rules of
 -- reading ask for
 abbrev pub IsUnreadLine : Asked → FileMap → List ℕ → Type 0
-IsUnreadLine (Spans names) files line = IsUnreadFile names line
+IsUnreadLine (Spans names) files line = IsUnreadFile names files line
 IsUnreadLine (Check words) files line = IsUnreadAsked words files line
 
 -- `err` got the whole line of a fault, and the answer is the status of that fault; it is of a file too

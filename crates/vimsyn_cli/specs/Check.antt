@@ -11,10 +11,10 @@ use Rattle.syn_reader.specs.declared.syntax.ReadError.TheVariants as error
 use Rattle.syn_reader.specs.declared.syntax.ReadOptions.{ReadOptions}
 use Rattle.syn_reader.specs.declared.syntax.Syntax.{Syntax}
 use Rattle.syn_reader.specs.SyntaxOf.{failing_at, syntax_by, syntax_of, told_by}
-use Rattle.syn_words.specs.declared.cause.Cause.{Cause as SyntaxCause}
+use Rattle.syn_words.specs.declared.cause.Cause.{Cause}
 use Rattle.syn_words.specs.declared.cause.Cause.TheVariants.{TooLongFile}
-use Rattle.vimsyn_cli.specs.declared.fault.Cause.{Cause}
-use Rattle.vimsyn_cli.specs.declared.fault.Cause.TheVariants as cause
+use Rattle.vimsyn_cli.specs.declared.fault.FaultKind.{FaultKind}
+use Rattle.vimsyn_cli.specs.declared.fault.FaultKind.TheVariants as cause
 use Rattle.vimsyn_cli.specs.declared.fault.Fault.{Fault}
 use Rattle.vimsyn_cli.specs.declared.fault.Stop.{Stop}
 use Rattle.vimsyn_cli.specs.declared.fault.Stop.TheVariants as stop
@@ -31,7 +31,7 @@ syntax_counts syntax =
     counts_text (count_by (λ added. added.live) syntax.items) (length syntax.keywords) (length syntax.clusters.lists)
 
 -- a refusal has its cause in what a file holds, but where a file is too long
-abbrev pub refused_cause : SyntaxCause → Cause
+abbrev pub refused_cause : Cause → FaultKind
 refused_cause (TooLongFile name) = cause.TooLong
 refused_cause other = cause.Content
 

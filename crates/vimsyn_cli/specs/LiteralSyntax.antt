@@ -1,10 +1,10 @@
 -- The syntax file of the first form: one line `syn match NAME /LITERAL/`, with or without its line
 -- break, for a new group and a literal of ASCII letters and digits.
-use Rattle.std.specs.Prelude.{◌≡◌, ◌⊎◌, ℕ, ◌+◌, ◌==◌, nat_le, Bool, true, not, ◌&&◌, ◌||◌, List, ◌++◌, length, drop, map, codes, Option, Some, None, if◌then◌else◌}
+use Rattle.std.specs.Prelude.{◌≡◌, ◌⊎◌, ℕ, ◌+◌, ◌==◌, nat_le, Bool, true, not, ◌&&◌, ◌||◌, List, [], ◌∷◌, ◌++◌, length, drop, map, codes, Option, Some, None, if◌then◌else◌}
 use Rattle.std.specs.List.{before_first, list_all, list_any}
 use Rattle.std.specs.Char.{is_ascii_alphabetic, is_ascii_alphanumeric, to_ascii_lowercase}
 use Rattle.std.specs.Str.{bytes_eq}
-use Rattle.vimsyn_cli.specs.declared.literal_syntax.TheConstants.{TAKEN_NAMES}
+use Rattle.hi_links.specs.UsualGroups.{usual_groups}
 
 -- a command that shows a literal in a group
 pub record LiteralMatch : Type 0 where
@@ -23,9 +23,14 @@ spells bytes syntax = bytes_eq bytes (spelled syntax) || bytes_eq bytes (spelled
 abbrev pub same_name : List ℕ → List ℕ → Bool
 same_name a b = bytes_eq (map to_ascii_lowercase a) (map to_ascii_lowercase b)
 
+-- names that lists reserve, with `CONTAINED` for the word `contained` too
+abbrev pub reserved_names : List (List ℕ)
+reserved_names =
+    codes "NONE" ∷ codes "ALL" ∷ codes "ALLBUT" ∷ codes "TOP" ∷ codes "CONTAINED" ∷ codes "contains" ∷ []
+
 -- the name is reserved, or that of a group which exists from the start
 abbrev pub is_taken : List ℕ → Bool
-is_taken name = list_any (λ taken. same_name taken.now name) TAKEN_NAMES
+is_taken name = list_any (λ taken. same_name taken name) (reserved_names ++ map (λ group. group.name) usual_groups)
 
 -- 1 to 200 ASCII letters, and a new name
 abbrev pub is_group_name : List ℕ → Bool

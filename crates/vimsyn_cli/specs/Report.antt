@@ -2,25 +2,25 @@
 use Rattle.std.specs.Prelude.{◌≡◌, ℕ, List, ◌++◌, codes, decimal}
 use Rattle.vimsyn_cli.specs.declared.status.Status.{Status}
 use Rattle.vimsyn_cli.specs.declared.status.Status.TheVariants.{Refused, ReadFault}
-use Rattle.vimsyn_cli.specs.declared.fault.Cause.{Cause}
-use Rattle.vimsyn_cli.specs.declared.fault.Cause.TheVariants as cause
+use Rattle.vimsyn_cli.specs.declared.fault.FaultKind.{FaultKind}
+use Rattle.vimsyn_cli.specs.declared.fault.FaultKind.TheVariants as cause
 use Rattle.vimsyn_cli.specs.declared.fault.Fault.{Fault}
-use Rattle.vimsyn_cli.specs.declared.file_fault.FileFault.{FileFault}
-use Rattle.vimsyn_cli.specs.declared.file_fault.FileFault.TheVariants.{Missing, Unread, TooLong, NotBuilt, BadUtf8, LineTooLong, TooManyLines}
+use Rattle.vimsyn_cli.specs.declared.file_fault.NamedFault.{NamedFault}
+use Rattle.vimsyn_cli.specs.declared.file_fault.NamedFault.TheVariants.{Missing, Unread, TooLong, NotBuilt, BadUtf8, LineTooLong, TooManyLines}
 
 -- the line for words that aren't in the table
 abbrev pub usage_line : List ℕ
 usage_line = codes "usage: vimsyn check|spans|html|edit|large [options] names\n"
 
 -- a file that is absent or can't be read is a read fault, any other fault is refused
-abbrev pub cause_status : Cause → Status
+abbrev pub cause_status : FaultKind → Status
 cause_status cause.Missing = ReadFault
 cause_status cause.Unread = ReadFault
 cause_status cause.TooLong = Refused
 cause_status cause.Content = Refused
 
 -- what is told of a file's fault behind its name, with the number of a line where it has one
-abbrev pub fault_text : FileFault → List ℕ
+abbrev pub fault_text : NamedFault → List ℕ
 fault_text Missing = codes ": no such file\n"
 fault_text Unread = codes ": read failed\n"
 fault_text TooLong = codes ": file too long\n"
@@ -30,10 +30,10 @@ fault_text (LineTooLong number) = codes ":" ++ decimal number ++ codes ": line t
 fault_text TooManyLines = codes ": too many lines\n"
 
 -- the line for a fault of the file of this name
-abbrev pub fault_line : List ℕ → FileFault → List ℕ
+abbrev pub fault_line : List ℕ → NamedFault → List ℕ
 fault_line name fault = name ++ fault_text fault
 
-abbrev pub cause_of : FileFault → Cause
+abbrev pub cause_of : NamedFault → FaultKind
 cause_of Missing = cause.Missing
 cause_of Unread = cause.Unread
 cause_of TooLong = cause.TooLong
@@ -42,10 +42,10 @@ cause_of (BadUtf8 number) = cause.Content
 cause_of (LineTooLong number) = cause.Content
 cause_of TooManyLines = cause.Content
 
-abbrev pub fault_of : List ℕ → FileFault → Fault
+abbrev pub fault_of : List ℕ → NamedFault → Fault
 fault_of name fault = record { line = fault_line name fault; cause = cause_of fault }
 
 -- a fault of the file of this name
 pub record IsFaultOf (name : List ℕ) (fault : Fault) : Type 0 where
-  pub what : FileFault
+  pub what : NamedFault
   pub told : fault ≡ fault_of name what

@@ -1,15 +1,15 @@
 //! What `check` prints: how much a syntax file defines, or why it isn't read (this profile).
-ghost use Rattle.std.specs.Prelude.{◌≡◌, IfOk, IfSome, Some, chars};
+ghost use Rattle.std.specs.Prelude.{◌≡◌, IfOk, IfSome, Some};
 ghost use Rattle.vimsyn_cli.specs.Check.{IsErrorStop, IsReadFault, IsUnreadAsked, check_session, options_of, refused_cause, syntax_counts, told_of};
-ghost use Rattle.vimsyn_cli.specs.Stop.{Counts, IfFault, Plans, is_missing, is_too_long, is_unread};
+ghost use Rattle.vimsyn_cli.specs.Stop.{RaisesItsCount, IfFault, Plans, is_missing, is_too_long, is_unread};
 
-use crate::fault::{Cause, Fault, Stop};
+use crate::fault::{Fault, FaultKind, Stop};
 use cause_print::{FileFault, counts_text, file_fault_text, refused_text};
 use program_words::CheckWords;
 use std::alloc::Global;
 use syn_base::{Files, List, Memory};
 use syn_reader::{ReadError, ReadOptions, Syntax, read_syntax};
-use syn_words::Cause as SyntaxCause;
+use syn_words::Cause;
 
 /// The counts of the syntax that the file and those that it asks for define.
 pub(crate) fn check<F: Files>(
@@ -21,9 +21,9 @@ pub(crate) fn check<F: Files>(
     ensures planned { IfSome (F.told files.old) (λ known.
         Plans (check_session words.now known) (IsUnreadAsked words.now known) result) }
     ensures told { IfFault result IsReadFault }
-    ensures faults { Counts is_unread result (F.faults files.old) (F.faults files.new) }
-    ensures misses { Counts is_missing result (F.misses files.old) (F.misses files.new) }
-    ensures longs { Counts is_too_long result (F.longs files.old) (F.longs files.new) }
+    ensures faults { RaisesItsCount is_unread result (F.faults files.old) (F.faults files.new) }
+    ensures misses { RaisesItsCount is_missing result (F.misses files.old) (F.misses files.new) }
+    ensures longs { RaisesItsCount is_too_long result (F.longs files.old) (F.longs files.new) }
 {
     let options = read_options(alloc, words)?;
     match read_syntax(alloc, files, words.syntax(), &options) {
@@ -37,15 +37,9 @@ fn read_options(alloc: Global, words: &CheckWords<'_>) -> Result<ReadOptions, Me
     ensures { IfOk result (λ options. options ≡ options_of words.now) }
 {
     Ok(ReadOptions {
-        folder: characters(alloc, words.folder())?,
+        folder: List::from_chars(alloc, words.folder())?,
         assume_fromstart: words.assume_fromstart(),
     })
-}
-
-fn characters(alloc: Global, text: &str) -> Result<List<char>, Memory>
-    ensures { IfOk result (λ list. list ≡ chars text.now) }
-{
-    Ok(List::from_vec(text.chars().collect(alloc)?))
 }
 
 fn print_counts(alloc: Global, syntax: &Syntax) -> Result<List<u8>, Memory>
@@ -86,7 +80,7 @@ fn told(alloc: Global, error: &ReadError) -> Result<Fault, Memory>
                 name.as_slice(),
                 FileFault::Missing,
             )?,
-            cause: Cause::Missing,
+            cause: FaultKind::Missing,
         }),
         ReadError::FileFault { file, line, name } => Ok(Fault {
             line: file_fault_text(
@@ -96,19 +90,19 @@ fn told(alloc: Global, error: &ReadError) -> Result<Fault, Memory>
                 name.as_slice(),
                 FileFault::Unread,
             )?,
-            cause: Cause::Unread,
+            cause: FaultKind::Unread,
         }),
         ReadError::Memory => Err(Memory),
     }
 }
 
 /// The cause of a refusal.
-fn refused_cause(cause: &SyntaxCause) -> Cause
+fn refused_cause(cause: &Cause) -> FaultKind
     ensures { result ≡ refused_cause cause.now }
 {
-    if let SyntaxCause::TooLongFile { name: _ } = cause {
-        Cause::TooLong
+    if let Cause::TooLongFile { name: _ } = cause {
+        FaultKind::TooLong
     } else {
-        Cause::Content
+        FaultKind::Content
     }
 }

@@ -8,7 +8,7 @@ use syn_base::{List, Memory};
 
 /// The cause of a fault, as far as the run's status goes by it.
 #[derive(Clone, Copy, Debug, PartialEq, Eq)]
-pub(crate) enum Cause {
+pub(crate) enum FaultKind {
     /// There is no such file.
     Missing,
     /// A file can't be read.
@@ -23,7 +23,7 @@ pub(crate) enum Cause {
 #[derive(Drop)]
 pub(crate) struct Fault {
     pub(crate) line: List<u8>,
-    pub(crate) cause: Cause,
+    pub(crate) cause: FaultKind,
 }
 
 /// Why a run ends without what it was asked.
@@ -53,14 +53,14 @@ impl From<Memory> for Stop {
     }
 }
 
-impl Cause {
+impl FaultKind {
     /// The status that goes with it.
     pub(crate) fn status(self) -> Status
         ensures { result ≡ cause_status self }
     {
         match self {
-            Cause::Missing | Cause::Unread => Status::ReadFault,
-            Cause::TooLong | Cause::Content => Status::Refused,
+            FaultKind::Missing | FaultKind::Unread => Status::ReadFault,
+            FaultKind::TooLong | FaultKind::Content => Status::Refused,
         }
     }
 }

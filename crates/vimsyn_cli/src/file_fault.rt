@@ -2,14 +2,14 @@
 ghost use Rattle.std.specs.Prelude.{◌≡◌, ◌++◌, codes, decimal, IfOk, OnOk};
 ghost use Rattle.vimsyn_cli.specs.Report.{cause_of, fault_of, fault_text};
 
-use crate::fault::{Cause, Fault};
-use crate::print::{print_bytes, print_number};
+use crate::fault::{Fault, FaultKind};
+use byte_text::{push_bytes, push_number};
 use std::alloc::{AllocError, Global};
 use syn_base::List;
 
 /// What is wrong with a file. Lines are counted from 1.
 #[derive(Clone, Copy, Debug, PartialEq, Eq)]
-pub(crate) enum FileFault {
+pub(crate) enum NamedFault {
     Missing,
     Unread,
     TooLong,
@@ -19,7 +19,7 @@ pub(crate) enum FileFault {
     TooManyLines,
 }
 
-impl FileFault {
+impl NamedFault {
     /// The fault of the file of this name.
     pub(crate) fn told(self, alloc: Global, name: &str) -> Result<Fault, AllocError>
         ensures { IfOk result (λ fault. fault ≡ fault_of name.now self) }
@@ -32,30 +32,30 @@ impl FileFault {
         })
     }
 
-    fn cause(self) -> Cause
+    fn cause(self) -> FaultKind
         ensures { result ≡ cause_of self }
     {
         match self {
-            FileFault::Missing => Cause::Missing,
-            FileFault::Unread => Cause::Unread,
-            FileFault::TooLong => Cause::TooLong,
-            _ => Cause::Content,
+            NamedFault::Missing => FaultKind::Missing,
+            NamedFault::Unread => FaultKind::Unread,
+            NamedFault::TooLong => FaultKind::TooLong,
+            _ => FaultKind::Content,
         }
     }
 }
 
 /// Appends what is told of the fault.
-fn print_fault(line: &mut Vec<u8>, fault: FileFault) -> Result<(), AllocError>
+fn print_fault(line: &mut Vec<u8>, fault: NamedFault) -> Result<(), AllocError>
     ensures { OnOk result (line.new.items ≡ line.old.items ++ fault_text fault) }
 {
     match fault {
-        FileFault::Missing => print_bytes(line, b": no such file\n"),
-        FileFault::Unread => print_bytes(line, b": read failed\n"),
-        FileFault::TooLong => print_bytes(line, b": file too long\n"),
-        FileFault::NotBuilt => print_bytes(line, b": not built yet\n"),
-        FileFault::BadUtf8 { number } => print_place(line, number, b": bad utf-8\n"),
-        FileFault::LineTooLong { number } => print_place(line, number, b": line too long\n"),
-        FileFault::TooManyLines => print_bytes(line, b": too many lines\n"),
+        NamedFault::Missing => push_bytes(line, b": no such file\n"),
+        NamedFault::Unread => push_bytes(line, b": read failed\n"),
+        NamedFault::TooLong => push_bytes(line, b": file too long\n"),
+        NamedFault::NotBuilt => push_bytes(line, b": not built yet\n"),
+        NamedFault::BadUtf8 { number } => print_place(line, number, b": bad utf-8\n"),
+        NamedFault::LineTooLong { number } => print_place(line, number, b": line too long\n"),
+        NamedFault::TooManyLines => push_bytes(line, b": too many lines\n"),
     }
 }
 
@@ -63,8 +63,8 @@ fn print_fault(line: &mut Vec<u8>, fault: FileFault) -> Result<(), AllocError>
 fn print_place(line: &mut Vec<u8>, number: usize, text: &[u8]) -> Result<(), AllocError>
     ensures { OnOk result (line.new.items ≡ line.old.items ++ codes ":" ++ decimal number ++ text.now) }
 {
-    print_bytes(line, b":")?;
-    print_number(line, number)?;
-    print_bytes(line, text)?;
+    push_bytes(line, b":")?;
+    push_number(line, number as u128)?;
+    push_bytes(line, text)?;
     Ok(())
 }

@@ -2,7 +2,7 @@
 ghost use Rattle.std.specs.Prelude.{◌≡◌, ◌==◌, ◌<◌, drop, length, position, IfOk, IfSome};
 ghost use Rattle.std.specs.Char.{is_ascii_alphabetic, is_ascii_alphanumeric};
 ghost use Rattle.std.specs.List.{before_first, list_all, list_any};
-ghost use Rattle.vimsyn_cli.specs.LiteralSyntax.{cut, is_group_name, is_literal, literal_syntax, same_name, spells};
+ghost use Rattle.vimsyn_cli.specs.LiteralSyntax.{cut, is_group_name, is_literal, is_taken, literal_syntax, same_name, spells};
 
 use std::alloc::{AllocError, Global};
 use std::marker::Model;
@@ -162,7 +162,14 @@ fn is_new_group(name: &[u8]) -> bool
     if name.is_empty() || name.len() > 200 || !is_alphabetic(name) {
         return false;
     }
-    !is_among(&TAKEN_NAMES, name)
+    !is_taken(name)
+}
+
+/// Whether the name is one that a new group can't have.
+fn is_taken(name: &[u8]) -> bool
+    ensures { result ≡ is_taken name.now }
+{
+    is_among(&TAKEN_NAMES, name)
 }
 
 /// Whether the literal has the form that is painted.

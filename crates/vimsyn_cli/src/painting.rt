@@ -1,13 +1,13 @@
 //! From two names to the printed painting, or to what stops it: the syntax file first, then the text.
 ghost use Rattle.std.specs.Prelude.{◌≡◌, ◌<◌, ◌≤◌, IfSome, length};
 ghost use Rattle.text_buffer.specs.TextOfBytes.{line_of_fault, text_of};
-ghost use Rattle.vimsyn_cli.specs.FileStop.{IsStop, Reads, StopsForText};
+ghost use Rattle.vimsyn_cli.specs.FileStop.{IsStop, ReadsFile, StopsForText};
 ghost use Rattle.vimsyn_cli.specs.Report.{IsFaultOf, fault_of};
 ghost use Rattle.vimsyn_cli.specs.Spans.{IsFileFault, IsUnreadFile, file_bytes, spans_session, with_text};
-ghost use Rattle.vimsyn_cli.specs.Stop.{Counts, IfFault, IsOfContent, Plans, PlansRead, is_missing, is_too_long, is_unread};
+ghost use Rattle.vimsyn_cli.specs.Stop.{RaisesItsCount, IfFault, IsOfContent, Plans, PlansRead, is_missing, is_too_long, is_unread};
 
 use crate::fault::Stop;
-use crate::file_fault::FileFault;
+use crate::file_fault::NamedFault;
 use crate::literal_syntax::LiteralSyntax;
 use crate::print::print_painting;
 use program_words::SpansWords;
@@ -29,15 +29,15 @@ pub(crate) fn print_files<F: Files>(
 ) -> Result<List<u8>, Stop>
     ensures kept { F.told files.new ≡ F.told files.old }
     ensures planned { IfSome (F.told files.old) (λ known.
-        Plans (spans_session names.now known) (IsUnreadFile names.now) result) }
+        Plans (spans_session names.now known) (IsUnreadFile names.now known) result) }
     ensures told { IfFault result (IsFileFault names.now) }
-    ensures faults { Counts is_unread result (F.faults files.old) (F.faults files.new) }
-    ensures misses { Counts is_missing result (F.misses files.old) (F.misses files.new) }
-    ensures longs { Counts is_too_long result (F.longs files.old) (F.longs files.new) }
+    ensures faults { RaisesItsCount is_unread result (F.faults files.old) (F.faults files.new) }
+    ensures misses { RaisesItsCount is_missing result (F.misses files.old) (F.misses files.new) }
+    ensures longs { RaisesItsCount is_too_long result (F.longs files.old) (F.longs files.new) }
 {
     let bytes = read_file(alloc, files, names.syntax(), MOST_SYNTAX_BYTES)?;
     let Some(syntax) = LiteralSyntax::read(alloc, bytes.as_slice())? else {
-        return Err(stop_for(alloc, names.syntax(), FileFault::NotBuilt));
+        return Err(stop_for(alloc, names.syntax(), NamedFault::NotBuilt));
     };
     let bytes = read_file(alloc, files, names.text(), MOST_TEXT_BYTES)?;
     print_text(alloc, &syntax, names.text(), bytes.as_slice())
@@ -68,9 +68,9 @@ fn text_stop(alloc: Global, name: &str, fault: TextError) -> Stop
     ensures stop { StopsForText name.now fault result }
 {
     let fault = match fault {
-        TextError::BadUtf8 { line } => FileFault::BadUtf8 { number: line + 1 },
-        TextError::LineTooLong { line } => FileFault::LineTooLong { number: line + 1 },
-        TextError::TooManyLines => FileFault::TooManyLines,
+        TextError::BadUtf8 { line } => NamedFault::BadUtf8 { number: line + 1 },
+        TextError::LineTooLong { line } => NamedFault::LineTooLong { number: line + 1 },
+        TextError::TooManyLines => NamedFault::TooManyLines,
         TextError::Memory => return Stop::Memory,
     };
     stop_for(alloc, name, fault)
@@ -84,23 +84,23 @@ fn read_file<F: Files>(
     limit: usize,
 ) -> Result<List<u8>, Stop>
     ensures kept { F.told files.new ≡ F.told files.old }
-    ensures read { IfSome (F.told files.old) (λ known. Reads name.now (file_bytes known name.now limit) result) }
+    ensures read { IfSome (F.told files.old) (λ known. ReadsFile name.now (file_bytes known name.now limit) result) }
     ensures told { IfFault result (IsFaultOf name.now) }
-    ensures faults { Counts is_unread result (F.faults files.old) (F.faults files.new) }
-    ensures misses { Counts is_missing result (F.misses files.old) (F.misses files.new) }
-    ensures longs { Counts is_too_long result (F.longs files.old) (F.longs files.new) }
+    ensures faults { RaisesItsCount is_unread result (F.faults files.old) (F.faults files.new) }
+    ensures misses { RaisesItsCount is_missing result (F.misses files.old) (F.misses files.new) }
+    ensures longs { RaisesItsCount is_too_long result (F.longs files.old) (F.longs files.new) }
 {
     match files.fetch(alloc, name, limit) {
         Fetched::Whole(bytes) => Ok(bytes),
-        Fetched::Missing => Err(stop_for(alloc, name, FileFault::Missing)),
-        Fetched::TooLong => Err(stop_for(alloc, name, FileFault::TooLong)),
-        Fetched::Failed => Err(stop_for(alloc, name, FileFault::Unread)),
+        Fetched::Missing => Err(stop_for(alloc, name, NamedFault::Missing)),
+        Fetched::TooLong => Err(stop_for(alloc, name, NamedFault::TooLong)),
+        Fetched::Failed => Err(stop_for(alloc, name, NamedFault::Unread)),
         Fetched::Memory => Err(Stop::Memory),
     }
 }
 
 /// The stop for a fault of the file of this name.
-fn stop_for(alloc: Global, name: &str, fault: FileFault) -> Stop
+fn stop_for(alloc: Global, name: &str, fault: NamedFault) -> Stop
     ensures { IsStop (fault_of name.now fault) result }
 {
     match fault.told(alloc, name) {

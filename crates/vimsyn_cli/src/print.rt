@@ -1,11 +1,11 @@
 //! The span lines of a painted text.
-ghost use Rattle.std.specs.Prelude.{◌≡◌, ◌<◌, ◌≤◌, ◌^◌, ◌++◌, decimal, length, IfOk, OnOk};
+ghost use Rattle.std.specs.Prelude.{◌≡◌, ◌<◌, ◌≤◌, ◌^◌, ◌++◌, length, IfOk, OnOk};
 ghost use Rattle.vimsyn_cli.specs.Painting.{spans_of};
-ghost use Rattle.vimsyn_cli.specs.SpanText.{painting_text, span_text, spans_text};
+ghost use Rattle.vimsyn_cli.specs.SpanText.{painting_text, run_text, runs_text};
 
 use crate::literal_syntax::LiteralSyntax;
 use crate::paint::{Run, next_run};
-use itoa::Buffer;
+use byte_text::{push_bytes, push_number};
 use std::alloc::{AllocError, Global};
 use syn_base::Lines;
 
@@ -49,7 +49,7 @@ fn print_line(
 ) -> Result<(), AllocError>
     requires some { 0 < length literal.now }
     requires few { number < 2 ^ 32 }
-    ensures { OnOk result (out.new.items ≡ out.old.items ++ spans_text name.now number (spans_of literal.now line.now)) }
+    ensures { OnOk result (out.new.items ≡ out.old.items ++ runs_text name.now number (spans_of literal.now line.now)) }
 {
     let mut column = 0;
     while let Some(run) = next_run(literal, line, column) {
@@ -63,29 +63,17 @@ fn print_line(
 fn print_span(out: &mut Vec<u8>, name: &[u8], number: usize, run: Run) -> Result<(), AllocError>
     requires number { number < 2 ^ 32 }
     requires columns { (run.first < usize.MAX) × (run.last < usize.MAX) }
-    ensures { OnOk result (out.new.items ≡ out.old.items ++ span_text name.now number run) }
+    ensures { OnOk result (out.new.items ≡ out.old.items ++ run_text name.now number run) }
 {
-    print_number(out, number + 1)?;
-    print_bytes(out, b":")?;
-    print_number(out, run.first + 1)?;
-    print_bytes(out, b"-")?;
-    print_number(out, run.last + 1)?;
-    print_bytes(out, b" ")?;
-    print_bytes(out, name)?;
-    print_bytes(out, b" ")?;
-    print_bytes(out, name)?;
-    print_bytes(out, b"\n")?;
+    push_number(out, number as u128 + 1)?;
+    push_bytes(out, b":")?;
+    push_number(out, run.first as u128 + 1)?;
+    push_bytes(out, b"-")?;
+    push_number(out, run.last as u128 + 1)?;
+    push_bytes(out, b" ")?;
+    push_bytes(out, name)?;
+    push_bytes(out, b" ")?;
+    push_bytes(out, name)?;
+    push_bytes(out, b"\n")?;
     Ok(())
-}
-
-pub(crate) fn print_number(out: &mut Vec<u8>, number: usize) -> Result<(), AllocError>
-    ensures { OnOk result (out.new.items ≡ out.old.items ++ decimal number) }
-{
-    out.extend_from_slice(Buffer::new().format(number).as_bytes())
-}
-
-pub(crate) fn print_bytes(out: &mut Vec<u8>, bytes: &[u8]) -> Result<(), AllocError>
-    ensures { OnOk result (out.new.items ≡ out.old.items ++ bytes.now) }
-{
-    out.extend_from_slice(bytes)
 }

@@ -6,9 +6,9 @@ ghost use Rattle.std.specs.Prelude.{◌≡◌, ◌≢◌, ◌⊎◌, None, IfSom
 ghost use Rattle.program_words.specs.Words.{asked_of, texts_of};
 ghost use Rattle.syn_base.specs.Causes.{Rose};
 ghost use Rattle.syn_base.specs.Outside.{AppendsPrefix, appended};
-ghost use Rattle.vimsyn_cli.specs.Answers.{Delivers, Gives, IsFaultOfAsked, IsUnreadLine, TellsAllUnread, TellsFault, TellsUnread, Writes, is_unfailed};
+ghost use Rattle.vimsyn_cli.specs.Answers.{Delivers, GivesSession, IsFaultOfAsked, IsUnreadLine, TellsAllUnread, TellsFault, TellsUnread, Writes, is_unfailed};
 ghost use Rattle.vimsyn_cli.specs.Session.{asked_session, session};
-ghost use Rattle.vimsyn_cli.specs.Stop.{Counts, IfFault, Plans, is_missing, is_too_long, is_unread};
+ghost use Rattle.vimsyn_cli.specs.Stop.{RaisesItsCount, IfFault, Plans, is_missing, is_too_long, is_unread};
 
 use crate::Status;
 use crate::check::check;
@@ -41,7 +41,7 @@ pub fn run<F: Files, I: Source, O: Sink, E: Sink, L: Ledger>(
     ensures session { IfSome (F.told files.old) (λ known.
         ¬ Rose (F.faults files.old) (F.faults files.new) → ¬ Rose (O.faults out.old) (O.faults out.new)
         → ¬ Rose (E.faults err.old) (E.faults err.new) → result ≢ Status.Memory
-        → Gives (session (texts_of words.now) known)
+        → GivesSession (session (texts_of words.now) known)
         (O.written out.old) (O.written out.new) (E.written err.old) (E.written err.new) result) }
 
     // Whatever the answer, the sinks got a part of the session's bytes from their front, but that `err`
@@ -83,19 +83,19 @@ pub fn run<F: Files, I: Source, O: Sink, E: Sink, L: Ledger>(
     let Some(asked) = Asked::read(words) else {
         return finish(err, USAGE, Status::Usage);
     };
-    let answer = carry_out(alloc, files, &asked);
+    let answer = run_command(alloc, files, &asked);
     deliver(answer, out, err)
 }
 
 /// What the command prints, or why it prints nothing.
-fn carry_out<F: Files>(alloc: Global, files: &mut F, asked: &Asked<'_>) -> Result<List<u8>, Stop>
+fn run_command<F: Files>(alloc: Global, files: &mut F, asked: &Asked<'_>) -> Result<List<u8>, Stop>
     ensures kept { F.told files.new ≡ F.told files.old }
     ensures planned { IfSome (F.told files.old) (λ known.
         Plans (asked_session asked.now known) (IsUnreadLine asked.now known) result) }
     ensures told { IfFault result (IsFaultOfAsked asked.now) }
-    ensures faults { Counts is_unread result (F.faults files.old) (F.faults files.new) }
-    ensures misses { Counts is_missing result (F.misses files.old) (F.misses files.new) }
-    ensures longs { Counts is_too_long result (F.longs files.old) (F.longs files.new) }
+    ensures faults { RaisesItsCount is_unread result (F.faults files.old) (F.faults files.new) }
+    ensures misses { RaisesItsCount is_missing result (F.misses files.old) (F.misses files.new) }
+    ensures longs { RaisesItsCount is_too_long result (F.longs files.old) (F.longs files.new) }
 {
     match asked {
         Asked::Spans(names) => print_files(alloc, files, names),

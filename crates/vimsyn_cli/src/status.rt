@@ -1,11 +1,11 @@
 //! How a run ends.
 
-/// How a run ends. The program's exit status is the variant's number, from 0.
+/// How a run ends.
 #[derive(Clone, Copy, Debug, PartialEq, Eq)]
 pub enum Status {
     /// All was printed.
     Done,
-    /// A file is of another form than is asked for.
+    /// What a file holds is refused, or a file is too long; `err` has the line that tells it.
     Refused,
     /// The words aren't in the table of words.
     Usage,
@@ -15,4 +15,23 @@ pub enum Status {
     WriteFault,
     /// Want of memory.
     Memory,
+}
+
+impl Status {
+    ghost use Rattle.std.specs.Prelude.{◌≡◌};
+    ghost use Rattle.vimsyn_cli.specs.Statuses.{exit_status};
+
+    /// The exit status of a program that ends so.
+    pub fn code(self) -> u8
+        ensures { result ≡ exit_status self }
+    {
+        match self {
+            Status::Done => 0,
+            Status::Refused => 1,
+            Status::Usage => 2,
+            Status::ReadFault => 3,
+            Status::WriteFault => 4,
+            Status::Memory => 5,
+        }
+    }
 }

@@ -1,4 +1,4 @@
-use Rattle.vimsyn_cli.specs.declared.file_fault.FileFault.TheVariants.{Missing, TooLong, Unread}
+use Rattle.vimsyn_cli.specs.declared.file_fault.NamedFault.TheVariants.{Missing, TooLong, Unread}
 use Rattle.vimsyn_cli.proofs.SessionLaws.{is_long_in, is_missing_in, stop_read, stop_told, unread_in}
 use Rattle.vimsyn_cli.proofs.painting.read_file.Goals as goal
 

@@ -26,39 +26,39 @@ returns-in_default-clause-err_part_or_unread g c =
 
 pub returns-clause-session : goal.returns-clause-session
 returns-clause-session g c =
-    session_gives (g.F.Files.told c.args.files.now) (texts_of c.args.words.now) c.in-Some.asked c.carry_out-answer.result _ _ (g.F.Files.faults c.args.files.now) (g.F.Files.faults c.carry_out-answer.new.files) c.deliver.result
-    (sym c.read.ensures ∙ c.in-Some.is) c.carry_out-answer.ensures.planned c.deliver.ensures c.carry_out-answer.ensures.faults
+    session_gives (g.F.Files.told c.args.files.now) (texts_of c.args.words.now) c.in-Some.asked c.run_command-answer.result _ _ (g.F.Files.faults c.args.files.now) (g.F.Files.faults c.run_command-answer.new.files) c.deliver.result
+    (sym c.read.ensures ∙ c.in-Some.is) c.run_command-answer.ensures.planned c.deliver.ensures c.run_command-answer.ensures.faults
 
 pub returns-clause-out_part : goal.returns-clause-out_part
 returns-clause-out_part g c =
-    session_out_part (g.F.Files.told c.args.files.now) (texts_of c.args.words.now) c.in-Some.asked c.carry_out-answer.result _ _ c.deliver.result
-    (sym c.read.ensures ∙ c.in-Some.is) c.carry_out-answer.ensures.planned c.deliver.ensures
+    session_out_part (g.F.Files.told c.args.files.now) (texts_of c.args.words.now) c.in-Some.asked c.run_command-answer.result _ _ c.deliver.result
+    (sym c.read.ensures ∙ c.in-Some.is) c.run_command-answer.ensures.planned c.deliver.ensures
 
 pub returns-clause-err_part : goal.returns-clause-err_part
 returns-clause-err_part g c =
-    session_err_part (g.F.Files.told c.args.files.now) (texts_of c.args.words.now) c.in-Some.asked c.carry_out-answer.result _ _ (g.F.Files.faults c.args.files.now) (g.F.Files.faults c.carry_out-answer.new.files) c.deliver.result
-    (sym c.read.ensures ∙ c.in-Some.is) c.carry_out-answer.ensures.planned c.deliver.ensures c.carry_out-answer.ensures.faults
+    session_err_part (g.F.Files.told c.args.files.now) (texts_of c.args.words.now) c.in-Some.asked c.run_command-answer.result _ _ (g.F.Files.faults c.args.files.now) (g.F.Files.faults c.run_command-answer.new.files) c.deliver.result
+    (sym c.read.ensures ∙ c.in-Some.is) c.run_command-answer.ensures.planned c.deliver.ensures c.run_command-answer.ensures.faults
 
 pub returns-clause-err_part_or_unread : goal.returns-clause-err_part_or_unread
 returns-clause-err_part_or_unread g c =
-    session_err_or_unread (g.F.Files.told c.args.files.now) (texts_of c.args.words.now) c.in-Some.asked c.carry_out-answer.result _ _ c.deliver.result
-    (sym c.read.ensures ∙ c.in-Some.is) c.carry_out-answer.ensures.planned c.deliver.ensures
+    session_err_or_unread (g.F.Files.told c.args.files.now) (texts_of c.args.words.now) c.in-Some.asked c.run_command-answer.result _ _ c.deliver.result
+    (sym c.read.ensures ∙ c.in-Some.is) c.run_command-answer.ensures.planned c.deliver.ensures
 
 pub returns-clause-read_fault_told : goal.returns-clause-read_fault_told
 returns-clause-read_fault_told g c =
-    session_read_fault (g.F.Files.told c.args.files.now) (texts_of c.args.words.now) c.in-Some.asked c.carry_out-answer.result _ _ c.deliver.result
-    (sym c.read.ensures ∙ c.in-Some.is) c.carry_out-answer.ensures.planned c.deliver.ensures
+    session_read_fault (g.F.Files.told c.args.files.now) (texts_of c.args.words.now) c.in-Some.asked c.run_command-answer.result _ _ c.deliver.result
+    (sym c.read.ensures ∙ c.in-Some.is) c.run_command-answer.ensures.planned c.deliver.ensures
 
 pub returns-clause-refused : goal.returns-clause-refused
 returns-clause-refused g c is =
-    session_tells (texts_of c.args.words.now) c.in-Some.asked c.carry_out-answer.result _ _ (g.F.Files.longs c.args.files.now) (g.F.Files.longs c.carry_out-answer.new.files) c.deliver.result
-    (sym c.read.ensures ∙ c.in-Some.is) c.carry_out-answer.ensures.told c.deliver.ensures c.carry_out-answer.ensures.longs
+    session_tells (texts_of c.args.words.now) c.in-Some.asked c.run_command-answer.result _ _ (g.F.Files.longs c.args.files.now) (g.F.Files.longs c.run_command-answer.new.files) c.deliver.result
+    (sym c.read.ensures ∙ c.in-Some.is) c.run_command-answer.ensures.told c.deliver.ensures c.run_command-answer.ensures.longs
     (λ other. absurd (cc (is, other))) (λ other. absurd (cc (is, other))) (λ other. absurd (cc (is, other)))
 
 pub returns-clause-read_fault_line : goal.returns-clause-read_fault_line
 returns-clause-read_fault_line g c is =
-    session_tells (texts_of c.args.words.now) c.in-Some.asked c.carry_out-answer.result _ _ (g.F.Files.longs c.args.files.now) (g.F.Files.longs c.carry_out-answer.new.files) c.deliver.result
-    (sym c.read.ensures ∙ c.in-Some.is) c.carry_out-answer.ensures.told c.deliver.ensures c.carry_out-answer.ensures.longs
+    session_tells (texts_of c.args.words.now) c.in-Some.asked c.run_command-answer.result _ _ (g.F.Files.longs c.args.files.now) (g.F.Files.longs c.run_command-answer.new.files) c.deliver.result
+    (sym c.read.ensures ∙ c.in-Some.is) c.run_command-answer.ensures.told c.deliver.ensures c.run_command-answer.ensures.longs
     (λ other. absurd (cc (is, other))) (λ other. absurd (cc (is, other))) (λ other. absurd (cc (is, other)))
 
 pub returns-in_default-clause-err_unfailed : goal.returns-in_default-clause-err_unfailed
@@ -67,7 +67,7 @@ returns-in_default-clause-err_unfailed g c =
     usage_line Usage c.finish.result c.finish.ensures
 
 pub returns-clause-out_unfailed : goal.returns-clause-out_unfailed
-returns-clause-out_unfailed g c = out_unfailed c.carry_out-answer.result _ _ c.deliver.result c.deliver.ensures
+returns-clause-out_unfailed g c = out_unfailed c.run_command-answer.result _ _ c.deliver.result c.deliver.ensures
 
 pub returns-clause-err_unfailed : goal.returns-clause-err_unfailed
-returns-clause-err_unfailed g c = err_unfailed c.carry_out-answer.result _ _ c.deliver.result c.deliver.ensures
+returns-clause-err_unfailed g c = err_unfailed c.run_command-answer.result _ _ c.deliver.result c.deliver.ensures
