@@ -14,7 +14,7 @@ use syn_base::{HostFiles, NoLedger, StdSink, StdSource, Steps};
 use vimsyn_cli::{Status, run};
 
 fn main(rt: HostRuntime) -> ExitCode {
-    ExitCode::from(status::<Brand>(rt, Blank::new(1)) as u8)
+    ExitCode::from(status::<Brand>(rt, Blank::new(1)).code())
 }
 
 /// Runs the program over the machine. The blank is what nothing is counted with.
