@@ -1,3 +1,4 @@
+pub mod CodeLaws
 mod KnownCharacters
 mod KnownValues
 pub mod ReadingLaws

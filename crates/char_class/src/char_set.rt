@@ -1,12 +1,12 @@
 //! A set of characters, as a bit set of its members below 256.
 ghost use Rattle.std.specs.Prelude.{◌≡◌, ◌==◌, ◌&&◌, ℕ, not, [], if◌then◌else◌};
 ghost use Rattle.std.specs.Str.{chars};
-ghost use Rattle.char_class.specs.Bits.{has_bit};
+ghost use Rattle.char_class.specs.Bits.{has_code};
 ghost use Rattle.char_class.specs.CharSet.{is_member, is_numeric, set_has, set_where};
 ghost use Rattle.char_class.specs.OptionValue.{is_named, set_of, with_part};
 
-use crate::BadOption;
 use crate::option_value::{Part, Reader};
+use crate::{BadOption, Codes};
 use std::marker::Model;
 use unicode::properties::{GeneralCategory, GeneralCategoryGroup, is_alphabetic};
 
@@ -14,16 +14,16 @@ use unicode::properties::{GeneralCategory, GeneralCategoryGroup, is_alphabetic};
 /// its members below 256, least first.
 #[derive(Drop)]
 pub struct CharSet {
-    words: [u64; 4],
+    codes: Codes,
 }
 
 impl Model for CharSet {
     ghost use Rattle.std.specs.Prelude.{ℕ, List};
-    ghost use Rattle.char_class.specs.Bits.{members_in};
+    ghost use Rattle.char_class.specs.Bits.{members_of};
 
     ghost Value = { List ℕ };
 
-    ghost view = { λ s. members_in s.words };
+    ghost view = { λ s. members_of s.codes };
 }
 
 impl CharSet {
@@ -57,13 +57,15 @@ impl CharSet {
     fn has_code(&self, code: u8) -> bool
         ensures { result ≡ is_member self.now code }
     {
-        self.words[usize::from(code / 64)] >> (code % 64) & 1 == 1
+        self.codes.have(code)
     }
 
     pub(crate) fn new() -> CharSet
         ensures { result ≡ [] }
     {
-        CharSet { words: [0; 4] }
+        CharSet {
+            codes: Codes::none(),
+        }
     }
 
     /// Puts what the part names in, or takes it out.
@@ -72,29 +74,20 @@ impl CharSet {
     {
         let (low, high) = part.members.bounds();
         for code in low..=high {
-            apply_to(&mut self.words, part, code);
+            apply_to(&mut self.codes, part, code);
         }
     }
 }
 
 /// Puts one code in or takes it out, where the part names it.
-fn apply_to(words: &mut [u64; 4], part: Part, code: u8)
-    ensures { (c : ℕ) → has_bit words.new c ≡
+fn apply_to(codes: &mut Codes, part: Part, code: u8)
+    ensures { (c : ℕ) → has_code codes.new c ≡
         (if is_named part.members c && c == code then not part.taken_out
-        else has_bit words.old c) }
+        else has_code codes.old c) }
 {
     if part.members.have(code) {
-        put(words, code, !part.taken_out);
+        codes.set(code, !part.taken_out);
     }
-}
-
-fn put(words: &mut [u64; 4], code: u8, member: bool)
-    ensures { (c : ℕ) → has_bit words.new c ≡ (if c == code then member else has_bit words.old c) }
-{
-    let at = usize::from(code / 64);
-    let bit: u64 = 1 << (code % 64);
-    let word = words[at];
-    words[at] = if member { word | bit } else { word & !bit };
 }
 
 fn is_number(c: char) -> bool

@@ -8,12 +8,14 @@
 
 mod char_set;
 mod classes;
+mod codes;
 mod folds;
 mod option_value;
 mod sets;
 
 pub use char_set::CharSet;
 pub use classes::class_has;
+pub use codes::Codes;
 pub use folds::{fold, range_has, same};
 pub use option_value::BadOption;
 pub use sets::Sets;

@@ -2,14 +2,14 @@
 -- collection hold: the characters below 256 of the parts on which none decides.
 use Rattle.std.specs.Prelude.{◌≡◌, ℕ, ◌<◌, Bool, true, false, ◌&&◌, not, List}
 use Rattle.std.specs.List.{list_any}
-use Rattle.char_class.specs.Bits.{has_bit}
+use Rattle.char_class.specs.Bits.{has_code}
 use Rattle.char_class.specs.declared.sets.Sets.{Sets}
 use Rattle.syn_base.specs.declared.class.Class.{Class}
 use Rattle.syn_base.specs.declared.class.Class.TheVariants.{Ident, Keyword, File, IdentNoDigit, KeywordNoDigit, FileNoDigit}
 use Rattle.pattern_items.specs.declared.atom.SetPart.{SetPart}
 use Rattle.pattern_items.specs.declared.atom.SetPart.TheVariants.{Of}
 use Rattle.match_rules.specs.Collections.{part_holds}
-use Rattle.pattern_match.specs.declared.codes.Codes.{Codes}
+use Rattle.char_class.specs.declared.codes.Codes.{Codes}
 
 abbrev pub is_optional_class : Class → Bool
 is_optional_class Ident = true
@@ -35,9 +35,6 @@ some_fixed_holds parts c sets ignore = list_any
 abbrev pub some_optional_holds : List SetPart → ℕ → Sets → Bool → Bool
 some_optional_holds parts c sets ignore =
     list_any (λ part. is_optional part && part_holds part c sets ignore) parts
-
-abbrev pub has_code : Codes → ℕ → Bool
-has_code codes c = has_bit codes.words c
 
 -- a table holds what the fixed parts do, whatever the sets are
 pub record IsTableOf (parts : List SetPart) (ignore : Bool) (codes : Codes) : Type 0 where

@@ -4,9 +4,8 @@ ghost use Rattle.match_rules.specs.Collections.{collection_holds};
 ghost use Rattle.char_class.specs.declared.sets.Sets.{Sets as SetsOf};
 ghost use Rattle.pattern_match.specs.ReadyParts.{some_fixed_holds, some_optional_holds, some_part_holds};
 
-use crate::codes::Codes;
 use crate::tables::{some_is_optional, some_optional_has, some_part_has, table_of};
-use char_class::Sets;
+use char_class::{Codes, Sets};
 use pattern_items::CharRanges;
 use std::alloc::Global;
 use std::marker::Model;

@@ -10,7 +10,6 @@ mod answer;
 mod atoms;
 mod behind;
 mod cases;
-mod codes;
 mod collection;
 mod context;
 mod look;

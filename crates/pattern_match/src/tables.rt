@@ -2,12 +2,12 @@
 ghost use Rattle.std.specs.Prelude.{◌≡◌, ◌&&◌, ℕ, ◌<◌, not, IsOk, codes, Ok};
 ghost use Rattle.std.specs.List.{list_any};
 ghost use Rattle.std.specs.Str.{chars};
+ghost use Rattle.char_class.specs.Bits.{has_code};
 ghost use Rattle.char_class.specs.OptionValue.{set_of};
 ghost use Rattle.match_rules.specs.Collections.{class_in_set, part_holds};
-ghost use Rattle.pattern_match.specs.ReadyParts.{IsTableOf, has_code, is_optional, is_optional_class, some_fixed_holds, some_optional_holds, some_part_holds};
+ghost use Rattle.pattern_match.specs.ReadyParts.{IsTableOf, is_optional, is_optional_class, some_fixed_holds, some_optional_holds, some_part_holds};
 
-use crate::codes::Codes;
-use char_class::{CharSet, Sets, class_has, range_has};
+use char_class::{CharSet, Codes, Sets, class_has, range_has};
 use pattern_items::SetPart;
 use syn_base::Class;
 

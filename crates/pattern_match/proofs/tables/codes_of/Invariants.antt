@@ -1,6 +1,7 @@
 use Rattle.std.proofs.Common.{◌≡◌, ℕ, false}
 use Rattle.std.specs.Prelude.{nat_lt, if◌then◌else◌}
-use Rattle.pattern_match.specs.ReadyParts.{has_code, some_fixed_holds}
+use Rattle.char_class.specs.Bits.{has_code}
+use Rattle.pattern_match.specs.ReadyParts.{some_fixed_holds}
 use Rattle.pattern_match.proofs.tables.codes_of.Given as goal
 
 -- the codes below `code` are in where a part holds their characters

@@ -13,7 +13,7 @@ returns c =
 pub returns-2 : goal.returns-2
 returns-2 c =
     let part = c.args.part in
-    let old = c.self.inside.words in
+    let old = c.self.inside.codes.words in
     let code = c.loop-code.code in
     let done : (bounds_of part.members).1 < code + 1 = rw (← c.bounds-low.ensures) (omega arith) in
     let changed = λ (k : ℕ). c.apply_to.ensures k

@@ -7,5 +7,5 @@ use Rattle.char_class.proofs.char_set.CharSet.apply.Given as goal
 -- the codes below `code` that the part names are put in or taken out
 abbrev pub invariant-loop-code : goal.invariant-loop-code
 invariant-loop-code l =
-    (c : ℕ) → has_bit l.self-inside.words c ≡
-    (if is_named l.part.members c && nat_lt c l.code then not l.part.taken_out else has_bit l.initial.self-inside.words c)
+    (c : ℕ) → has_bit l.self-inside.codes.words c ≡
+    (if is_named l.part.members c && nat_lt c l.code then not l.part.taken_out else has_bit l.initial.self-inside.codes.words c)

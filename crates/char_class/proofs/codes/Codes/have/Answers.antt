@@ -2,7 +2,7 @@ use Rattle.std.proofs.Common.{◌≡◌, ◌/◌, ap}
 use Rattle.std.specs.Prelude.{◌==◌, slice_index}
 use Rattle.std.proofs.lemmas.Nat.Bits.{shr_and_one}
 use Rattle.char_class.specs.Bits.{has_bit}
-use Rattle.pattern_match.proofs.codes.Codes.have.Goals as goal
+use Rattle.char_class.proofs.codes.Codes.have.Goals as goal
 
 pub returns : goal.returns
 unfolding has_bit

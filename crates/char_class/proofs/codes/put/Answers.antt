@@ -1,7 +1,7 @@
 use Rattle.std.proofs.Common.{◌<◌, arith}
 use Rattle.char_class.proofs.SetLaws.{has_bit-put_at, has_bit-cut_at}
-use Rattle.char_class.proofs.char_set.put.Goals as goal
-use Rattle.char_class.proofs.char_set.put.Goals.{then-member, else-member}
+use Rattle.char_class.proofs.codes.put.Goals as goal
+use Rattle.char_class.proofs.codes.put.Goals.{then-member, else-member}
 
 pub returns : goal.returns
 returns c k =
