@@ -50,7 +50,7 @@ fn write_answer<W: Write>(
 /// Writes a status, and what the sinks got.
 fn write_outcome<W: Write>(out: &mut W, sinks: &Sinks, status: Status) -> io::Result<()> {
     let word = word_of(status);
-    let number = number_of(status);
+    let number = status.code();
     let told = sinks.out.bytes().escape_ascii();
     write!(out, "{word} {number}\tout={told}")?;
     let told = sinks.err.bytes().escape_ascii();
@@ -65,17 +65,5 @@ fn word_of(status: Status) -> &'static str {
         Status::ReadFault => "read-fault",
         Status::WriteFault => "write-fault",
         Status::Memory => "memory",
-    }
-}
-
-/// The status with which the program ends.
-pub(crate) fn number_of(status: Status) -> u8 {
-    match status {
-        Status::Done => 0,
-        Status::Refused => 1,
-        Status::Usage => 2,
-        Status::ReadFault => 3,
-        Status::WriteFault => 4,
-        Status::Memory => 5,
     }
 }

@@ -41,7 +41,7 @@ mod running;
 mod session;
 mod text;
 
-use answer::{number_of, write_answers};
+use answer::write_answers;
 use session::Session;
 use std::alloc::Global;
 use std::io;
@@ -54,7 +54,7 @@ fn main(rt: HostRuntime) -> io::Result<ExitCode> {
     let mut output = BufWriter::new(rt.alloc(), io::writer(&rt))?;
     let status = answer_all(rt.alloc(), input, &mut output)?;
     output.flush()?;
-    Ok(ExitCode::from(number_of(status)))
+    Ok(ExitCode::from(status.code()))
 }
 
 /// Answers all sessions of the input, and the last one's status.

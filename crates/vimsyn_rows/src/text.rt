@@ -4,7 +4,7 @@ use crate::mistake::{Mistake, Unread};
 use byte_text::{push_number, push_number_from_one};
 use std::alloc::Global;
 
-/// The most bytes of a text, and the most turns of a repetition.
+/// The most bytes of a text, and the most pieces of all turns of a repetition.
 const MOST_BYTES: usize = 100_000_000;
 
 /// A piece of a text.
@@ -57,6 +57,9 @@ fn push_repetition<'p>(
     let Some((repeated, behind)) = split_at_closing(pieces) else {
         return Err(Unread::Mistake(Mistake::Repetition));
     };
+    if repeated.len().saturating_mul(count) > MOST_BYTES {
+        return Err(Unread::Mistake(Mistake::TooLong));
+    }
     for turn in 0..count {
         for piece in repeated {
             push_piece(bytes, *piece, Some(turn))?;
