@@ -3,7 +3,7 @@ ghost use Rattle.std.specs.Prelude.{◌≡◌, ◌+◌, ◌++◌, codes, decimal
 ghost use Rattle.pattern_items.specs.CauseText as pattern;
 ghost use Rattle.cause_print.specs.CauseText as spec;
 
-use byte_text::{push_bytes, push_chars, push_number};
+use byte_text::{push_bytes, push_chars, push_number_from_one};
 use std::alloc::{AllocError, Global};
 use syn_base::{List, Memory};
 use syn_words::Cause;
@@ -42,7 +42,7 @@ fn print_place(
 {
     push_bytes(out, cause.to_string(alloc)?.as_bytes())?;
     push_bytes(out, b" at ")?;
-    push_number(out, at as u128 + 1)?;
+    push_number_from_one(out, at)?;
     Ok(())
 }
 

@@ -27,7 +27,7 @@ fn print_count(out: &mut Vec<u8>, name: &[u8], number: usize) -> Result<(), Allo
     ensures { OnOk result (out.new.items ≡ out.old.items ++ spec.count_line name.now number) }
 {
     push_bytes(out, name)?;
-    push_number(out, number as u128)?;
+    push_number(out, number)?;
     push_bytes(out, b"\n")?;
     Ok(())
 }

@@ -79,7 +79,7 @@ fn print_place(out: &mut Vec<u8>, file: &[char], line: usize) -> Result<(), Allo
 {
     push_chars(out, file)?;
     push_bytes(out, b":")?;
-    push_number(out, line as u128)?;
+    push_number(out, line)?;
     push_bytes(out, b": ")?;
     Ok(())
 }

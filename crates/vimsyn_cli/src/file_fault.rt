@@ -64,7 +64,7 @@ fn print_place(line: &mut Vec<u8>, number: usize, text: &[u8]) -> Result<(), All
     ensures { OnOk result (line.new.items ≡ line.old.items ++ codes ":" ++ decimal number ++ text.now) }
 {
     push_bytes(line, b":")?;
-    push_number(line, number as u128)?;
+    push_number(line, number)?;
     push_bytes(line, text)?;
     Ok(())
 }

@@ -5,7 +5,7 @@ ghost use Rattle.vimsyn_cli.specs.SpanText.{painting_text, run_text, runs_text};
 
 use crate::literal_syntax::LiteralSyntax;
 use crate::paint::{Run, next_run};
-use byte_text::{push_bytes, push_number};
+use byte_text::{push_bytes, push_number_from_one};
 use std::alloc::{AllocError, Global};
 use syn_base::Lines;
 
@@ -65,11 +65,11 @@ fn print_span(out: &mut Vec<u8>, name: &[u8], number: usize, run: Run) -> Result
     requires columns { (run.first < usize.MAX) × (run.last < usize.MAX) }
     ensures { OnOk result (out.new.items ≡ out.old.items ++ run_text name.now number run) }
 {
-    push_number(out, number as u128 + 1)?;
+    push_number_from_one(out, number)?;
     push_bytes(out, b":")?;
-    push_number(out, run.first as u128 + 1)?;
+    push_number_from_one(out, run.first)?;
     push_bytes(out, b"-")?;
-    push_number(out, run.last as u128 + 1)?;
+    push_number_from_one(out, run.last)?;
     push_bytes(out, b" ")?;
     push_bytes(out, name)?;
     push_bytes(out, b" ")?;
