@@ -1,6 +1,11 @@
+mod Rows
 pub mod WordLaws
 pub mod SpelledWords
 pub mod SpelledPieces
 pub mod SpelledItems
 pub mod SpelledCommands
 pub mod SpelledFiles
+pub mod LeftLaws
+pub mod TurnLaws
+pub mod StyleTurns
+pub mod ListTurns

@@ -17,3 +17,4 @@ pub mod FileCommands
 -- laws above it
 pub mod Spelled
 pub mod Laws
+pub mod Turns
