@@ -1,5 +1,5 @@
 -- The open items as a list with the innermost first.
-use Rattle.std.proofs.Common.{◌≡◌, ℕ, List, [], ◌∷◌, ◌++◌, map, refl, ap, ◌∙◌, Err, Ok, false, length}
+use Rattle.std.proofs.Common.{◌≡◌, ℕ, List, [], ◌∷◌, ◌++◌, map, refl, ap, ◌∙◌, Err, Ok, true, false, length}
 use Rattle.std.specs.Prelude.{reverse}
 use Rattle.std.proofs.lemmas.List.{map-append, reverse-append, length-reverse, length-map}
 use Rattle.pattern_items.specs.declared.cause.PatternCause.TheVariants as cause
@@ -9,7 +9,7 @@ use Rattle.pattern_items.specs.declared.item.Kind.TheVariants.{Counted, Plain, E
 use Rattle.vim_pattern.specs.Fault.{fault_at, is_optional}
 use Rattle.vim_pattern.specs.Shape.{one}
 use Rattle.pattern_items.specs.declared.atom.Atom.TheVariants.{Char}
-use Rattle.vim_pattern.specs.Read.{Part, Outer, State, finish, outermost, in_list, square_step, on_part, put, close_step, close_kind, back, pattern_of}
+use Rattle.vim_pattern.specs.Read.{Part, Outer, State, finish, outermost, in_list, square_step, on_part, put, close_step, close_kind, back, pattern_of, refuse}
 use Rattle.vim_pattern.specs.Built.{under_of, outer_of, group_of}
 
 pub under_push : (os : List OpenItem) (o : OpenItem) → under_of (os ++ (o ∷ [])) ≡ outer_of o ∷ under_of os
@@ -35,6 +35,17 @@ close_group at p o os e = by_kind o.kind e
     by_kind Plain e = refl
     by_kind (External n) e = refl
     by_kind Optional e = cc
+
+-- a closing item in an optional list
+pub close_list : (at : ℕ) (p : Part) (os : List Outer) → in_list os ≡ true → close_step at p os ≡ refuse at cause.UnopenedClose
+close_list at p [] e = cc
+close_list at p (o ∷ os) e = by_kind o.kind e
+  where
+    by_kind : (k : Kind) → is_optional k ≡ true → close_kind at p o os k ≡ refuse at cause.UnopenedClose
+    by_kind (Counted n) e = cc
+    by_kind Plain e = cc
+    by_kind (External n) e = cc
+    by_kind Optional e = refl
 
 pub length_under : (os : List OpenItem) → length (under_of os) ≡ length os
 length_under os = length-reverse (map outer_of os) ∙ length-map os outer_of

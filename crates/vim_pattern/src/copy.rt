@@ -102,6 +102,60 @@ fn put_all_over(alloc: Global, all: Vec<Above>, node: Node) -> Result<Node, Memo
     Ok(node)
 }
 
+/// The parts of a node with one child, but for that child.
+fn above_one(node: &Node) -> Above
+    ensures { spec.AboveOne result (bare node.now) }
+{
+    match node {
+        Node::Group(_, number) => Above::Group(*number),
+        Node::External(_, number) => Above::External(*number),
+        Node::Repeat {
+            part: _,
+            least,
+            most,
+            lazy,
+        } => Above::Repeat {
+            least: *least,
+            most: *most,
+            lazy: *lazy,
+        },
+        Node::Ahead { part: _, not } => Above::Ahead { not: *not },
+        Node::Before {
+            part: _,
+            not,
+            limit,
+        } => Above::Before {
+            not: *not,
+            limit: *limit,
+        },
+        Node::Whole(_)
+        | Node::Empty
+        | Node::One(_)
+        | Node::Seq(_, _)
+        | Node::Or(_, _)
+        | Node::And(_, _) => Above::Whole,
+    }
+}
+
+/// The parts of a node with two children, but for the last one; `first` is the other, copied.
+fn above_two(node: &Node, first: Node) -> Above
+    ensures { spec.AboveTwo result (bare first) (bare node.now) }
+{
+    match node {
+        Node::Or(_, _) => Above::Or(first),
+        Node::And(_, _) => Above::And(first),
+        Node::Seq(_, _)
+        | Node::Empty
+        | Node::One(_)
+        | Node::Group(_, _)
+        | Node::External(_, _)
+        | Node::Repeat { .. }
+        | Node::Ahead { .. }
+        | Node::Before { .. }
+        | Node::Whole(_) => Above::Seq(first),
+    }
+}
+
 /// Copies a node. Only first children are copied by a call of its own, and those nest no deeper
 /// than the levels of a pattern allow.
 #[tactic(auto, using(crate::proofs::CopyLaws::over_last))]
@@ -117,53 +171,19 @@ fn copied(alloc: Global, node: &Node) -> Result<Node, Memory>
                 let leaf = Node::One(copied_atom(alloc, atom)?);
                 return put_all_over(alloc, all, leaf);
             }
-            Node::Seq(a, b) => {
-                all.push(Above::Seq(copied(alloc, a)?))?;
+            Node::Seq(a, b) | Node::Or(a, b) | Node::And(a, b) => {
+                let first = copied(alloc, a)?;
+                all.push(above_two(rest, first))?;
                 rest = b;
             }
-            Node::Or(a, b) => {
-                all.push(Above::Or(copied(alloc, a)?))?;
-                rest = b;
-            }
-            Node::And(a, b) => {
-                all.push(Above::And(copied(alloc, a)?))?;
-                rest = b;
-            }
-            Node::Group(a, number) => {
-                all.push(Above::Group(*number))?;
-                rest = a;
-            }
-            Node::External(a, number) => {
-                all.push(Above::External(*number))?;
-                rest = a;
-            }
-            Node::Repeat {
-                part,
-                least,
-                most,
-                lazy,
-            } => {
-                all.push(Above::Repeat {
-                    least: *least,
-                    most: *most,
-                    lazy: *lazy,
-                })?;
+            Node::Group(part, _)
+            | Node::External(part, _)
+            | Node::Repeat { part, .. }
+            | Node::Ahead { part, .. }
+            | Node::Before { part, .. }
+            | Node::Whole(part) => {
+                all.push(above_one(rest))?;
                 rest = part;
-            }
-            Node::Ahead { part, not } => {
-                all.push(Above::Ahead { not: *not })?;
-                rest = part;
-            }
-            Node::Before { part, not, limit } => {
-                all.push(Above::Before {
-                    not: *not,
-                    limit: *limit,
-                })?;
-                rest = part;
-            }
-            Node::Whole(a) => {
-                all.push(Above::Whole)?;
-                rest = a;
             }
         }
     }

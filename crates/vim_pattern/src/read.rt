@@ -1,11 +1,12 @@
 //! The reader: what has been read, what is open, and one item more.
-ghost use Rattle.std.specs.Prelude.{◌≡◌, ◌^◌, [], ◌<◌, length, IfOk, true, MatchOption, IfErr};
+ghost use Rattle.std.specs.Prelude.{◌≡◌, ◌^◌, [], ◌<◌, length, IfOk, true, false, MatchOption, IfErr};
 ghost use Rattle.vim_pattern.specs.Shape.{bare};
 ghost use Rattle.vim_pattern.specs.Shape as shape;
 ghost use Rattle.vim_pattern.specs.Pattern.{IsTreeOf};
 ghost use Rattle.vim_pattern.specs.GroupNumbers.{HasNumbers};
 ghost use Rattle.vim_pattern.specs.Answer.{TellsFault, HasNoTree};
-ghost use Rattle.vim_pattern.specs.Built.{GivesTree, part_of, state_of, under_of, Gives};
+ghost use Rattle.vim_pattern.specs.Built.{GivesTree, part_of, state_of, under_of, outer_of, Gives};
+ghost use Rattle.vim_pattern.specs.Built.{group_of as group_shape};
 ghost use Rattle.vim_pattern.specs.Read as read;
 ghost use Rattle.vim_pattern.specs.Fault as fault;
 ghost use Rattle.pattern_items.specs.Place.{items_of};
@@ -36,6 +37,14 @@ fn at<T>(at: usize, cause: PatternCause) -> Result<T, PatternError>
     ensures { result ≡ Err (PatternError.At at cause) }
 {
     Err(PatternError::At { at, cause })
+}
+
+/// Lets go of what has been read, which this cause ends.
+fn refused(reading: Reading, place: usize, cause: PatternCause) -> Result<Reading, PatternError>
+    ensures { result ≡ Err (PatternError.At place cause) }
+{
+    drop(reading);
+    at(place, cause)
 }
 
 fn is_optional(kind: Kind) -> bool
@@ -128,21 +137,44 @@ fn back(part: Built, under: Vec<OpenItem>, node: Node) -> Result<Reading, Patter
     })
 }
 
+/// Back to what had been read before this open item, with the group that it opened.
+fn closed(
+    alloc: Global,
+    here: Built,
+    outer: OpenItem,
+    under: Vec<OpenItem>,
+) -> Result<Reading, PatternError>
+    ensures { Gives state_of result (Ok (read.back (outer_of outer) (under_of under.items)
+        (group_shape outer.kind (read.pattern_of (part_of here))))) }
+{
+    let node = group_of(alloc, outer.kind, here)?;
+    back(outer.part, under, node)
+}
+
 #[tactic(auto, using(crate::proofs::Under::under_push, crate::proofs::Under::close_group))]
-fn close(alloc: Global, reading: Reading, place: usize) -> Result<Reading, PatternError>
+fn close_group(alloc: Global, reading: Reading, place: usize) -> Result<Reading, PatternError>
+    requires { read.in_list (under_of reading.under.items) ≡ false }
     ensures { Gives state_of result
         (read.close_step place (part_of reading.here) (under_of reading.under.items)) }
 {
     let Reading { here, mut under } = reading;
-    let Some(outer) = under.pop() else {
-        return at(place, PatternCause::UnopenedClose);
-    };
-    let OpenItem { at: _, kind, part } = outer;
-    if is_optional(kind) {
-        return at(place, PatternCause::UnopenedClose);
+    match under.pop() {
+        None => refused(Reading { here, under }, place, PatternCause::UnopenedClose),
+        Some(outer) => closed(alloc, here, outer, under),
     }
-    let node = group_of(alloc, kind, here)?;
-    back(part, under, node)
+}
+
+#[tactic(auto, using(crate::proofs::Under::close_list))]
+fn close(alloc: Global, reading: Reading, place: usize) -> Result<Reading, PatternError>
+    ensures { Gives state_of result
+        (read.close_step place (part_of reading.here) (under_of reading.under.items)) }
+{
+    let (list, _) = top(&reading.under);
+    if list {
+        refused(reading, place, PatternCause::UnopenedClose)
+    } else {
+        close_group(alloc, reading, place)
+    }
 }
 
 fn put_here(reading: Reading, atom: Atom) -> Result<Reading, PatternError>
@@ -155,6 +187,26 @@ fn put_here(reading: Reading, atom: Atom) -> Result<Reading, PatternError>
     })
 }
 
+/// Back to what had been read before this open item, with the optional list that it opened.
+fn with_list(
+    alloc: Global,
+    here: Built,
+    outer: OpenItem,
+    under: Vec<OpenItem>,
+    place: usize,
+) -> Result<Reading, PatternError>
+    ensures { Gives state_of result (read.list_step place (outer_of outer)
+        (under_of under.items) (read.settled (part_of here))) }
+{
+    match list_of(alloc, here)? {
+        None => {
+            let here = outer.part;
+            refused(Reading { here, under }, place, PatternCause::EmptyOptional)
+        }
+        Some(node) => back(outer.part, under, node),
+    }
+}
+
 #[tactic(auto, using(crate::proofs::Under::under_push))]
 fn end_list(alloc: Global, reading: Reading, place: usize) -> Result<Reading, PatternError>
     requires { read.in_list (under_of reading.under.items) ≡ true }
@@ -162,12 +214,9 @@ fn end_list(alloc: Global, reading: Reading, place: usize) -> Result<Reading, Pa
         (read.square_step place (state_of reading) (under_of reading.under.items)) }
 {
     let Reading { here, mut under } = reading;
-    let Some(outer) = under.pop() else {
-        return at(place, PatternCause::UnopenedClose);
-    };
-    match list_of(alloc, here)? {
-        None => at(place, PatternCause::EmptyOptional),
-        Some(node) => back(outer.part, under, node),
+    match under.pop() {
+        None => refused(Reading { here, under }, place, PatternCause::UnopenedClose),
+        Some(outer) => with_list(alloc, here, outer, under, place),
     }
 }
 
@@ -189,7 +238,7 @@ fn bar(alloc: Global, reading: Reading) -> Result<Reading, PatternError>
 {
     let (list, open) = top(&reading.under);
     if list {
-        return at(open, PatternCause::Unclosed);
+        return refused(reading, open, PatternCause::Unclosed);
     }
     Ok(Reading {
         here: with_bar(alloc, reading.here)?,
@@ -202,7 +251,7 @@ fn also(alloc: Global, reading: Reading) -> Result<Reading, PatternError>
 {
     let (list, open) = top(&reading.under);
     if list {
-        return at(open, PatternCause::Unclosed);
+        return refused(reading, open, PatternCause::Unclosed);
     }
     Ok(Reading {
         here: with_also(alloc, reading.here)?,
