@@ -1,7 +1,7 @@
 -- Runs that begin with a command's own work or with a fetch.
 use Rattle.std.proofs.Common.{◌≡◌, ◌≤◌, ◌<◌, ◌-◌, ℕ, zero, suc, List, length, refl, ap, sym, subst, ◌∙◌, arith, Some, None, Ok, Err, true, false}
 use Rattle.std.proofs.lemmas.Bool.Decides.{nat_tests}
-use Rattle.std.specs.Prelude.{Option, Result, nat_lt, chars, if◌then◌else◌}
+use Rattle.std.specs.Prelude.{Option, Result, nat_eq, nat_lt, chars, if◌then◌else◌}
 use Rattle.syn_base.specs.Causes.{Counted, FileCounts}
 use Rattle.syn_base.specs.Outside.{FileMap, Fetches}
 use Rattle.syn_base.specs.declared.outside.Fetched.{Fetched}
@@ -9,7 +9,6 @@ use Rattle.syn_base.specs.declared.outside.Fetched.TheVariants as fetched
 use Rattle.syn_words.specs.declared.what.Commands.{Commands}
 use Rattle.syn_words.specs.FileCommands.{commands_of}
 use Rattle.syn_reader.specs.declared.includes.Progress.{Progress}
-use Rattle.syn_reader.specs.declared.files.TheConstants.{FILE_LIMIT}
 use Rattle.syn_reader.specs.declared.syntax.ReadOptions.{ReadOptions}
 use Rattle.syn_reader.specs.declared.syntax.ReadError.{ReadError}
 use Rattle.syn_reader.specs.declared.syntax.ReadError.TheVariants as error
@@ -79,12 +78,12 @@ within : (n limit : ℕ) → n ≤ limit → nat_lt limit n ≡ false
 within n limit few = grind (arith, nat_tests)
 
 -- a whole file, by what the fetch answers
-whole_is_told : (files : FileMap) (number : ℕ) (name bytes : List ℕ) → Fetches (Some files) name FILE_LIMIT (fetched.Whole bytes) → told_by files number name ≡ fetched.Whole bytes
+whole_is_told : (files : FileMap) (number : ℕ) (name bytes : List ℕ) → Fetches (Some files) name 8388608 (fetched.Whole bytes) → told_by files number name ≡ fetched.Whole bytes
 whole_is_told files number name bytes h =
-    ap by_bytes h.1 ∙ ap (λ b. if b then fetched.TooLong else fetched.Whole bytes) (within (length bytes) FILE_LIMIT h.0)
+    ap by_bytes h.1 ∙ ap (λ b. if b then fetched.TooLong else fetched.Whole bytes) (within (length bytes) 8388608 h.0)
 
 told_whole : (told : Option FileMap) (inner : Fetching → Opening) (options : ReadOptions) (file : List ℕ) (line : ℕ) (name bytes : List ℕ) (p left : Progress) (result : Result (Unit {0}) ReadError)
-    → Fetches told name FILE_LIMIT (fetched.Whole bytes)
+    → Fetches told name 8388608 (fetched.Whole bytes)
     → Reads told (suc p.includes) (λ fetch. with_commands (inner fetch) options (chars name) p (commands_of bytes)) left result
     → Reads told p.includes (λ fetch. fetched_by (inner fetch) fetch options file line name p) left result
 told_whole None inner options file line name bytes p left result f h = tt
@@ -94,7 +93,7 @@ told_whole (Some files) inner options file line name bytes p left result f h =
 
 -- the same, where the files stay as they are told, and the name and the commands are read
 pub whole_reads : (told after : Option FileMap) (inner : Fetching → Opening) (options : ReadOptions) (file : List ℕ) (line : ℕ) (name own bytes : List ℕ) (found : Commands) (p left : Progress) (result : Result (Unit {0}) ReadError)
-    → after ≡ told → own ≡ chars name → found ≡ commands_of bytes → Fetches told name FILE_LIMIT (fetched.Whole bytes)
+    → after ≡ told → own ≡ chars name → found ≡ commands_of bytes → Fetches told name 8388608 (fetched.Whole bytes)
     → Reads after (suc p.includes) (λ fetch. with_commands (inner fetch) options own p found) left result
     → Reads told p.includes (λ fetch. fetched_by (inner fetch) fetch options file line name p) left result
 whole_reads told after inner options file line name own bytes found p left result kept named same f h =
@@ -102,6 +101,24 @@ whole_reads told after inner options file line name own bytes found p left resul
     (subst (λ t. Reads t (suc p.includes) (λ fetch. with_commands (inner fetch) options (chars name) p (commands_of bytes)) left result) kept
     (subst (λ n. Reads after (suc p.includes) (λ fetch. with_commands (inner fetch) options n p (commands_of bytes)) left result) named
     (subst (λ l. Reads after (suc p.includes) (λ fetch. with_commands (inner fetch) options own p l) left result) same h)))
+
+is_itself : (n : ℕ) → nat_eq n n ≡ true
+is_itself n = grind (arith, nat_tests)
+
+-- a file that can't be read: were its fetch to fail, the rules would answer just this
+pub failed_reads : (told : Option FileMap) (inner : Fetching → Opening) (options : ReadOptions) (file : List ℕ) (line : ℕ)
+    (name : List ℕ) (p left : Progress) (e : ReadError) → e ≡ error.FileFault file line (chars name)
+    → Reads {A = Unit {0}} told p.includes (λ fetch. fetched_by (inner fetch) fetch options file line name p) left (Err e)
+failed_reads None inner options file line name p left e h = tt
+failed_reads (Some files) inner options file line name p left e h =
+    let fails : failing_at p.includes (told_by files) p.includes name ≡ fetched.Failed =
+    ap (λ b. if b then fetched.Failed else told_by files p.includes name) (is_itself p.includes) in
+    subst (λ (r : ReadError). Follows {A = Unit {0}} files p.includes (λ fetch. fetched_by (inner fetch) fetch options file line name p) left (Err r)) (sym h)
+    (
+      p.includes,
+      omega arith,
+      ap (by_fetched (inner (failing_at p.includes (told_by files))) options file line (chars name) p) fails,
+    )
 
 -- ---- what stands before a fetch
 
@@ -122,22 +139,13 @@ pub error_reads : (told : Option FileMap) (first : ℕ) (left : Progress) (e exp
 error_reads None first left e expected h k = tt
 error_reads (Some files) first left e expected h k = error_follows files first left e expected h k
 
--- the include's cluster can't be made
-pub unnamed_reads : (told : Option FileMap) (room : ℕ) (options : ReadOptions) (file : List ℕ) (line : ℕ) (cluster : Option (List ℕ)) (name : List ℕ) (p mid left : Progress) (e : ReadError)
-    → 0 < room → Does {A = Unit {0}} (Err e) mid (in_line file line (cluster_named p cluster)) → HasOtherCause e
-    → Reads {A = Unit {0}} told p.includes (λ fetch. asked_within room fetch options file line cluster name p) left (Err e)
-unnamed_reads told zero options file line cluster name p mid left e z h k = absurd (omega arith)
-unnamed_reads told (suc room) options file line cluster name p mid left e z h k =
-    ends_reads p.includes (λ _. in_line file line (cluster_named p cluster)) (λ fetch named. fetched_by (asked_within room fetch options) fetch options file line name named)
-    told mid left e (does_reads told p.includes (in_line file line (cluster_named p cluster)) mid mid e h k)
-
--- behind the naming of the cluster
-pub named_reads : (told : Option FileMap) (room : ℕ) (options : ReadOptions) (file : List ℕ) (line : ℕ) (cluster : Option (List ℕ)) (name : List ℕ) (p mid left : Progress) (result : Result (Unit {0}) ReadError)
-    → 0 < room → in_line file line (cluster_named p cluster) ≡ Ok mid → mid.includes ≡ p.includes
-    → Reads told mid.includes (λ fetch. fetched_by (asked_within (room - 1) fetch options) fetch options file line name mid) left result
-    → Reads told p.includes (λ fetch. asked_within room fetch options file line cluster name p) left result
-named_reads told zero options file line cluster name p mid left result z e same h = absurd (omega arith)
-named_reads told (suc room) options file line cluster name p mid left result z e same h =
-    after_reads told p.includes (in_line file line (cluster_named p cluster)) (λ fetch named. fetched_by (asked_within room fetch options) fetch options file line name named) mid left result e
-    (subst (λ n. Reads told n (λ fetch. fetched_by (asked_within room fetch options) fetch options file line name mid) left result) same
-    (subst (λ n. Reads told mid.includes (λ fetch. fetched_by (asked_within n fetch options) fetch options file line name mid) left result) (one_less room) h))
+-- a file that may still be opened
+pub asked_reads : (told : Option FileMap) (room : ℕ) (options : ReadOptions) (file : List ℕ) (line : ℕ)
+    (name : List ℕ) (p left : Progress) (result : Result (Unit {0}) ReadError) → 0 < room
+    → Reads told p.includes (λ fetch. fetched_by (asked_within (room - 1) fetch options) fetch options file line name p)
+    left result
+    → Reads told p.includes (λ fetch. asked_within room fetch options file line name p) left result
+asked_reads told zero options file line name p left result z h = absurd (omega arith)
+asked_reads told (suc room) options file line name p left result z h =
+    subst (λ n. Reads told p.includes (λ fetch. fetched_by (asked_within n fetch options) fetch options file line name p)
+    left result) (one_less room) h

@@ -6,7 +6,6 @@ use Rattle.syn_base.specs.declared.places.ItemId.{ItemId}
 use Rattle.keyword_table.specs.declared.table.Definition.{Definition}
 use Rattle.syntax_set.specs.declared.item.Item.{Item}
 use Rattle.syntax_set.specs.declared.added_item.AddedItem.{AddedItem}
-use Rattle.syntax_set.specs.declared.item_set.TheConstants.{MOST_ITEMS}
 use Rattle.syn_words.specs.declared.cause.Cause.{Cause}
 use Rattle.syn_words.specs.declared.cause.Cause.TheVariants.{TooManyItems}
 use Rattle.syn_reader.specs.declared.reading.Reading.{Reading}
@@ -30,7 +29,7 @@ leaves_then (Err Memory) left rules f h = tt
 
 -- an item that found room, and its words
 pub added : {A : Type 0} (reading : Reading) (item : Item) (words : List (List ℕ)) (id : ItemId) (items : List AddedItem) (keywords : List Definition) (result : Result A Refusal)
-    → nat_eq (length reading.items) MOST_ITEMS ≡ false → id.0 ≡ length reading.items → items ≡ reading.items ++ live_item item ∷ []
+    → nat_eq (length reading.items) 32000 ≡ false → id.0 ≡ length reading.items → items ≡ reading.items ++ live_item item ∷ []
     → Leaves result keywords (with_definitions reading.keywords id item.ignore words)
     → Leaves result (record reading { items = items; keywords = keywords }) (item_added reading item words)
 added {A} reading item words id items keywords result room number more h =

@@ -12,3 +12,7 @@ pub mod CommandRuns
 pub mod SyntaxRuns
 pub mod IncludeLaws
 mod IncludeRows
+pub mod Behind
+pub mod SoundContents
+pub mod SoundItems
+pub mod SoundRuns

@@ -4,7 +4,6 @@ use Rattle.std.proofs.lemmas.Bool.Decides.{nat_tests}
 use Rattle.std.specs.Prelude.{Bool, Option, Ok, Err, not, ◌&&◌, nat_eq, is_some, position, unwrap_or, if◌then◌else◌}
 use Rattle.std.specs.Option.{option_map}
 use Rattle.syn_base.specs.declared.places.GroupId.{GroupId}
-use Rattle.syntax_set.specs.declared.groups.TheConstants.{MOST_GROUPS}
 use Rattle.syntax_set.specs.declared.set_error.SetError.{SetError}
 use Rattle.syntax_set.specs.declared.set_error.SetError.TheVariants as set_error
 use Rattle.syntax_set.specs.ClusterTable.{ClusterTable}
@@ -38,14 +37,14 @@ longer true names name most few h = cc
 longer false names name most few h = let e = length-append names (name ∷ []) in omega arith
 
 -- a name that has a number found room
-pub not_full : (names : List (List ℕ)) (name : List ℕ) → length (with_group names name) ≤ MOST_GROUPS → is_full names name ≡ false
-not_full names name few = roomy (is_some (group_of names name)) (length names) MOST_GROUPS (longer (is_some (group_of names name)) names name MOST_GROUPS few)
+pub not_full : (names : List (List ℕ)) (name : List ℕ) → length (with_group names name) ≤ 20000 → is_full names name ≡ false
+not_full names name few = roomy (is_some (group_of names name)) (length names) 20000 (longer (is_some (group_of names name)) names name 20000 few)
 
 none_is_full : (o : Option GroupId) (n most : ℕ) → o ≡ None → n ≡ most → (not (is_some o) && nat_eq n most) ≡ true
 none_is_full o n most h k = ap (λ p. not (is_some p) && nat_eq n most) h ∙ grind (arith, nat_tests)
 
 pub group_ok : (known : Names) (name : List ℕ) (g : GroupId) → group_of (with_group known.groups name) name ≡ Some g
-    → length (with_group known.groups name) ≤ MOST_GROUPS → group_named known name ≡ Ok (g, with_groups known (with_group known.groups name))
+    → length (with_group known.groups name) ≤ 20000 → group_named known name ≡ Ok (g, with_groups known (with_group known.groups name))
 group_ok known name g found few =
     ap (λ full. if full then Err cause.TooManyGroups else Ok (group_numbered (number_in (with_group known.groups name) name), with_groups known (with_group known.groups name))) (not_full known.groups name few)
     ∙ ap (λ h. Ok (h, with_groups known (with_group known.groups name))) (numbered (position (is_same_name name) (with_group known.groups name)) g found)
@@ -54,7 +53,7 @@ pub group_refused : (known : Names) (name : List ℕ) (error : SetError) → IsR
 group_refused known name set_error.TooManyItems h = absurd h
 group_refused known name set_error.TooManyGroups h =
     ap (λ full. if full then Err cause.TooManyGroups else Ok (group_numbered (number_in (with_group known.groups name) name), with_groups known (with_group known.groups name)))
-    (none_is_full (group_of known.groups name) (length known.groups) MOST_GROUPS h.0 h.1)
+    (none_is_full (group_of known.groups name) (length known.groups) 20000 h.0 h.1)
 group_refused known name set_error.Memory h = tt
 
 -- the names of the clusters are numbered as groups are
@@ -69,15 +68,15 @@ pub same_names : (table : ClusterTable) (name : List ℕ) → (with_cluster tabl
 same_names table name = cluster_names _ _ table name _ (sym (some_mapped (position (is_same_name name) table.names))) refl
 
 pub cluster_ok : (known : Names) (name : List ℕ) (n : ℕ) → cluster_of (with_cluster known.clusters name) name ≡ Some n
-    → length (with_cluster known.clusters name).names ≤ MOST_GROUPS → cluster_named known name ≡ Ok (n, with_clusters known (with_cluster known.clusters name))
+    → length (with_cluster known.clusters name).names ≤ 20000 → cluster_named known name ≡ Ok (n, with_clusters known (with_cluster known.clusters name))
 cluster_ok known name n found few =
     ap (λ full. if full then Err cause.TooManyGroups else Ok (number_in (with_cluster known.clusters name).names name, with_clusters known (with_cluster known.clusters name)))
-    (not_full known.clusters.names name (subst (λ names. length names ≤ MOST_GROUPS) (same_names known.clusters name) few))
+    (not_full known.clusters.names name (subst (λ names. length names ≤ 20000) (same_names known.clusters name) few))
     ∙ ap (λ h. Ok (h, with_clusters known (with_cluster known.clusters name))) (placed (position (is_same_name name) (with_cluster known.clusters name).names) n found)
 
 pub cluster_refused : (known : Names) (name : List ℕ) (error : SetError) → IsRefusedGroup known.clusters.names name error → FailsAs (refusal_of error) (cluster_named known name)
 cluster_refused known name set_error.TooManyItems h = absurd h
 cluster_refused known name set_error.TooManyGroups h =
     ap (λ full. if full then Err cause.TooManyGroups else Ok (number_in (with_cluster known.clusters name).names name, with_clusters known (with_cluster known.clusters name)))
-    (none_is_full (group_of known.clusters.names name) (length known.clusters.names) MOST_GROUPS h.0 h.1)
+    (none_is_full (group_of known.clusters.names name) (length known.clusters.names) 20000 h.0 h.1)
 cluster_refused known name set_error.Memory h = tt

@@ -5,7 +5,6 @@ use Rattle.syn_base.specs.Causes.{FileCounts}
 use Rattle.syn_base.specs.Outside.{FileMap}
 use Rattle.syn_reader.specs.declared.includes.Progress.{Progress}
 use Rattle.syn_reader.specs.declared.reading.Reading.{Reading}
-use Rattle.syn_reader.specs.declared.files.TheConstants.{MOST_OPEN}
 use Rattle.syn_reader.specs.declared.syntax.ReadOptions.{ReadOptions}
 use Rattle.syn_reader.specs.declared.syntax.ReadError.{ReadError}
 use Rattle.syn_reader.specs.declared.syntax.ReadError.TheVariants as error
@@ -21,11 +20,11 @@ error_counts e before now h = record { faults = h.faults; misses = h.misses; lon
 
 -- the first file is read by its name, and nothing was read before
 first_file : (told : Option FileMap) (name own : List ℕ) (options : ReadOptions) (reading : Reading) (left : Progress) (result : Result (Unit {0}) ReadError) → own ≡ chars name → reading ≡ nothing_read
-    → Reads told 0 (λ fetch. asked_within MOST_OPEN fetch options own 0 None name (progress reading 0)) left result
+    → Reads told 0 (λ fetch. asked_within 21 fetch options own 0 name (progress reading 0)) left result
     → Reads told 0 (λ fetch. first_read fetch name options) left result
 first_file told name own options reading left result e k h =
-    subst (λ r. Reads told 0 (λ fetch. asked_within MOST_OPEN fetch options (chars name) 0 None name (progress r 0)) left result) k
-    (subst (λ o. Reads told 0 (λ fetch. asked_within MOST_OPEN fetch options o 0 None name (progress reading 0)) left result) e h)
+    subst (λ r. Reads told 0 (λ fetch. asked_within 21 fetch options (chars name) 0 name (progress r 0)) left result) k
+    (subst (λ o. Reads told 0 (λ fetch. asked_within 21 fetch options o 0 name (progress reading 0)) left result) e h)
 
 fails : (told : Option FileMap) (name : List ℕ) (options : ReadOptions) (left : Progress) (e : ReadError) → Reads {A = Unit {0}} told 0 (λ fetch. first_read fetch name options) left (Err e)
     → IfSome told (λ files. IsSyntaxOf files name options (Err e))
@@ -42,12 +41,12 @@ goes_well (Some files) name options left x syntax e h = ap syntax_when (h.1 (tol
 
 -- an error of the run is that of the syntax
 pub run_fails : (told : Option FileMap) (name own : List ℕ) (options : ReadOptions) (reading : Reading) (left : Progress) (e : ReadError) → own ≡ chars name → reading ≡ nothing_read
-    → Reads {A = Unit {0}} told 0 (λ fetch. asked_within MOST_OPEN fetch options own 0 None name (progress reading 0)) left (Err e)
+    → Reads {A = Unit {0}} told 0 (λ fetch. asked_within 21 fetch options own 0 name (progress reading 0)) left (Err e)
     → IfSome told (λ files. IsSyntaxOf files name options (Err e))
 run_fails told name own options reading left e same k h = fails told name options left e (first_file told name own options reading left (Err e) same k h)
 
 -- what a run leaves is the syntax
 pub run_goes_well : (told : Option FileMap) (name own : List ℕ) (options : ReadOptions) (reading : Reading) (left : Progress) (x : Unit {0}) (syntax : Syntax) → own ≡ chars name → reading ≡ nothing_read
-    → syntax ≡ syntax_from left.reading → Reads told 0 (λ fetch. asked_within MOST_OPEN fetch options own 0 None name (progress reading 0)) left (Ok x)
+    → syntax ≡ syntax_from left.reading → Reads told 0 (λ fetch. asked_within 21 fetch options own 0 name (progress reading 0)) left (Ok x)
     → IfSome told (λ files. IsSyntaxOf files name options (Ok syntax))
 run_goes_well told name own options reading left x syntax same k e h = goes_well told name options left x syntax e (first_file told name own options reading left (Ok x) same k h)

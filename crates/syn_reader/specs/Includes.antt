@@ -8,7 +8,6 @@ use Rattle.syntax_set.specs.declared.item.Entry.TheVariants.{Group}
 use Rattle.syntax_set.specs.ClusterLists.{with_change}
 use Rattle.syn_words.specs.declared.cause.Cause.{Cause}
 use Rattle.syn_words.specs.declared.cause.Cause.TheVariants.{TooManyIncludes}
-use Rattle.syn_reader.specs.declared.includes.TheConstants.{MOST_INCLUDES}
 use Rattle.syn_reader.specs.declared.includes.Progress.{Progress}
 use Rattle.syn_reader.specs.declared.names.Names.{Names}
 use Rattle.syn_reader.specs.declared.reading.Reading.{Reading}
@@ -23,14 +22,14 @@ progress reading includes = record { reading = reading; includes = includes }
 abbrev pub with_reading : Progress → Reading → Progress
 with_reading p reading = progress reading p.includes
 
--- one include more, or one file by `runtime`
+-- one include more, or one file by `runtime`: there are at most 999
 abbrev pub counted : Progress → Result Progress Cause
-counted p = if nat_lt p.includes MOST_INCLUDES then Ok (progress p.reading (p.includes + 1)) else Err TooManyIncludes
+counted p = if nat_lt p.includes 999 then Ok (progress p.reading (p.includes + 1)) else Err TooManyIncludes
 
 abbrev pub with_include : Reading → ℕ → Reading
 with_include reading number = record reading { include = number }
 
--- the include's cluster is named before its file is read
+-- the include's cluster is named first, as its name stands before that of the file
 abbrev pub cluster_begun : Names → Option (List ℕ) → Result Names Cause
 cluster_begun known None = Ok known
 cluster_begun known (Some name) = cluster_made known name >>= λ made. Ok made.1

@@ -8,9 +8,7 @@ use Rattle.syntax_set.specs.declared.item.ItemKind.TheVariants as item_kind
 use Rattle.syntax_set.specs.declared.item.GroupList.{GroupList}
 use Rattle.syntax_set.specs.declared.item.Pattern.{Pattern}
 use Rattle.syntax_set.specs.declared.added_item.AddedItem.{AddedItem}
-use Rattle.syntax_set.specs.declared.item_set.TheConstants.{MOST_ITEMS}
 use Rattle.keyword_table.specs.declared.table.Definition.{Definition}
-use Rattle.keyword_table.specs.declared.table.TheConstants.{MOST_WORD_CHARS}
 use Rattle.vim_pattern.specs.Tree.{PatternTree}
 use Rattle.word_values.specs.GroupNames.{is_none}
 use Rattle.syn_words.specs.declared.cause.Cause.{Cause}
@@ -152,7 +150,7 @@ definition_of id ignore word = record { word = word; item = id; ignore = ignore 
 -- a keyword has at most 80 characters
 abbrev pub with_definition : ItemId → Bool → List Definition → List ℕ → Result (List Definition) Cause
 with_definition id ignore keywords word =
-    if nat_lt MOST_WORD_CHARS (length word) then Err cause.TooLongWord else Ok (keywords ++ definition_of id ignore word ∷ [])
+    if nat_lt 80 (length word) then Err cause.TooLongWord else Ok (keywords ++ definition_of id ignore word ∷ [])
 
 abbrev pub with_definitions : List Definition → ItemId → Bool → List (List ℕ) → Result (List Definition) Cause
 with_definitions keywords id ignore words = each (with_definition id ignore) keywords words
@@ -167,10 +165,10 @@ live_item item = record { item = item; live = true }
 abbrev pub with_added : Reading → Item → List Definition → Reading
 with_added reading item keywords = record reading { items = reading.items ++ live_item item ∷ []; keywords = keywords }
 
--- what has been read, with one item more and its words
+-- what has been read, with one item more and its words; there are at most 32,000 items, those cleared among them
 abbrev pub item_added : Reading → Item → List (List ℕ) → Result Reading Cause
 item_added reading item words =
-    if nat_eq (length reading.items) MOST_ITEMS then Err cause.TooManyItems
+    if nat_eq (length reading.items) 32000 then Err cause.TooManyItems
     else (with_definitions reading.keywords (item_numbered (length reading.items)) item.ignore words >>= λ keywords. Ok (with_added reading item keywords))
 
 abbrev pub with_names : Reading → Names → Reading
@@ -199,11 +197,9 @@ finished reading kind draft = do
   item ← item_finished kind draft.0
   item_added (with_names reading draft.1) item.0 item.1
 
--- where there is room for one item more
+-- its names are made from left to right, then the item is added
 abbrev pub item_of : Reading → ItemCommand → List ℕ → List Content → Result Reading Cause
-item_of reading kind group contents =
-    if nat_eq (length reading.items) MOST_ITEMS then Err cause.TooManyItems
-    else (drafted reading group contents >>= λ draft. finished reading kind draft)
+item_of reading kind group contents = drafted reading group contents >>= λ draft. finished reading kind draft
 
 -- an item's command
 abbrev pub item_command : Reading → ItemCommand → List ℕ → List Piece → Result Reading Cause

@@ -1,3 +1,4 @@
+-- what a reader must believe: the rules
 pub mod Answers
 pub mod Names
 pub mod Patterns
@@ -12,4 +13,8 @@ pub mod Highlight
 pub mod Includes
 pub mod Commands
 pub mod SyntaxOf
+pub mod Soundness
 pub mod Follows
+-- what the code and proofs alone cite
+pub mod SyntaxCode
+pub mod SoundReading

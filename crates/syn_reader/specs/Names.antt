@@ -2,7 +2,6 @@
 -- may be.
 use Rattle.std.specs.Prelude.{ℕ, not, ◌&&◌, nat_eq, Bool, List, length, is_some, position, unwrap_or, if◌then◌else◌, Result, Ok, Err, encode_utf8_all}
 use Rattle.syn_base.specs.declared.places.GroupId.{GroupId}
-use Rattle.syntax_set.specs.declared.groups.TheConstants.{MOST_GROUPS}
 use Rattle.syntax_set.specs.Groups.{group_of, group_numbered, is_same_name, with_group}
 use Rattle.syntax_set.specs.ClusterTable.{ClusterTable}
 use Rattle.syntax_set.specs.ClusterLists.{with_cluster}
@@ -16,9 +15,9 @@ with_groups known groups = record { groups = groups; clusters = known.clusters }
 abbrev pub with_clusters : Names → ClusterTable → Names
 with_clusters known clusters = record { groups = known.groups; clusters = clusters }
 
--- a new name finds no room
+-- a new name finds no room behind 20,000 others
 abbrev pub is_full : List (List ℕ) → List ℕ → Bool
-is_full names name = not (is_some (group_of names name)) && nat_eq (length names) MOST_GROUPS
+is_full names name = not (is_some (group_of names name)) && nat_eq (length names) 20000
 
 -- the number of a name that is there
 abbrev pub number_in : List (List ℕ) → List ℕ → ℕ

@@ -13,7 +13,6 @@ use Rattle.pattern_match.specs.declared.answer.Attempt.TheVariants.{Found, Absen
 use Rattle.syntax_set.specs.Groups.{group_numbered}
 use Rattle.syn_words.specs.declared.cause.Cause.{Cause}
 use Rattle.syn_words.specs.declared.cause.Cause.TheVariants.{CostlyNames}
-use Rattle.syn_reader.specs.declared.names_pattern.TheConstants.{NAMES_BUDGET}
 use Rattle.syn_reader.specs.Answers.{◌>>=◌}
 use Rattle.syn_reader.specs.Patterns.{tree_at}
 use Rattle.syn_reader.specs.UsualSets.{usual_sets}
@@ -29,9 +28,9 @@ name_context name = record { text = name ∷ []; ignore = true; sets = usual_set
 abbrev pub name_answer : PatternTree → List ℕ → Answer
 name_answer whole name = attempt whole (name_context name) (place 0 0)
 
--- whether there is a way, within the budget
+-- whether there is a way, within a budget of 1,000,000 ticks
 abbrev pub is_matched : Answer → Result Bool Cause
-is_matched answer = if nat_lt NAMES_BUDGET answer.cost then Err CostlyNames else Ok (is_some answer.way)
+is_matched answer = if nat_lt 1000000 answer.cost then Err CostlyNames else Ok (is_some answer.way)
 
 -- what an attempt tells of that
 abbrev pub is_found : Attempt → Result Bool Cause

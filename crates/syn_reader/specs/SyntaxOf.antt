@@ -20,7 +20,6 @@ use Rattle.syn_reader.specs.declared.syntax.ReadOptions.{ReadOptions}
 use Rattle.syn_reader.specs.declared.syntax.Syntax.{Syntax}
 use Rattle.syn_reader.specs.declared.syntax.ReadError.{ReadError}
 use Rattle.syn_reader.specs.declared.syntax.ReadError.TheVariants as error
-use Rattle.syn_reader.specs.declared.files.TheConstants.{FILE_LIMIT, MOST_OPEN}
 use Rattle.syn_reader.specs.Answers.{◌>>=◌, each}
 use Rattle.syn_reader.specs.UsualSets.{usual_sets}
 use Rattle.syn_reader.specs.Includes.{progress, with_reading, counted, cluster_named, include_begun, include_ended}
@@ -33,9 +32,9 @@ Fetching = ℕ → List ℕ → Fetched
 abbrev pub Answer : Type 0
 Answer = Result Progress ReadError
 
--- How a file is read that a command asks for: the asking file, its line, the cluster of an include, and the name.
+-- How a file is read that a command asks for: the asking file, its line, and the name.
 abbrev pub Opening : Type 0
-Opening = List ℕ → ℕ → Option (List ℕ) → List ℕ → Progress → Answer
+Opening = List ℕ → ℕ → List ℕ → Progress → Answer
 
 abbrev pub in_line : {A : Type 0} → List ℕ → ℕ → Result A Cause → Result A ReadError
 in_line file line (Ok x) = Ok x
@@ -48,7 +47,7 @@ path_of options name = encode_utf8_all (options.folder ++ 47 ∷ name)
 abbrev pub runtime_command : Opening → List ℕ → ℕ → Progress → List ℕ → Answer
 runtime_command ask file line p path = do
   more ← in_line file line (counted p)
-  ask file line None path more
+  ask file line path more
 
 -- the commands that ask for no file
 abbrev pub effect_done : ReadOptions → List ℕ → ℕ → Progress → What → Answer
@@ -57,11 +56,12 @@ effect_done options file line p w = in_line file line (effect options.assume_fro
 abbrev pub end_done : List ℕ → ℕ → ℕ → ℕ → Option (List ℕ) → Progress → Answer
 end_done file line number around cluster p = in_line file line (include_ended p.reading number around cluster) >>= λ reading. Ok (with_reading p reading)
 
--- Nested includes have numbers of their own. Case stays as the file leaves it.
+-- The cluster is named first. Nested includes have numbers of their own. Case stays as the file leaves it.
 abbrev pub include_command : Opening → List ℕ → ℕ → Progress → Option (List ℕ) → List ℕ → Answer
 include_command ask file line p cluster path = do
-  begun ← in_line file line (include_begun p)
-  read ← ask file line cluster path begun
+  named ← in_line file line (cluster_named p cluster)
+  begun ← in_line file line (include_begun named)
+  read ← ask file line path begun
   end_done file line begun.reading.include p.reading.include cluster read
 
 abbrev pub command_done : Opening → ReadOptions → List ℕ → ℕ → Progress → What → Answer
@@ -93,19 +93,13 @@ by_fetched ask options file line name p fetched.Memory = Err error.Memory
 abbrev pub fetched_by : Opening → Fetching → ReadOptions → List ℕ → ℕ → List ℕ → Progress → Answer
 fetched_by inner fetch options file line name p = by_fetched inner options file line (chars name) p (fetch p.includes name)
 
-abbrev pub opened : Opening → Fetching → ReadOptions → Opening
-opened inner fetch options file line cluster name p = do
-  named ← in_line file line (cluster_named p cluster)
-  fetched_by inner fetch options file line name named
-
 abbrev pub too_deep : Opening
-too_deep file line cluster name p = Err (error.Refused file line TooDeepIncludes)
+too_deep file line name p = Err (error.Refused file line TooDeepIncludes)
 
--- A file that is asked for where so many files may still be opened, each in the one before. All limits of the asking command
--- come before the fetch: how many includes there were, how deep they are nested, and how many clusters there are.
+-- A file that is asked for where so many files may still be opened, each in the one before.
 abbrev pub asked_within : ℕ → Fetching → ReadOptions → Opening
 asked_within zero fetch options = too_deep
-asked_within (suc room) fetch options = opened (asked_within room fetch options) fetch options
+asked_within (suc room) fetch options = fetched_by (asked_within room fetch options) fetch options
 
 -- the groups that exist from the start
 abbrev pub usual : GroupsAndLinks
@@ -138,17 +132,17 @@ abbrev pub syntax_when : Answer → Result Syntax ReadError
 syntax_when (Ok p) = Ok (syntax_from p.reading)
 syntax_when (Err e) = Err e
 
--- the first file is asked for by its own name
+-- The first file is asked for by its own name. At most 20 files are nested in it, each in the one before.
 abbrev pub first_read : Fetching → List ℕ → ReadOptions → Answer
-first_read fetch name options = asked_within MOST_OPEN fetch options (chars name) 0 None name (progress nothing_read 0)
+first_read fetch name options = asked_within 21 fetch options (chars name) 0 name (progress nothing_read 0)
 
 abbrev pub syntax_by : Fetching → List ℕ → ReadOptions → Result Syntax ReadError
 syntax_by fetch name options = syntax_when (first_read fetch name options)
 
--- the answers of files that are known
+-- the answers of files that are known; a syntax file has at most 8 MiB
 abbrev pub by_bytes : Option (List ℕ) → Fetched
 by_bytes None = fetched.Missing
-by_bytes (Some bytes) = if nat_lt FILE_LIMIT (length bytes) then fetched.TooLong else fetched.Whole bytes
+by_bytes (Some bytes) = if nat_lt 8388608 (length bytes) then fetched.TooLong else fetched.Whole bytes
 
 abbrev pub told_by : FileMap → Fetching
 told_by files number name = by_bytes (file_named files name)

@@ -135,7 +135,8 @@ impl Draft {
         names: &mut Names,
         name: &[char],
     ) -> Result<(), Refusal>
-        ensures { Leaves result (self.new, names.new) (spec.matchgroup_made self.old names.old name.now) }
+        ensures { Leaves result (self.new, names.new)
+            (spec.matchgroup_made self.old names.old name.now) }
     {
         if is_none(name) {
             self.matchgroup = None;
@@ -183,7 +184,8 @@ impl Draft {
 
     /// Takes one piece more.
     fn take(&mut self, alloc: Global, names: &mut Names, content: Content) -> Result<(), Refusal>
-        ensures { Leaves result (self.new, names.new) (spec.with_content (self.old, names.old) content) }
+        ensures { Leaves result (self.new, names.new)
+            (spec.with_content (self.old, names.old) content) }
     {
         match content {
             Content::Has(flag) => {
@@ -212,7 +214,8 @@ impl Draft {
         names: &mut Names,
         contents: List<Content>,
     ) -> Result<(), Refusal>
-        ensures { Leaves result (self.new, names.new) (spec.with_contents (self.old, names.old) contents) }
+        ensures { Leaves result (self.new, names.new)
+            (spec.with_contents (self.old, names.old) contents) }
     {
         for content in contents.into_vec() {
             self.take(alloc, names, content)?;

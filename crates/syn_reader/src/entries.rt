@@ -25,7 +25,8 @@ impl Model for Entries {
 
     ghost view = { λ a. a.entries };
 
-    ghost invariant = { λ a. (a.groups.keys ≡ groups_in a.entries) × (a.clusters.keys ≡ clusters_in a.entries) };
+    ghost invariant = { λ a.
+        (a.groups.keys ≡ groups_in a.entries) × (a.clusters.keys ≡ clusters_in a.entries) };
 }
 
 impl Entries {

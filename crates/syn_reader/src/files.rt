@@ -3,8 +3,10 @@ ghost use Rattle.std.specs.Prelude.{◌≡◌, suc, IfOk, OnOk, chars};
 ghost use Rattle.std.specs.String.{string_bytes};
 ghost use Rattle.syn_words.specs.declared.cause.Cause.TheVariants as cause;
 ghost use Rattle.syn_reader.specs.declared.syntax.ReadError.TheVariants as error;
-ghost use Rattle.syn_reader.specs.Follows.{counts, Counts, Does, HasOtherCause, HasOtherCauses, IsFaultOf, IsInLine, IsOrMemory, Reads};
+ghost use Rattle.syn_reader.specs.Follows.{
+    counts, Counts, Does, HasOtherCause, HasOtherCauses, IsFaultOf, IsInLine, IsOrMemory, Reads};
 ghost use Rattle.syn_reader.specs.Includes.{cluster_named, counted, include_begun};
+ghost use Rattle.syn_reader.specs.SoundReading.{IsSoundReading};
 ghost use Rattle.syn_reader.specs.SyntaxOf as spec;
 
 use crate::includes::Progress;
@@ -16,7 +18,7 @@ use syn_base::{Fetched, Files, List, Memory};
 use syn_words::{Cause, Command, Commands, What, WordFault, commands};
 
 /// The most bytes of a syntax file.
-pub(crate) const FILE_LIMIT: usize = 8 << 20;
+pub const MOST_SYNTAX_BYTES: usize = 8 << 20;
 
 /// The most files that are open at once: the first one, and 20 nested in it.
 pub(crate) const MOST_OPEN: usize = 21;
@@ -26,19 +28,6 @@ pub(crate) const MOST_OPEN: usize = 21;
 pub(crate) struct Asker<'a> {
     pub file: &'a [char],
     pub line: usize,
-}
-
-fn copied(alloc: Global, characters: &[char]) -> Result<List<char>, Memory>
-    ensures { IfOk result (λ list. list ≡ characters.now) }
-{
-    Ok(List::from_vec(Vec::from_slice(alloc, characters)?))
-}
-
-/// The characters of a name.
-pub(crate) fn characters_of(alloc: Global, name: &str) -> Result<List<char>, Memory>
-    ensures { IfOk result (λ list. list ≡ chars name.now) }
-{
-    Ok(List::from_vec(name.chars().collect(alloc)?))
 }
 
 /// The name of a file that a syntax file asks for.
@@ -59,7 +48,7 @@ fn refused(alloc: Global, asker: Asker<'_>, cause: Cause) -> ReadError
     if let Cause::TooLongFile { name: _ } = cause {
         return ReadError::Memory;
     }
-    match copied(alloc, asker.file) {
+    match List::from_slice(alloc, asker.file) {
         Ok(file) => ReadError::Refused {
             file,
             line: asker.line,
@@ -69,11 +58,11 @@ fn refused(alloc: Global, asker: Asker<'_>, cause: Cause) -> ReadError
     }
 }
 
-/// A file that is wanted, and the cluster that the groups of an include's items join.
+/// A file that an include asks for, and the cluster that the groups of its items join.
 #[derive(Clone, Copy)]
-pub(crate) struct Wanted<'a> {
-    pub cluster: &'a Option<List<char>>,
-    pub name: &'a str,
+struct Wanted<'a> {
+    cluster: &'a Option<List<char>>,
+    name: &'a str,
 }
 
 /// A file that is asked for. It is made before the fetch, so that what comes of it can be told.
@@ -85,12 +74,13 @@ struct Asked {
 }
 
 fn asked_for(alloc: Global, asker: Asker<'_>, name: &str) -> Result<Asked, Memory>
-    ensures { IfOk result (λ asked. asked ≡ record { file = asker.entry.file.now; line = asker.entry.line; name = chars name.now }) }
+    ensures { IfOk result (λ asked. asked ≡ record {
+        file = asker.entry.file.now; line = asker.entry.line; name = chars name.now }) }
 {
     Ok(Asked {
-        file: copied(alloc, asker.file)?,
+        file: List::from_slice(alloc, asker.file)?,
         line: asker.line,
-        name: characters_of(alloc, name)?,
+        name: List::from_chars(alloc, name)?,
     })
 }
 
@@ -161,9 +151,12 @@ fn do_effect(
     progress: &mut Progress,
     what: What,
 ) -> Result<(), ReadError>
-    ensures answer { Does result progress.new (spec.effect_done options.now asker.entry.file.now asker.entry.line progress.old what) }
+    requires sound { IsSoundReading progress.old.reading }
+    ensures answer { Does result progress.new
+        (spec.effect_done options.now asker.entry.file.now asker.entry.line progress.old what) }
     ensures causes { HasOtherCauses result }
     ensures includes { progress.new.includes ≡ progress.old.includes }
+    ensures sound { OnOk result (IsSoundReading progress.new.reading) }
 {
     let assume = options.assume_fromstart;
     let done = progress.reading.carry_out(alloc, assume, what);
@@ -178,26 +171,23 @@ pub(crate) fn ask<F: Files>(
     options: &ReadOptions,
     room: usize,
     asker: Asker<'_>,
-    wanted: Wanted<'_>,
+    name: &str,
     progress: &mut Progress,
 ) -> Result<(), ReadError>
+    requires sound { IsSoundReading progress.old.reading }
     ensures kept { F.told files.new ≡ F.told files.old }
-    ensures counts { Counts result (counts (F.faults files.old) (F.misses files.old) (F.longs files.old)) (counts (F.faults files.new) (F.misses files.new) (F.longs files.new)) }
-    ensures answer { Reads (F.told files.old) progress.old.includes (λ fetch. spec.asked_within room fetch options.now asker.entry.file.now asker.entry.line wanted.entry.cluster.now wanted.entry.name.now progress.old) progress.new result }
+    ensures counts { Counts result
+        (counts (F.faults files.old) (F.misses files.old) (F.longs files.old))
+        (counts (F.faults files.new) (F.misses files.new) (F.longs files.new)) }
+    ensures answer { Reads (F.told files.old) progress.old.includes
+        (λ fetch. spec.asked_within room fetch options.now asker.entry.file.now asker.entry.line
+            name.now progress.old) progress.new result }
+    ensures sound { OnOk result (IsSoundReading progress.new.reading) }
 {
     if room == 0 {
         return Err(refused(alloc, asker, Cause::TooDeepIncludes));
     }
-    name_cluster(alloc, asker, progress, wanted.cluster)?;
-    read_file(
-        alloc,
-        files,
-        options,
-        room - 1,
-        asker,
-        wanted.name,
-        progress,
-    )
+    read_file(alloc, files, options, room - 1, asker, name, progress)
 }
 
 /// Fetches a file and carries out its commands.
@@ -211,12 +201,18 @@ fn read_file<F: Files>(
     name: &str,
     progress: &mut Progress,
 ) -> Result<(), ReadError>
+    requires sound { IsSoundReading progress.old.reading }
     ensures kept { F.told files.new ≡ F.told files.old }
-    ensures counts { Counts result (counts (F.faults files.old) (F.misses files.old) (F.longs files.old)) (counts (F.faults files.new) (F.misses files.new) (F.longs files.new)) }
-    ensures answer { Reads (F.told files.old) progress.old.includes (λ fetch. spec.fetched_by (spec.asked_within room fetch options.now) fetch options.now asker.entry.file.now asker.entry.line name.now progress.old) progress.new result }
+    ensures counts { Counts result
+        (counts (F.faults files.old) (F.misses files.old) (F.longs files.old))
+        (counts (F.faults files.new) (F.misses files.new) (F.longs files.new)) }
+    ensures answer { Reads (F.told files.old) progress.old.includes
+        (λ fetch. spec.fetched_by (spec.asked_within room fetch options.now) fetch options.now
+            asker.entry.file.now asker.entry.line name.now progress.old) progress.new result }
+    ensures sound { OnOk result (IsSoundReading progress.new.reading) }
 {
     let asked = asked_for(alloc, asker, name)?;
-    match files.fetch(alloc, name, FILE_LIMIT) {
+    match files.fetch(alloc, name, MOST_SYNTAX_BYTES) {
         Fetched::Whole(bytes) => {
             let found = commands(alloc, bytes.as_slice())?;
             let file = asked.name;
@@ -248,9 +244,15 @@ fn carry_out_all<F: Files>(
     progress: &mut Progress,
     found: Commands,
 ) -> Result<(), ReadError>
+    requires sound { IsSoundReading progress.old.reading }
     ensures kept { F.told files.new ≡ F.told files.old }
-    ensures counts { Counts result (counts (F.faults files.old) (F.misses files.old) (F.longs files.old)) (counts (F.faults files.new) (F.misses files.new) (F.longs files.new)) }
-    ensures answer { Reads (F.told files.old) (suc progress.old.includes) (λ fetch. spec.with_commands (spec.asked_within room fetch options.now) options.now file.now progress.old found) progress.new result }
+    ensures counts { Counts result
+        (counts (F.faults files.old) (F.misses files.old) (F.longs files.old))
+        (counts (F.faults files.new) (F.misses files.new) (F.longs files.new)) }
+    ensures answer { Reads (F.told files.old) (suc progress.old.includes)
+        (λ fetch. spec.with_commands (spec.asked_within room fetch options.now) options.now
+            file.now progress.old found) progress.new result }
+    ensures sound { OnOk result (IsSoundReading progress.new.reading) }
 {
     let Commands { list, fault } = found;
     for command in list.into_vec() {
@@ -270,9 +272,15 @@ fn carry_out<F: Files>(
     progress: &mut Progress,
     command: Command,
 ) -> Result<(), ReadError>
+    requires sound { IsSoundReading progress.old.reading }
     ensures kept { F.told files.new ≡ F.told files.old }
-    ensures counts { Counts result (counts (F.faults files.old) (F.misses files.old) (F.longs files.old)) (counts (F.faults files.new) (F.misses files.new) (F.longs files.new)) }
-    ensures answer { Reads (F.told files.old) (suc progress.old.includes) (λ fetch. spec.with_command (spec.asked_within room fetch options.now) options.now file.now progress.old command) progress.new result }
+    ensures counts { Counts result
+        (counts (F.faults files.old) (F.misses files.old) (F.longs files.old))
+        (counts (F.faults files.new) (F.misses files.new) (F.longs files.new)) }
+    ensures answer { Reads (F.told files.old) (suc progress.old.includes)
+        (λ fetch. spec.with_command (spec.asked_within room fetch options.now) options.now
+            file.now progress.old command) progress.new result }
+    ensures sound { OnOk result (IsSoundReading progress.new.reading) }
 {
     let Command { line, what } = command;
     let asker = Asker { file, line };
@@ -304,17 +312,18 @@ fn runtime<F: Files>(
     progress: &mut Progress,
     name: &str,
 ) -> Result<(), ReadError>
+    requires sound { IsSoundReading progress.old.reading }
     ensures kept { F.told files.new ≡ F.told files.old }
-    ensures counts { Counts result (counts (F.faults files.old) (F.misses files.old) (F.longs files.old)) (counts (F.faults files.new) (F.misses files.new) (F.longs files.new)) }
-    ensures answer { Reads (F.told files.old) (suc progress.old.includes) (λ fetch. spec.runtime_command (spec.asked_within room fetch options.now) asker.entry.file.now asker.entry.line progress.old name.now) progress.new result }
+    ensures counts { Counts result
+        (counts (F.faults files.old) (F.misses files.old) (F.longs files.old))
+        (counts (F.faults files.new) (F.misses files.new) (F.longs files.new)) }
+    ensures answer { Reads (F.told files.old) (suc progress.old.includes)
+        (λ fetch. spec.runtime_command (spec.asked_within room fetch options.now)
+            asker.entry.file.now asker.entry.line progress.old name.now) progress.new result }
+    ensures sound { OnOk result (IsSoundReading progress.new.reading) }
 {
     count_include(alloc, asker, progress)?;
-    let cluster = None;
-    let wanted = Wanted {
-        cluster: &cluster,
-        name,
-    };
-    ask(alloc, files, options, room, asker, wanted, progress)
+    ask(alloc, files, options, room, asker, name, progress)
 }
 
 /// `:syn-include`.
@@ -328,14 +337,22 @@ fn include<F: Files>(
     progress: &mut Progress,
     wanted: Wanted<'_>,
 ) -> Result<(), ReadError>
+    requires sound { IsSoundReading progress.old.reading }
     ensures kept { F.told files.new ≡ F.told files.old }
-    ensures counts { Counts result (counts (F.faults files.old) (F.misses files.old) (F.longs files.old)) (counts (F.faults files.new) (F.misses files.new) (F.longs files.new)) }
-    ensures answer { Reads (F.told files.old) (suc progress.old.includes) (λ fetch. spec.include_command (spec.asked_within room fetch options.now) asker.entry.file.now asker.entry.line progress.old wanted.entry.cluster.now wanted.entry.name.now) progress.new result }
+    ensures counts { Counts result
+        (counts (F.faults files.old) (F.misses files.old) (F.longs files.old))
+        (counts (F.faults files.new) (F.misses files.new) (F.longs files.new)) }
+    ensures answer { Reads (F.told files.old) (suc progress.old.includes)
+        (λ fetch. spec.include_command (spec.asked_within room fetch options.now)
+            asker.entry.file.now asker.entry.line progress.old wanted.entry.cluster.now
+            wanted.entry.name.now) progress.new result }
+    ensures sound { OnOk result (IsSoundReading progress.new.reading) }
 {
     let around = progress.reading.include;
+    name_cluster(alloc, asker, progress, wanted.cluster)?;
     begin_include(alloc, asker, progress)?;
     let number = progress.reading.include;
-    ask(alloc, files, options, room, asker, wanted, progress)?;
+    ask(alloc, files, options, room, asker, wanted.name, progress)?;
     let numbers = Numbers { number, around };
     end_include(alloc, asker, progress, numbers, wanted.cluster)
 }
@@ -349,9 +366,12 @@ struct Numbers {
 
 /// Counts one include more.
 fn count_include(alloc: Global, asker: Asker<'_>, progress: &mut Progress) -> Result<(), ReadError>
-    ensures answer { Does result progress.new (spec.in_line asker.entry.file.now asker.entry.line (counted progress.old)) }
+    requires sound { IsSoundReading progress.old.reading }
+    ensures answer { Does result progress.new
+        (spec.in_line asker.entry.file.now asker.entry.line (counted progress.old)) }
     ensures causes { HasOtherCauses result }
     ensures more { OnOk result (progress.new.includes ≡ suc progress.old.includes) }
+    ensures sound { OnOk result (IsSoundReading progress.new.reading) }
 {
     let done = progress.count_include();
     in_line(alloc, asker, done)
@@ -359,9 +379,12 @@ fn count_include(alloc: Global, asker: Asker<'_>, progress: &mut Progress) -> Re
 
 /// Begins an include.
 fn begin_include(alloc: Global, asker: Asker<'_>, progress: &mut Progress) -> Result<(), ReadError>
-    ensures answer { Does result progress.new (spec.in_line asker.entry.file.now asker.entry.line (include_begun progress.old)) }
+    requires sound { IsSoundReading progress.old.reading }
+    ensures answer { Does result progress.new
+        (spec.in_line asker.entry.file.now asker.entry.line (include_begun progress.old)) }
     ensures causes { HasOtherCauses result }
     ensures more { OnOk result (progress.new.includes ≡ suc progress.old.includes) }
+    ensures sound { OnOk result (IsSoundReading progress.new.reading) }
 {
     let done = progress.begin_include();
     in_line(alloc, asker, done)
@@ -374,9 +397,13 @@ fn name_cluster(
     progress: &mut Progress,
     cluster: &Option<List<char>>,
 ) -> Result<(), ReadError>
-    ensures answer { Does result progress.new (spec.in_line asker.entry.file.now asker.entry.line (cluster_named progress.old cluster.now)) }
+    requires sound { IsSoundReading progress.old.reading }
+    ensures answer { Does result progress.new
+        (spec.in_line asker.entry.file.now asker.entry.line
+            (cluster_named progress.old cluster.now)) }
     ensures causes { HasOtherCauses result }
     ensures includes { progress.new.includes ≡ progress.old.includes }
+    ensures sound { OnOk result (IsSoundReading progress.new.reading) }
 {
     let done = progress.name_cluster(alloc, cluster);
     in_line(alloc, asker, done)
@@ -390,9 +417,13 @@ fn end_include(
     numbers: Numbers,
     cluster: &Option<List<char>>,
 ) -> Result<(), ReadError>
-    ensures answer { Does result progress.new (spec.end_done asker.entry.file.now asker.entry.line numbers.number numbers.around cluster.now progress.old) }
+    requires sound { IsSoundReading progress.old.reading }
+    ensures answer { Does result progress.new
+        (spec.end_done asker.entry.file.now asker.entry.line numbers.number numbers.around
+            cluster.now progress.old) }
     ensures causes { HasOtherCauses result }
     ensures includes { progress.new.includes ≡ progress.old.includes }
+    ensures sound { OnOk result (IsSoundReading progress.new.reading) }
 {
     let done = progress
         .reading

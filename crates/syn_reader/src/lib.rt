@@ -24,5 +24,6 @@ mod refusal;
 mod syntax;
 mod syntax_of;
 
+pub use files::MOST_SYNTAX_BYTES;
 pub use syntax::{ReadError, ReadOptions, Syntax};
 pub use syntax_of::read_syntax;

@@ -42,7 +42,7 @@ fn line_of(alloc: Global, name: &str) -> Result<OneLine, Memory>
     ensures { IfOk result (λ text. text.line ≡ chars name.now) }
 {
     Ok(OneLine {
-        line: List::from_vec(name.chars().collect(alloc)?),
+        line: List::from_chars(alloc, name)?,
     })
 }
 
@@ -153,7 +153,9 @@ fn with_tried(
     found: List<GroupId>,
     number: usize,
 ) -> Result<List<GroupId>, Refusal>
-    ensures { Gives result (spec.with_tried trial.now.whole found number (name_of groups.now (group_numbered number))) }
+    ensures { Gives result
+        (spec.with_tried trial.now.whole found number
+            (name_of groups.now (group_numbered number))) }
 {
     let mut found = found;
     let group = group_at(number)?;

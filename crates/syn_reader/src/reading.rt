@@ -15,7 +15,7 @@ use keyword_table::{KeywordError, Keywords};
 use std::alloc::Global;
 use syn_base::{ItemId, List};
 use syn_words::{Cause, ItemCommand, Piece, What};
-use syntax_set::{Item, ItemSet, MOST_ITEMS};
+use syntax_set::{Item, ItemSet};
 
 /// What the commands so far have made, and what holds for the next one.
 #[derive(Drop)]
@@ -104,9 +104,6 @@ impl Reading {
     ) -> Result<(), Refusal>
         ensures { Leaves result self.new (item_spec.item_of self.old kind group.now contents) }
     {
-        if self.items.added() == MOST_ITEMS {
-            return Err(Refusal::Fault(Cause::TooManyItems));
-        }
         let own = self.names.group(alloc, group)?;
         let mut draft = Draft::new(alloc, own, self.ignore, self.include);
         draft.take_all(alloc, &mut self.names, contents)?;

@@ -5,6 +5,7 @@ use hi_links::Links;
 use keyword_table::Keywords;
 use pattern_match::Programs;
 use std::alloc::AllocError;
+use std::marker::Model;
 use syn_base::{List, Memory};
 use syn_words::Cause;
 use syntax_set::{Clusters, Groups, ItemSet};
@@ -18,7 +19,8 @@ pub struct ReadOptions {
     pub assume_fromstart: bool,
 }
 
-/// A syntax.
+/// A syntax. Each pattern of an item was added to the programs under its number, and its tree is the
+/// one there; each keyword starts an item that was added.
 #[derive(Drop)]
 pub struct Syntax {
     pub items: ItemSet,
@@ -28,6 +30,27 @@ pub struct Syntax {
     pub keywords: Keywords,
     pub links: Links,
     pub sets: Sets,
+}
+
+impl Model for Syntax {
+    ghost use Rattle.syn_reader.specs.Soundness as soundness;
+    ghost use Rattle.syn_reader.specs.SyntaxCode.{syntax_code};
+
+    ghost Value = { soundness.SyntaxParts };
+
+    ghost coded = { syntax_code };
+
+    ghost view = { λ s. record {
+        items = s.items;
+        clusters = s.clusters;
+        groups = s.groups;
+        programs = s.programs;
+        keywords = s.keywords;
+        links = s.links;
+        sets = s.sets;
+    } };
+
+    ghost invariant = { λ s. soundness.IsSound s.items s.programs s.keywords };
 }
 
 /// Why there is no syntax. Lines count from 1. Where the first file itself isn't fetched whole,

@@ -1,10 +1,11 @@
 //! The syntax of a file and of the files that it asks for.
-ghost use Rattle.std.specs.Prelude.{◌≡◌, [], IfOk, IfSome};
+ghost use Rattle.std.specs.Prelude.{◌≡◌, [], IfOk, IfSome, OnOk, chars};
 ghost use Rattle.hi_links.specs.UsualGroups.{groups_and_links};
-ghost use Rattle.syn_reader.specs.Follows.{counts, Counts, IsSyntaxOf};
+ghost use Rattle.syn_reader.specs.Follows.{counts, Counts, IsSyntaxOf, Reads};
+ghost use Rattle.syn_reader.specs.SoundReading.{IsSoundReading};
 ghost use Rattle.syn_reader.specs.SyntaxOf as spec;
 
-use crate::files::{Asker, MOST_OPEN, Wanted, ask, characters_of};
+use crate::files::{Asker, MOST_OPEN, ask};
 use crate::includes::Progress;
 use crate::names::Names;
 use crate::names_pattern::usual_sets;
@@ -14,7 +15,7 @@ use crate::syntax::{ReadError, ReadOptions, Syntax};
 use hi_links::Links;
 use keyword_table::Keywords;
 use std::alloc::Global;
-use syn_base::{Files, Memory};
+use syn_base::{Files, List, Memory};
 use syntax_set::{Clusters, Groups, ItemSet};
 
 /// What stands before the first command.
@@ -42,6 +43,7 @@ fn nothing_read(alloc: Global) -> Result<Reading, Memory>
 
 /// The syntax of all that was read, with its clusters settled.
 fn syntax_from(reading: Reading) -> Result<Syntax, Memory>
+    requires { IsSoundReading reading }
     ensures { IfOk result (λ syntax. syntax ≡ spec.syntax_from reading) }
 {
     let Reading {
@@ -70,6 +72,32 @@ fn syntax_from(reading: Reading) -> Result<Syntax, Memory>
     })
 }
 
+/// Reads the first file, by its own name.
+fn read_first<F: Files>(
+    alloc: Global,
+    files: &mut F,
+    name: &str,
+    options: &ReadOptions,
+    progress: &mut Progress,
+) -> Result<(), ReadError>
+    requires sound { IsSoundReading progress.old.reading }
+    ensures kept { F.told files.new ≡ F.told files.old }
+    ensures counts { Counts result
+        (counts (F.faults files.old) (F.misses files.old) (F.longs files.old))
+        (counts (F.faults files.new) (F.misses files.new) (F.longs files.new)) }
+    ensures answer { Reads (F.told files.old) progress.old.includes
+        (λ fetch. spec.asked_within 21 fetch options.now (chars name.now) 0 name.now
+            progress.old) progress.new result }
+    ensures sound { OnOk result (IsSoundReading progress.new.reading) }
+{
+    let own = List::from_chars(alloc, name)?;
+    let asker = Asker {
+        file: own.as_slice(),
+        line: 0,
+    };
+    ask(alloc, files, options, MOST_OPEN, asker, name, progress)
+}
+
 /// The syntax of a file and of the files that it asks for (`:syntax`, `:syn-include`).
 pub fn read_syntax<F: Files>(
     alloc: Global,
@@ -78,31 +106,15 @@ pub fn read_syntax<F: Files>(
     options: &ReadOptions,
 ) -> Result<Syntax, ReadError>
     ensures kept { F.told files.new ≡ F.told files.old }
-    ensures counts { Counts result (counts (F.faults files.old) (F.misses files.old) (F.longs files.old)) (counts (F.faults files.new) (F.misses files.new) (F.longs files.new)) }
+    ensures counts { Counts result
+        (counts (F.faults files.old) (F.misses files.old) (F.longs files.old))
+        (counts (F.faults files.new) (F.misses files.new) (F.longs files.new)) }
     ensures answer { IfSome (F.told files.old) (λ map. IsSyntaxOf map name.now options.now result) }
 {
     let mut progress = Progress {
         reading: nothing_read(alloc)?,
         includes: 0,
     };
-    let own = characters_of(alloc, name)?;
-    let asker = Asker {
-        file: own.as_slice(),
-        line: 0,
-    };
-    let cluster = None;
-    let wanted = Wanted {
-        cluster: &cluster,
-        name,
-    };
-    ask(
-        alloc,
-        files,
-        options,
-        MOST_OPEN,
-        asker,
-        wanted,
-        &mut progress,
-    )?;
+    read_first(alloc, files, name, options, &mut progress)?;
     Ok(syntax_from(progress.reading)?)
 }

@@ -3,24 +3,18 @@ use Rattle.std.proofs.lemmas.Result.{err_from_is_err_and}
 use Rattle.std.specs.Vec.Iter.{into_iter_items, into_iter_len}
 use Rattle.syn_words.specs.FileCommands.{commands_of}
 use Rattle.syn_reader.specs.declared.files.Asked.{Asked}
+use Rattle.syn_reader.specs.declared.syntax.ReadError.TheVariants.{FileFault}
 use Rattle.syn_reader.specs.Follows.{counts, Reads, IsFaultOf}
 use Rattle.syn_reader.specs.SyntaxOf as spec
 use Rattle.syn_reader.specs.SyntaxOf.{Fetching}
-use Rattle.syn_reader.proofs.Fetches.{unnamed_reads, named_reads, whole_reads, does_counts}
+use Rattle.syn_reader.proofs.Fetches.{asked_reads, whole_reads, failed_reads, does_counts}
 use Rattle.syn_reader.proofs.CommandRuns.{more_reads, ends_in_reads, all_reads, all_ran, one_fewer, plain_reads}
 use Rattle.syn_reader.proofs.files.+files.Goals as goal
 
-pub ask-returns-in_err-name_cluster-clause-answer : goal.ask-returns-in_err-name_cluster-clause-answer
-ask-returns-in_err-name_cluster-clause-answer g t c =
-    let p = err_from_is_err_and c.from_residual.result c.from_residual.ensures.1 in
-    rw (p.1, p.2)
-    (unnamed_reads (g.F.Files.told c.args.files.now) c.args.room c.args.options.now c.args.asker.file.now c.args.asker.line c.args.wanted.cluster.now c.args.wanted.name.now c.args.progress.now
-    c.name_cluster.new.progress c.name_cluster.new.progress _ (omega arith) c.in_err-name_cluster.ensures.answer c.in_err-name_cluster.ensures.causes)
-
 pub ask-returns-clause-answer : goal.ask-returns-clause-answer
 ask-returns-clause-answer g t c =
-    named_reads (g.F.Files.told c.args.files.now) c.args.room c.args.options.now c.args.asker.file.now c.args.asker.line c.args.wanted.cluster.now c.args.wanted.name.now c.args.progress.now
-    c.name_cluster.new.progress c.read_file.new.progress c.read_file.result (omega arith) c.in_ok-name_cluster.ensures.answer c.in_ok-name_cluster.ensures.includes c.read_file.ensures.answer
+    asked_reads (g.F.Files.told c.args.files.now) c.args.room c.args.options.now c.args.asker.file.now c.args.asker.line
+    c.args.name.now c.args.progress.now c.read_file.new.progress c.read_file.result (omega arith) c.read_file.ensures.answer
 
 -- a command's words say what it asks for
 pub carry_out-returns-in_ok-path-in-Runtime-clause-answer : goal.carry_out-returns-in_ok-path-in-Runtime-clause-answer
@@ -68,6 +62,7 @@ carry_out_all-loop-command-preserved g t c =
       answer = more_reads told (suc c.args.progress.now.includes) step c.args.progress.now c.loop-command.progress c.carry_out.new.progress c.loop-command.yielded c.in-Some.command (tt {0}) (Ok (tt {0})) c.loop-command.invariant.answer next;
       to_come = append_assoc c.loop-command.yielded (c.in-Some.command ∷ []) (into_iter_items c.next.new.self) ∙ ap (λ l. c.loop-command.yielded ++ l) (sym steps.0) ∙ c.loop-command.invariant.to_come;
       fault = c.loop-command.invariant.fault;
+      sound = c.in_ok-carry_out.ensures.sound;
       count = one_fewer (into_iter_items c.loop-command.command-iterator) (into_iter_items c.next.new.self) c.in-Some.command (into_iter_len c.loop-command.command-iterator) (into_iter_len c.next.new.self) steps.0 steps.1 c.loop-command.invariant.count;
     }
 
@@ -95,3 +90,9 @@ read_file-returns-in_ok-found-in-Whole-clause-answer g t c =
     whole_reads (g.F.Files.told c.args.files.now) (g.F.Files.told c.fetch.new.self) (λ fetch. spec.asked_within c.args.room fetch c.args.options.now) c.args.options.now c.args.asker.file.now c.args.asker.line c.args.name.now
     c.as_slice-in-Whole.result.now c.in-Whole.bytes c.in_ok-found-in-Whole.found c.args.progress.now c.carry_out_all.new.progress c.carry_out_all.result
     c.in-Whole.ensures.kept (c.as_slice-in-Whole.ensures ∙ ap (λ (asked : Asked). asked.name) c.in_ok-asked.ensures) same c.in-Whole.ensures.answer c.carry_out_all.ensures.answer
+
+pub read_file-returns-in-Failed-clause-answer : goal.read_file-returns-in-Failed-clause-answer
+read_file-returns-in-Failed-clause-answer g t c =
+    failed_reads (g.F.Files.told c.args.files.now) (λ fetch. spec.asked_within c.args.room fetch c.args.options.now) c.args.options.now
+    c.args.asker.file.now c.args.asker.line c.args.name.now c.args.progress.now c.args.progress.now c.file_fault.result
+    (c.file_fault.ensures ∙ ap (λ (asked : Asked). FileFault asked.file asked.line asked.name) c.in_ok-asked.ensures)

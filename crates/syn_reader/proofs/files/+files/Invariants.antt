@@ -4,6 +4,7 @@ use Rattle.std.specs.Vec.Iter.{into_iter_items, into_iter_len}
 use Rattle.syn_reader.specs.declared.syntax.ReadError.{ReadError}
 use Rattle.syn_reader.specs.Answers.{each}
 use Rattle.syn_reader.specs.Follows.{Reads}
+use Rattle.syn_reader.specs.SoundReading.{IsSoundReading}
 use Rattle.syn_reader.specs.SyntaxOf.{with_command, asked_within}
 use Rattle.syn_reader.proofs.files.+files.Given as goal
 
@@ -41,5 +42,6 @@ invariant-carry_out_all-loop-command g l = record {
       (λ fetch. each (with_command (asked_within l.room fetch l.options) l.options l.file) l.initial.progress l.yielded) l.progress so_far;
   to_come : l.yielded ++ into_iter_items l.command-iterator ≡ l.fn.found.list;
   fault : l.fault ≡ l.fn.found.fault;
+  sound : IsSoundReading l.progress.reading;
   count : into_iter_len l.command-iterator ≡ length (into_iter_items l.command-iterator);
 }
