@@ -1,15 +1,10 @@
 -- The patterns of items (Vim's help, :syn-pattern), each with its tree, or with the fault of its text.
-use Rattle.std.specs.Prelude.{ℕ, nat_eq, nat_lt, min, List, [], ◌∷◌, ◌++◌, length, count_by, Option, Some, None, false, if◌then◌else◌, Result, Ok, Err, pos}
-use Rattle.std.specs.List.{list_any}
+use Rattle.std.specs.Prelude.{ℕ, nat_eq, min, List, [], length, Option, Some, None, false, if◌then◌else◌, Result, Ok, Err, pos}
 use Rattle.pattern_items.specs.declared.item.PatternUse.{PatternUse}
 use Rattle.pattern_items.specs.declared.item.PatternUse.TheVariants as usage
-use Rattle.pattern_items.specs.declared.cause.PatternCause.TheVariants.{TooLong}
-use Rattle.pattern_items.specs.Place.{Item, items_of, is_counted, is_external}
 use Rattle.vim_pattern.specs.Tree.{PatternTree}
-use Rattle.vim_pattern.specs.Shape.{Shape}
-use Rattle.vim_pattern.specs.Fault.{Fault, fault_at}
-use Rattle.vim_pattern.specs.Pattern.{case_of, sets_match_start, holds_line_stop}
-use Rattle.vim_pattern.specs.Read.{read, start}
+use Rattle.vim_pattern.specs.Fault.{Fault}
+pub use Rattle.vim_pattern.specs.TreeOf.{tree_with, tree_by, tree_of}
 use Rattle.syntax_set.specs.declared.item.Offset.{Offset}
 use Rattle.syntax_set.specs.declared.item.Pattern.{Pattern}
 use Rattle.syn_words.specs.declared.cause.Cause.{Cause}
@@ -18,26 +13,6 @@ use Rattle.syn_words.specs.declared.what.Role.{Role}
 use Rattle.syn_words.specs.declared.what.Role.TheVariants as role
 use Rattle.syn_words.specs.declared.what.Quoted.{Quoted}
 use Rattle.syn_reader.specs.Answers.{◌>>=◌}
-
--- the tree of items that have these nodes
-abbrev pub tree_with : List Item → Shape → PatternTree
-tree_with items node = record {
-  node = node;
-  case = case_of items;
-  groups = count_by (λ i. is_counted i.sign) items;
-  externals = count_by (λ i. is_external i.sign) items;
-  moves_start = list_any (λ i. sets_match_start i.sign) items;
-  line_end = list_any (λ i. holds_line_stop i.sign) items;
-}
-
-abbrev pub tree_by : List Item → Result Shape Fault → Result PatternTree Fault
-tree_by items (Ok node) = Ok (tree_with items node)
-tree_by items (Err fault) = Err fault
-
--- the tree of a text, or its fault
-abbrev pub tree_of : List ℕ → PatternUse → Result PatternTree Fault
-tree_of text use_ =
-    if nat_lt 4000 (length text) then Err (fault_at 4000 TooLong) else tree_by (items_of use_ text) (read (items_of use_ text) start)
 
 abbrev pub or_cause : {A : Type 0} → Result A Fault → Result A Cause
 or_cause (Ok x) = Ok x
