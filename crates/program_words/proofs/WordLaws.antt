@@ -1,15 +1,13 @@
 -- Words and their bytes: what is counted and found in the words is so in their bytes.
-use Rattle.std.proofs.Common.{◌≡◌, ℕ, ◌+◌, ◌-◌, ◌≤◌, Bool, true, false, cond, ◌||◌, ◌&&◌, List, [], ◌∷◌, length, take, drop, map, get_or, suc, add-one, ◌<◌, refl, ap, sym, subst, ◌∙◌, arith}
-use Rattle.std.specs.Prelude.{Option, Some, None, IsCharBoundary, codes, count_by, nat_le, unwrap_or}
+use Rattle.std.proofs.Common.{◌≡◌, ℕ, ◌+◌, ◌-◌, ◌≤◌, Bool, true, false, cond, ◌||◌, ◌&&◌, List, [], ◌∷◌, length, take, drop, map, get_or, suc, add-one, ◌<◌, refl, ap, sym, ◌∙◌, arith}
+use Rattle.std.specs.Prelude.{Option, Some, None, codes, count_by, nat_le, unwrap_or}
 use Rattle.std.specs.declared.string.String.{String}
 use Rattle.std.specs.String.{string_bytes}
 use Rattle.std.proofs.Math.Seq.{drop-cons, take-length}
 use Rattle.std.specs.List.{list_all, list_any, prefix_len, drop-map, take-map}
-use Rattle.std.specs.Str.Pattern.{FindsTextPrefix, StripsPrefix}
-use Rattle.std.proofs.lemmas.Str.Pattern.{starts_text}
 use Rattle.std.proofs.lemmas.List.Folds.{list_all-map}
 use Rattle.std.proofs.lemmas.List.Sums.{sum_by-cons}
-use Rattle.program_words.specs.Words.{are_check_options, behind_options, check_of, folder_in, folder_of, is_check_option, is_dashes, is_folder, is_fromstart, is_full, is_name, is_option, names_in, not_empty, options_of, texts_of}
+use Rattle.program_words.specs.Words.{are_check_options, behind_options, check_of, folder_in, folder_of, is_check_option, is_dashes, is_folder, is_fromstart, is_full, is_name, is_option, names_in, options_of, texts_of}
 
 prefix_len-map : {X Y : Type 0} (p : Y → Bool) (h : X → Y) (xs : List X) → prefix_len p (map h xs) ≡ prefix_len (λ x. p (h x)) xs
 prefix_len-map p h [] = refl
@@ -54,19 +52,6 @@ names_with (word ∷ words) first some at =
     let count : length (word ∷ words) - 1 ≡ length words = omega arith in
     let rest : take (length (word ∷ words) - 1) words ≡ words = ap (λ n. take n words) count ∙ take-length words in
     rw (same, rest, list_all-map is_full (λ w. string_bytes w) words, list_all-map is_name (λ w. string_bytes w) (word ∷ words)) refl
-
--- the word isn't the option of a folder
-pub no_folder : (word : List ℕ) → FindsTextPrefix (codes "--folder=") word None → folder_in word ≡ None
-no_folder word lacks =
-    ap (λ b. cond b (not_empty (drop 9 word)) None) (sym (starts_text false (codes "--folder=") word lacks))
-
--- the word is the option of what stands behind its name
-pub folder_behind : (word behind : List ℕ) → StripsPrefix (FindsTextPrefix (codes "--folder=")) word behind → folder_in word ≡ not_empty behind
-folder_behind word behind strips =
-    let P : ℕ → Type 0 = λ k. IsCharBoundary word k in
-    ap (λ b. cond b (not_empty (drop 9 word)) None)
-    (sym (starts_text true (codes "--folder=") word (strips.0, strips.1, subst P (sym strips.1.0) strips.1.2)))
-    ∙ ap not_empty (sym (strips.2 ∙ ap (λ k. drop k word) strips.1.0))
 
 -- the folder of the options from one on is the one that it names, or else that of the options behind it
 pub folder_from : {Z : Type 0} (options : List (String Z)) (i : ℕ) (word : String Z) → i < length options → word ≡ get_or options i word → folder_of (drop i (texts_of options)) ≡ unwrap_or (folder_in (string_bytes word)) (folder_of (drop (i + 1) (texts_of options)))

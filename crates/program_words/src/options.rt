@@ -111,10 +111,7 @@ fn is_folder(word: &str) -> bool
 fn folder_in(word: &str) -> Option<&str>
     ensures { MatchOption result (folder_in word.now ≡ None) (λ folder. folder_in word.now ≡ Some folder.now) }
 {
-    match word.strip_prefix("--folder=") {
-        Some(folder) => not_empty(folder),
-        None => None,
-    }
+    not_empty(word.strip_prefix("--folder=")?)
 }
 
 fn not_empty(word: &str) -> Option<&str>

@@ -56,16 +56,10 @@ impl<'a> Asked<'a> {
             return None;
         };
         if command.as_str() == "spans" {
-            return match SpansWords::read(behind) {
-                Some(spans) => Some(Asked::Spans(spans)),
-                None => None,
-            };
+            return Some(Asked::Spans(SpansWords::read(behind)?));
         }
         if command.as_str() == "check" {
-            return match CheckWords::read(behind) {
-                Some(check) => Some(Asked::Check(check)),
-                None => None,
-            };
+            return Some(Asked::Check(CheckWords::read(behind)?));
         }
         None
     }
