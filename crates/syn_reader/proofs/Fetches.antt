@@ -113,8 +113,7 @@ failed_reads None inner options file line name p left e h = tt
 failed_reads (Some files) inner options file line name p left e h =
     let fails : failing_at p.includes (told_by files) p.includes name ≡ fetched.Failed =
     ap (λ b. if b then fetched.Failed else told_by files p.includes name) (is_itself p.includes) in
-    subst (λ (r : ReadError). Follows {A = Unit {0}} files p.includes (λ fetch. fetched_by (inner fetch) fetch options file line name p) left (Err r)) (sym h)
-    (
+    subst (λ (r : ReadError). Follows {A = Unit {0}} files p.includes (λ fetch. fetched_by (inner fetch) fetch options file line name p) left (Err r)) (sym h) (
       p.includes,
       omega arith,
       ap (by_fetched (inner (failing_at p.includes (told_by files))) options file line (chars name) p) fails,

@@ -4,7 +4,16 @@ ghost use Rattle.std.specs.String.{string_bytes};
 ghost use Rattle.syn_words.specs.declared.cause.Cause.TheVariants as cause;
 ghost use Rattle.syn_reader.specs.declared.syntax.ReadError.TheVariants as error;
 ghost use Rattle.syn_reader.specs.Follows.{
-    counts, Counts, Does, HasOtherCause, HasOtherCauses, IsFaultOf, IsInLine, IsOrMemory, Reads};
+  counts,
+  Counts,
+  Does,
+  HasOtherCause,
+  HasOtherCauses,
+  IsFaultOf,
+  IsInLine,
+  IsOrMemory,
+  Reads,
+};
 ghost use Rattle.syn_reader.specs.Includes.{cluster_named, counted, include_begun};
 ghost use Rattle.syn_reader.specs.SoundReading.{IsSoundReading};
 ghost use Rattle.syn_reader.specs.SyntaxOf as spec;
@@ -75,7 +84,10 @@ struct Asked {
 
 fn asked_for(alloc: Global, asker: Asker<'_>, name: &str) -> Result<Asked, Memory>
     ensures { IfOk result (λ asked. asked ≡ record {
-        file = asker.entry.file.now; line = asker.entry.line; name = chars name.now }) }
+      file = asker.entry.file.now;
+      line = asker.entry.line;
+      name = chars name.now;
+    }) }
 {
     Ok(Asked {
         file: List::from_slice(alloc, asker.file)?,
@@ -181,7 +193,7 @@ pub(crate) fn ask<F: Files>(
         (counts (F.faults files.new) (F.misses files.new) (F.longs files.new)) }
     ensures answer { Reads (F.told files.old) progress.old.includes
         (λ fetch. spec.asked_within room fetch options.now asker.entry.file.now asker.entry.line
-            name.now progress.old) progress.new result }
+        name.now progress.old) progress.new result }
     ensures sound { OnOk result (IsSoundReading progress.new.reading) }
 {
     if room == 0 {
@@ -208,7 +220,7 @@ fn read_file<F: Files>(
         (counts (F.faults files.new) (F.misses files.new) (F.longs files.new)) }
     ensures answer { Reads (F.told files.old) progress.old.includes
         (λ fetch. spec.fetched_by (spec.asked_within room fetch options.now) fetch options.now
-            asker.entry.file.now asker.entry.line name.now progress.old) progress.new result }
+        asker.entry.file.now asker.entry.line name.now progress.old) progress.new result }
     ensures sound { OnOk result (IsSoundReading progress.new.reading) }
 {
     let asked = asked_for(alloc, asker, name)?;
@@ -251,7 +263,7 @@ fn carry_out_all<F: Files>(
         (counts (F.faults files.new) (F.misses files.new) (F.longs files.new)) }
     ensures answer { Reads (F.told files.old) (suc progress.old.includes)
         (λ fetch. spec.with_commands (spec.asked_within room fetch options.now) options.now
-            file.now progress.old found) progress.new result }
+        file.now progress.old found) progress.new result }
     ensures sound { OnOk result (IsSoundReading progress.new.reading) }
 {
     let Commands { list, fault } = found;
@@ -279,7 +291,7 @@ fn carry_out<F: Files>(
         (counts (F.faults files.new) (F.misses files.new) (F.longs files.new)) }
     ensures answer { Reads (F.told files.old) (suc progress.old.includes)
         (λ fetch. spec.with_command (spec.asked_within room fetch options.now) options.now
-            file.now progress.old command) progress.new result }
+        file.now progress.old command) progress.new result }
     ensures sound { OnOk result (IsSoundReading progress.new.reading) }
 {
     let Command { line, what } = command;
@@ -319,7 +331,7 @@ fn runtime<F: Files>(
         (counts (F.faults files.new) (F.misses files.new) (F.longs files.new)) }
     ensures answer { Reads (F.told files.old) (suc progress.old.includes)
         (λ fetch. spec.runtime_command (spec.asked_within room fetch options.now)
-            asker.entry.file.now asker.entry.line progress.old name.now) progress.new result }
+        asker.entry.file.now asker.entry.line progress.old name.now) progress.new result }
     ensures sound { OnOk result (IsSoundReading progress.new.reading) }
 {
     count_include(alloc, asker, progress)?;
@@ -344,8 +356,8 @@ fn include<F: Files>(
         (counts (F.faults files.new) (F.misses files.new) (F.longs files.new)) }
     ensures answer { Reads (F.told files.old) (suc progress.old.includes)
         (λ fetch. spec.include_command (spec.asked_within room fetch options.now)
-            asker.entry.file.now asker.entry.line progress.old wanted.entry.cluster.now
-            wanted.entry.name.now) progress.new result }
+        asker.entry.file.now asker.entry.line progress.old wanted.entry.cluster.now
+        wanted.entry.name.now) progress.new result }
     ensures sound { OnOk result (IsSoundReading progress.new.reading) }
 {
     let around = progress.reading.include;
@@ -400,7 +412,7 @@ fn name_cluster(
     requires sound { IsSoundReading progress.old.reading }
     ensures answer { Does result progress.new
         (spec.in_line asker.entry.file.now asker.entry.line
-            (cluster_named progress.old cluster.now)) }
+        (cluster_named progress.old cluster.now)) }
     ensures causes { HasOtherCauses result }
     ensures includes { progress.new.includes ≡ progress.old.includes }
     ensures sound { OnOk result (IsSoundReading progress.new.reading) }
@@ -420,7 +432,7 @@ fn end_include(
     requires sound { IsSoundReading progress.old.reading }
     ensures answer { Does result progress.new
         (spec.end_done asker.entry.file.now asker.entry.line numbers.number numbers.around
-            cluster.now progress.old) }
+        cluster.now progress.old) }
     ensures causes { HasOtherCauses result }
     ensures includes { progress.new.includes ≡ progress.old.includes }
     ensures sound { OnOk result (IsSoundReading progress.new.reading) }

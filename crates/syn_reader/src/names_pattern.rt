@@ -155,7 +155,7 @@ fn with_tried(
 ) -> Result<List<GroupId>, Refusal>
     ensures { Gives result
         (spec.with_tried trial.now.whole found number
-            (name_of groups.now (group_numbered number))) }
+        (name_of groups.now (group_numbered number))) }
 {
     let mut found = found;
     let group = group_at(number)?;

@@ -41,13 +41,13 @@ impl Model for Syntax {
     ghost coded = { syntax_code };
 
     ghost view = { λ s. record {
-        items = s.items;
-        clusters = s.clusters;
-        groups = s.groups;
-        programs = s.programs;
-        keywords = s.keywords;
-        links = s.links;
-        sets = s.sets;
+      items = s.items;
+      clusters = s.clusters;
+      groups = s.groups;
+      programs = s.programs;
+      keywords = s.keywords;
+      links = s.links;
+      sets = s.sets;
     } };
 
     ghost invariant = { λ s. soundness.IsSound s.items s.programs s.keywords };

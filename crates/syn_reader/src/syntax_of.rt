@@ -87,7 +87,7 @@ fn read_first<F: Files>(
         (counts (F.faults files.new) (F.misses files.new) (F.longs files.new)) }
     ensures answer { Reads (F.told files.old) progress.old.includes
         (λ fetch. spec.asked_within 21 fetch options.now (chars name.now) 0 name.now
-            progress.old) progress.new result }
+        progress.old) progress.new result }
     ensures sound { OnOk result (IsSoundReading progress.new.reading) }
 {
     let own = List::from_chars(alloc, name)?;
