@@ -49,17 +49,11 @@ fn words(alloc: Global, stem: &[char], optional: &[char]) -> Result<List<List<ch
     ensures { IfOk result (λ all. all ≡ words stem.now optional.now) }
 {
     let mut words = List::new(alloc);
-    words.push(list_of(alloc, stem)?)?;
+    words.push(List::from_slice(alloc, stem)?)?;
     let mut word = Vec::from_slice(alloc, stem)?;
     for c in optional {
         word.push(*c)?;
-        words.push(list_of(alloc, word.as_slice())?)?;
+        words.push(List::from_slice(alloc, word.as_slice())?)?;
     }
     Ok(words)
-}
-
-fn list_of(alloc: Global, characters: &[char]) -> Result<List<char>, Memory>
-    ensures { IfOk result (λ list. list ≡ characters.now) }
-{
-    Ok(List::from_vec(Vec::from_slice(alloc, characters)?))
 }

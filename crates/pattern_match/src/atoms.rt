@@ -80,6 +80,7 @@ fn numbered<T: Lines>(lines: &T, line: usize) -> i64
     requires { line ≤ length (T.lines lines.now) }
     ensures { result ≡ pos line }
 {
+    // The proof needs the bounds that this call tells of the text.
     let _count = lines.len();
     line as i64
 }

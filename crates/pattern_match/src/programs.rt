@@ -166,6 +166,7 @@ fn looked_or_start<T: Lines>(lines: &T, looked: Option<Looked>, start: Place) ->
     requires { IsPlaceOf (T.lines lines.now) start }
     ensures { result ≡ lines_or_start start looked }
 {
+    // The proof needs the bounds that this call tells of the text.
     let _count = lines.len();
     looked.unwrap_or(Looked::one(start.line as i64))
 }

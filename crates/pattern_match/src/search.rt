@@ -68,6 +68,7 @@ pub(crate) fn search<'p, T: Lines>(
     let floor = ways.pending();
     ways.drop_all();
     let mut went = Went::Does(Next::Visit(part));
+    // The budget ends it long before; counted turns need no measure.
     for _ in 0..u64::MAX {
         went = match went {
             Went::Does(next) => follow(lines, context, ways, next, spent)?,
@@ -318,6 +319,7 @@ fn line_before<T: Lines>(lines: &T, at: Place) -> Looked
     requires { IsPlaceOf (T.lines lines.now) at }
     ensures { result ≡ one_line (pos at.line -ℤ pos 1) }
 {
+    // The proof needs the bounds that this call tells of the text.
     let _count = lines.len();
     Looked::one(at.line as i64 - 1)
 }

@@ -172,6 +172,7 @@ fn count_atoms<'p, T: Lines>(
         (marks_first x (Task.Count turns.entry) ways.old) ways.old ways.new spent.old spent.new) }
 {
     let mut most = turns.most;
+    // Each turn takes a character, so it ends long before; counted turns need no measure.
     for _ in 0..u64::MAX {
         if is_spent(most) {
             return Ok(Went::GoesOn);

@@ -28,6 +28,7 @@ fn read_argument<R: Env>(
 ) -> Result<Option<usize>, AllocError>
     ensures { IfOk result (λ argument. IfSome argument (λ length. length ≤ vec_len buffer.new)) }
 {
+    // The buffer fits after some turns; counted turns need no measure.
     for _ in 0..u64::MAX {
         match rt.arg(i, buffer.as_mut_slice()) {
             Ok(length) => return Ok(Some(length)),

@@ -55,6 +55,7 @@ fn read_whole<F: Read>(alloc: Global, file: &mut F, limit: usize) -> Result<Vec<
 {
     let mut bytes = Vec::new(alloc);
     let mut piece = [0u8; PIECE];
+    // The limit or the file's end comes long before; counted turns need no measure.
     for _ in 0..u64::MAX {
         let count = file.read(&mut piece).map_err(|_| Unread::Failed)?;
         if count == 0 {
