@@ -1,14 +1,14 @@
 -- How much of a line is left behind each of its parts: never more characters than there were.
-use Rattle.std.proofs.Common.{◌≡◌, ℕ, suc, ◌≤◌, Bool, true, false, List, [], ◌∷◌, ◌++◌, length, refl, ap, ◌∙◌, arith, cond}
-use Rattle.std.specs.Prelude.{Option, Some, None, Result, Ok, Err, nat_eq, if◌then◌else◌}
+use Rattle.std.proofs.Common.{◌≡◌, ℕ, suc, ◌≤◌, Bool, true, false, List, [], ◌∷◌, length, refl, arith, cond}
+use Rattle.std.specs.Prelude.{Result, Ok, Err, nat_eq, if◌then◌else◌}
 use Rattle.text_scan.specs.Characters.{is_blank, past_blanks}
 use Rattle.word_reader.specs.declared.words.Until.{Until}
 use Rattle.word_reader.specs.declared.words.Until.TheVariants as until
 use Rattle.word_reader.specs.Words.{begins, behind_equals, behind_first, has_equals, is_over, past, run, stops}
 use Rattle.syn_words.specs.declared.cause.Cause.{Cause}
-use Rattle.syn_words.specs.declared.cause.Cause.TheVariants.{MissingArgument, UnknownOption}
+use Rattle.syn_words.specs.declared.cause.Cause.TheVariants.{MissingArgument}
 use Rattle.syn_words.specs.Answers.{Read, ◌>>=◌}
-use Rattle.syn_words.specs.Arguments.{argument, no_more, value_start, word_start, word_start_at}
+use Rattle.syn_words.specs.Arguments.{argument, value_start, word_start, word_start_at}
 use Rattle.syn_words.proofs.WordLaws.{blanks_shorter, past_shorter}
 
 -- what is left of an answer has no more than so many characters

@@ -7,17 +7,17 @@ use Rattle.text_scan.specs.Characters.{past_blanks}
 use Rattle.word_reader.specs.declared.words.Until.TheVariants.{ListName}
 use Rattle.word_reader.specs.Words.{begins, behind_first, past, run, stops}
 use Rattle.syn_words.specs.declared.cause.Cause.{Cause}
-use Rattle.syn_words.specs.declared.cause.Cause.TheVariants.{BadList, MissingArgument}
+use Rattle.syn_words.specs.declared.cause.Cause.TheVariants.{BadList}
 use Rattle.syn_words.specs.declared.what.Named.{Named}
 use Rattle.syn_words.specs.declared.what.NamedList.{NamedList}
 use Rattle.syn_words.specs.Answers.{Read, ◌>>=◌}
-use Rattle.syn_words.specs.Arguments.{value_start, word_start_at}
+use Rattle.syn_words.specs.Arguments.{value_start}
 use Rattle.syn_words.specs.Names.{cluster_in_list, group_in_list}
 use Rattle.syn_words.specs.Lists.{list_value, names_after, no_names, special_here, with_cluster, with_group, with_name, with_named, with_word, with_word_here}
 use Rattle.syn_words.specs.Turns.{MoreTurnsReadTheSameList, MoreTurnsReadTheSameNames}
 use Rattle.syn_words.proofs.LeftLaws.{Leaves, begun_left, first_left, left_behind, left_by, left_from, left_if, past_left, run_left, value_start_left}
-use Rattle.syn_words.proofs.TurnLaws.{HasText, same_behind, same_from, value_begins}
-use Rattle.syn_words.proofs.WordLaws.{blanks_shorter, past_shorter, same_by}
+use Rattle.syn_words.proofs.TurnLaws.{same_behind, same_from, value_begins}
+use Rattle.syn_words.proofs.WordLaws.{blanks_shorter, same_by}
 
 -- A name takes a character at least.
 

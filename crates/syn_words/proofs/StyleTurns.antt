@@ -1,6 +1,6 @@
 -- The turns of a style never run out before its text does.
-use Rattle.std.proofs.Common.{◌≡◌, ℕ, suc, ◌≤◌, Bool, true, false, List, [], ◌∷◌, ◌++◌, length, refl, arith, cond}
-use Rattle.std.specs.Prelude.{Option, Some, None, Result, Ok, Err, if◌then◌else◌}
+use Rattle.std.proofs.Common.{ℕ, suc, ◌≤◌, true, List, [], ◌∷◌, ◌++◌, length, refl, arith}
+use Rattle.std.specs.Prelude.{Option, Some, None, Ok, Err}
 use Rattle.std.specs.Option.{option_to_list}
 use Rattle.text_scan.specs.Characters.{past_blanks}
 use Rattle.word_reader.specs.declared.words.Until.TheVariants as until
@@ -8,13 +8,12 @@ use Rattle.word_reader.specs.Words.{behind_equals, has_equals, is_over, past, ru
 use Rattle.word_values.specs.declared.style_words.StyleKey.{StyleKey}
 use Rattle.word_values.specs.StyleWords.{style_key}
 use Rattle.syn_words.specs.declared.cause.Cause.TheVariants.{UnknownOption}
-use Rattle.syn_words.specs.declared.what.StylePart.{StylePart}
-use Rattle.syn_words.specs.Answers.{Read, ◌>>=◌}
+use Rattle.syn_words.specs.Answers.{◌>>=◌}
 use Rattle.syn_words.specs.Arguments.{value_start}
 use Rattle.syn_words.specs.Styles.{keyed, keyed_by, parts_after, parts_so_far, style_part, style_piece}
 use Rattle.syn_words.specs.Turns.{MoreTurnsReadTheSameParts}
 use Rattle.syn_words.proofs.LeftLaws.{Leaves, equals_left, left_by, left_from, left_if, past_left, value_start_left}
-use Rattle.syn_words.proofs.WordLaws.{blanks_shorter, past_shorter, same_by}
+use Rattle.syn_words.proofs.WordLaws.{blanks_shorter, same_by}
 use Rattle.syn_words.proofs.TurnLaws.{same_behind}
 
 keyed_left : (n : ℕ) (key : StyleKey) (text : List ℕ) → length text ≤ n → Leaves n (keyed key text)
