@@ -96,3 +96,17 @@ pub argument_left : (n : ℕ) (text : List ℕ) → length text ≤ n → Leaves
 argument_left n text most =
     left_from n n (word_start text) (λ start. Ok (run until.Word start, past until.Word start)) (word_start_left n text most)
     (λ start fewer. past_left n until.Word start fewer)
+
+-- what begins with no blank
+abbrev pub StartsBare : List ℕ → Type 0
+StartsBare [] = Unit {0}
+StartsBare (c ∷ cs) = is_blank c ≡ false
+
+bare_by : (c : ℕ) (cs : List ℕ) (b : Bool) → is_blank c ≡ b → StartsBare (past_blanks cs)
+    → StartsBare (cond b (past_blanks cs) (c ∷ cs))
+bare_by c cs true is later = later
+bare_by c cs false is later = is
+
+pub blanks_bare : (text : List ℕ) → StartsBare (past_blanks text)
+blanks_bare [] = tt
+blanks_bare (c ∷ cs) = bare_by c cs (is_blank c) refl (blanks_bare cs)
