@@ -1,6 +1,7 @@
 -- The turns of names to be cleared never run out before their text does.
-use Rattle.std.proofs.Common.{◌≡◌, ℕ, suc, ◌≤◌, Bool, true, false, List, [], ◌∷◌, ◌++◌, length, refl, ap, sym, subst, arith}
-use Rattle.std.specs.Prelude.{Result, Ok, Err, if◌then◌else◌}
+use Rattle.std.proofs.Common.{◌≡◌, ℕ, suc, ◌≤◌, Bool, true, false, List, [], ◌∷◌, ◌++◌, length}
+use Rattle.std.proofs.Common.{refl, ap, sym, subst, arith}
+use Rattle.std.specs.Prelude.{Result, Ok, Err}
 use Rattle.text_scan.specs.Characters.{past_blanks}
 use Rattle.word_reader.specs.declared.words.Until.TheVariants as until
 use Rattle.word_reader.specs.Words.{begins, behind_first, is_over, past, run, stops}
@@ -11,9 +12,11 @@ use Rattle.syn_words.specs.declared.what.Named.TheVariants as named
 use Rattle.syn_words.specs.declared.what.What.{What}
 use Rattle.syn_words.specs.Answers.{Read, ◌>>=◌}
 use Rattle.syn_words.specs.Names.{group_name}
-use Rattle.syn_words.specs.Commands.{clear_whole, cleared, cleared_after, cleared_cluster, cleared_group}
+use Rattle.syn_words.specs.Commands.{clear_whole, cleared, cleared_after, cleared_cluster}
+use Rattle.syn_words.specs.Commands.{cleared_group}
 use Rattle.syn_words.specs.Turns.{MoreTurnsReadTheSameCleared}
-use Rattle.syn_words.proofs.LeftLaws.{Leaves, begun_left, left_behind, left_by, left_if, past_left, run_left}
+use Rattle.syn_words.proofs.LeftLaws.{Leaves, begun_left, left_behind, left_by, left_if, past_left}
+use Rattle.syn_words.proofs.LeftLaws.{run_left}
 use Rattle.syn_words.proofs.TurnLaws.{same_behind}
 use Rattle.syn_words.proofs.WordLaws.{blanks_shorter, same_by}
 
@@ -71,9 +74,9 @@ cleared_turns so_far (t ∷ turns) more text enough =
     (cleared (past_blanks text) >>= further so_far turns)
     (λ is. refl)
     (λ is. same_behind (length turns) (cleared (past_blanks text))
-        (further so_far (turns ++ more)) (further so_far turns)
-        (cleared_left (length turns) (past_blanks text) most)
-        (λ p fewer. cleared_turns (so_far ++ p.0 ∷ []) turns more p.1 fewer))
+    (further so_far (turns ++ more)) (further so_far turns)
+    (cleared_left (length turns) (past_blanks text) most)
+    (λ p fewer. cleared_turns (so_far ++ p.0 ∷ []) turns more p.1 fewer))
 
 -- What is left behind them.
 
@@ -87,5 +90,5 @@ clear_left n so_far (t ∷ turns) text most =
     (cleared (past_blanks text) >>= further so_far turns)
     (λ is. fits)
     (λ is. left_behind n n (cleared (past_blanks text)) (further so_far turns)
-        (cleared_left n (past_blanks text) (omega (arith, fits)))
-        (λ p fewer. clear_left n (so_far ++ p.0 ∷ []) turns p.1 fewer))
+    (cleared_left n (past_blanks text) (omega (arith, fits)))
+    (λ p fewer. clear_left n (so_far ++ p.0 ∷ []) turns p.1 fewer))

@@ -1,6 +1,6 @@
 -- The turns of a cluster's lists never run out before their text does.
-use Rattle.std.proofs.Common.{◌≡◌, ℕ, suc, ◌≤◌, Bool, true, false, List, [], ◌∷◌, ◌++◌, length, refl, arith}
-use Rattle.std.specs.Prelude.{Option, Some, None, Result, Ok, Err, if◌then◌else◌}
+use Rattle.std.proofs.Common.{ℕ, suc, ◌≤◌, false, List, [], ◌∷◌, ◌++◌, length, refl, arith}
+use Rattle.std.specs.Prelude.{Option, Some, None, Ok, Err}
 use Rattle.syntax_set.specs.declared.clusters.Change.{Change}
 use Rattle.text_scan.specs.Characters.{past_blanks}
 use Rattle.word_reader.specs.declared.words.Until.TheVariants as until
@@ -9,7 +9,8 @@ use Rattle.syn_words.specs.declared.cause.Cause.TheVariants.{UnknownOption}
 use Rattle.syn_words.specs.declared.what.NamedList.{NamedList}
 use Rattle.syn_words.specs.Answers.{Read, ◌>>=◌}
 use Rattle.syn_words.specs.Lists.{list_value}
-use Rattle.syn_words.specs.Clusters.{change_by, change_of, change_piece, change_with, changes_after, changes_so_far, changes_whole}
+use Rattle.syn_words.specs.Clusters.{change_by, change_of, change_piece, change_with, changes_after}
+use Rattle.syn_words.specs.Clusters.{changes_so_far, changes_whole}
 use Rattle.syn_words.specs.Turns.{MoreTurnsReadTheSameChanges}
 use Rattle.syn_words.proofs.LeftLaws.{Leaves, equals_left, left_behind, left_by, left_if, past_left}
 use Rattle.syn_words.proofs.ListTurns.{list_left}
@@ -54,9 +55,9 @@ changes_turns so_far (t ∷ turns) more text enough =
     (change_piece (past_blanks text) >>= further so_far turns)
     (λ is. refl)
     (λ is. same_behind (length turns) (change_piece (past_blanks text))
-        (further so_far (turns ++ more)) (further so_far turns)
-        (change_left (length turns) (past_blanks text) most)
-        (λ p fewer. changes_turns (so_far ++ p.0 ∷ []) turns more p.1 fewer))
+    (further so_far (turns ++ more)) (further so_far turns)
+    (change_left (length turns) (past_blanks text) most)
+    (λ p fewer. changes_turns (so_far ++ p.0 ∷ []) turns more p.1 fewer))
 
 -- What is left behind them.
 
@@ -75,5 +76,5 @@ changes_left n so_far (t ∷ turns) text most =
     (change_piece (past_blanks text) >>= further so_far turns)
     (λ is. so_far_left n so_far (past_blanks text) fits)
     (λ is. left_behind n n (change_piece (past_blanks text)) (further so_far turns)
-        (change_left n (past_blanks text) (omega (arith, fits)))
-        (λ p fewer. changes_left n (so_far ++ p.0 ∷ []) turns p.1 fewer))
+    (change_left n (past_blanks text) (omega (arith, fits)))
+    (λ p fewer. changes_left n (so_far ++ p.0 ∷ []) turns p.1 fewer))

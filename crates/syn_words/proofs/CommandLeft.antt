@@ -1,15 +1,15 @@
 -- What is left of a line behind a command.
-use Rattle.std.proofs.Common.{◌≡◌, ℕ, suc, ◌≤◌, Bool, true, false, List, [], ◌∷◌, ◌++◌, length, refl, arith, cond}
-use Rattle.std.specs.Prelude.{Option, Some, None, Result, Ok, Err, nat_eq, ◌&&◌, ◌||◌, if◌then◌else◌, codes}
+use Rattle.std.proofs.Common.{◌≡◌, ℕ, suc, ◌≤◌, Bool, true, false, List, [], ◌∷◌, length, arith}
+use Rattle.std.proofs.Common.{cond}
+use Rattle.std.specs.Prelude.{Option, Some, None, Ok, Err, nat_eq, ◌&&◌, ◌||◌, if◌then◌else◌, codes}
 use Rattle.text_scan.specs.Characters.{is_blank, past_blanks}
 use Rattle.word_reader.specs.declared.words.Until.TheVariants as until
-use Rattle.word_reader.specs.Words.{begins, behind_first, is_over, is_word, past, past_command, run, stops}
+use Rattle.word_reader.specs.Words.{begins, behind_first, is_over, is_word, past, past_command, run}
+use Rattle.word_reader.specs.Words.{stops}
 use Rattle.word_values.specs.declared.command_names.CommandName.{CommandName}
 use Rattle.word_values.specs.declared.command_names.CommandName.TheVariants as name
 use Rattle.word_values.specs.CommandNames.{begins_cpo, begins_variable, command_name, is_guard}
-use Rattle.syn_words.specs.declared.cause.Cause.{Cause}
 use Rattle.syn_words.specs.declared.cause.Cause.TheVariants as cause
-use Rattle.syn_words.specs.declared.first_words.Said.{Said}
 use Rattle.syn_words.specs.declared.first_words.Said.TheVariants.{Does, OpensGuard}
 use Rattle.syn_words.specs.declared.syntax.Subcommand.{Subcommand}
 use Rattle.syn_words.specs.declared.syntax.Subcommand.TheVariants as sub
@@ -17,18 +17,27 @@ use Rattle.syn_words.specs.declared.what.ItemCommand.{ItemCommand}
 use Rattle.syn_words.specs.declared.what.What.{What}
 use Rattle.syn_words.specs.declared.what.What.TheVariants as what
 use Rattle.syn_words.specs.Alone.{alone}
-use Rattle.syn_words.specs.Answers.{Read, ◌>>=◌}
-use Rattle.syn_words.specs.Arguments.{argument, no_more, no_more_at, word_start}
+use Rattle.syn_words.specs.Answers.{◌>>=◌}
+use Rattle.syn_words.specs.Arguments.{argument, no_more, word_start}
 use Rattle.syn_words.specs.Clusters.{changes}
-use Rattle.syn_words.specs.Commands.{awaited, by_subcommand, case_command, clear_command, cluster_command, command, command_by, cpoptions_at, does, guard, guard_at, ignored_case, include_command, include_in, included, is_fromstart, iskeyword_command, item_command, keyword_set, let_at, let_command, plain_command, quiet, runtime_command, set_command, subcommand_of, sync_command, syntax_command, unlet_command, variable_at}
+use Rattle.syn_words.specs.Commands.{awaited, by_subcommand, case_command, cluster_command, command}
+use Rattle.syn_words.specs.Commands.{command_by, cpoptions_at, does, guard, guard_at, ignored_case}
+use Rattle.syn_words.specs.Commands.{include_command, include_in, included, is_fromstart}
+use Rattle.syn_words.specs.Commands.{iskeyword_command, item_command, keyword_set, let_at}
+use Rattle.syn_words.specs.Commands.{let_command, plain_command, quiet, runtime_command}
+use Rattle.syn_words.specs.Commands.{set_command, subcommand_of, sync_command, syntax_command}
+use Rattle.syn_words.specs.Commands.{unlet_command, variable_at}
 use Rattle.syn_words.specs.FileNames.{file_argument, file_name}
-use Rattle.syn_words.specs.Highlight.{highlight_command, is_default, link_command, link_or_style, link_target, style_command, unset_command}
+use Rattle.syn_words.specs.Highlight.{highlight_command, is_default, link_command, link_or_style}
+use Rattle.syn_words.specs.Highlight.{link_target, style_command, unset_command}
 use Rattle.syn_words.specs.Names.{group_argument, group_name}
 use Rattle.syn_words.specs.Pieces.{nothing_seen, pieces}
 use Rattle.syn_words.specs.Styles.{style_parts}
 use Rattle.syn_words.proofs.ClearTurns.{clear_left}
 use Rattle.syn_words.proofs.ClusterTurns.{changes_left}
-use Rattle.syn_words.proofs.LeftLaws.{Leaves, LeavesText, argument_left, first_left, left_behind, left_by, left_from, left_if, past_left, run_left, text_if, word_start_left}
+use Rattle.syn_words.proofs.LeftLaws.{Leaves, LeavesText, argument_left, first_left, left_behind}
+use Rattle.syn_words.proofs.LeftLaws.{left_by, left_from, left_if, past_left, run_left, text_if}
+use Rattle.syn_words.proofs.LeftLaws.{word_start_left}
 use Rattle.syn_words.proofs.PieceTurns.{pieces_left}
 use Rattle.syn_words.proofs.StyleTurns.{parts_left}
 use Rattle.syn_words.proofs.WordLaws.{blanks_shorter}
@@ -90,7 +99,7 @@ let_left : (n : ℕ) (text : List ℕ) → length text ≤ n → Leaves n (let_c
 let_left n text most =
     left_from n n (word_start text) (λ start. let_at start) (word_start_left n text most)
     (λ start fewer. left_if n (begins 38 start) (cpoptions_at start) (variable_at start)
-        (λ is. cpoptions_left n start) (λ is. variable_left n start))
+    (λ is. cpoptions_left n start) (λ is. variable_left n start))
 
 unlet_left : (n : ℕ) (text : List ℕ) → length text ≤ n → Leaves n (unlet_command text)
 unlet_left n text most =
@@ -103,7 +112,7 @@ set_left n text most =
     (λ start. if begins_cpo start then quiet start else Err cause.UnknownCommand)
     (word_start_left n text most)
     (λ start fewer. left_if n (begins_cpo start) (quiet start) (Err cause.UnknownCommand)
-        (λ is. quiet_left n start fewer) (λ is. tt))
+    (λ is. quiet_left n start fewer) (λ is. tt))
 
 runtime_left : (n : ℕ) (text : List ℕ) → length text ≤ n → Leaves n (runtime_command text)
 runtime_left n text most =
@@ -119,7 +128,7 @@ case_left n text most =
     (λ word. ignored_case word.0 >>= λ ignore. alone (what.CaseIgnore ignore) word.1)
     (argument_left n text most)
     (λ word fewer. left_by n (ignored_case word.0) (λ ignore. alone (what.CaseIgnore ignore) word.1)
-        (λ ignore. alone_left n (what.CaseIgnore ignore) word.1 fewer))
+    (λ ignore. alone_left n (what.CaseIgnore ignore) word.1 fewer))
 
 iskeyword_left : (n : ℕ) (text : List ℕ) → length text ≤ n → Leaves n (iskeyword_command text)
 iskeyword_left n text most =
@@ -134,9 +143,9 @@ item_left n kind text most =
     (λ group. pieces kind group.1 >>= λ found. Ok (what.Item kind group.0 found.0, found.1))
     (group_left n text most)
     (λ group fewer. left_behind n n (pieces kind group.1)
-        (λ found. Ok (what.Item kind group.0 found.0, found.1))
-        (pieces_left n kind nothing_seen [] group.1 group.1 fewer)
-        (λ found less. less))
+    (λ found. Ok (what.Item kind group.0 found.0, found.1))
+    (pieces_left n kind nothing_seen [] group.1 group.1 fewer)
+    (λ found less. less))
 
 cluster_left : (n : ℕ) (text : List ℕ) → length text ≤ n → Leaves n (cluster_command text)
 cluster_left n text most =
@@ -144,9 +153,9 @@ cluster_left n text most =
     (λ cluster. changes cluster.1 >>= λ found. Ok (what.Cluster cluster.0 found.0, found.1))
     (group_left n text most)
     (λ cluster fewer. left_behind n n (changes cluster.1)
-        (λ found. Ok (what.Cluster cluster.0 found.0, found.1))
-        (changes_left n [] cluster.1 cluster.1 fewer)
-        (λ found less. less))
+    (λ found. Ok (what.Cluster cluster.0 found.0, found.1))
+    (changes_left n [] cluster.1 cluster.1 fewer)
+    (λ found less. less))
 
 included_left : (n : ℕ) (cluster : Option (List ℕ)) (text : List ℕ) → length text ≤ n
     → Leaves n (included cluster text)
@@ -160,7 +169,7 @@ include_in_left n text most =
     left_by n (group_name (run until.Word text))
     (λ cluster. included (Some cluster) (past until.Word text))
     (λ cluster. included_left n (Some cluster) (past until.Word text)
-        (past_left n until.Word text most))
+    (past_left n until.Word text most))
 
 include_left : (n : ℕ) (text : List ℕ) → length text ≤ n → Leaves n (include_command text)
 include_left n text most =
@@ -168,10 +177,10 @@ include_left n text most =
     (λ start. if begins 64 start then include_in (behind_first start) else included None start)
     (word_start_left n text most)
     (λ start fewer.
-        let first = first_left start in
-        left_if n (begins 64 start) (include_in (behind_first start)) (included None start)
-        (λ is. include_in_left n (behind_first start) (omega (arith, first, fewer)))
-        (λ is. included_left n None start fewer))
+    let first = first_left start in
+    left_if n (begins 64 start) (include_in (behind_first start)) (included None start)
+    (λ is. include_in_left n (behind_first start) (omega (arith, first, fewer)))
+    (λ is. included_left n None start fewer))
 
 sync_left : (n : ℕ) (text : List ℕ) → length text ≤ n → Leaves n (sync_command text)
 sync_left n text most =
@@ -205,14 +214,14 @@ link_left : (n : ℕ) (unset force : Bool) (text : List ℕ) → length text ≤
 link_left n unset force text most =
     left_behind n n (group_argument text)
     (λ from. argument from.1 >>= λ word. link_target word.0 >>= λ to. alone
-        (what.Link from.0 to unset force) word.1)
+    (what.Link from.0 to unset force) word.1)
     (group_left n text most)
     (λ from fewer. left_behind n n (argument from.1)
-        (λ word. link_target word.0 >>= λ to. alone (what.Link from.0 to unset force) word.1)
-        (argument_left n from.1 fewer)
-        (λ word less. left_by n (link_target word.0)
-            (λ to. alone (what.Link from.0 to unset force) word.1)
-            (λ to. alone_left n (what.Link from.0 to unset force) word.1 less)))
+    (λ word. link_target word.0 >>= λ to. alone (what.Link from.0 to unset force) word.1)
+    (argument_left n from.1 fewer)
+    (λ word less. left_by n (link_target word.0)
+    (λ to. alone (what.Link from.0 to unset force) word.1)
+    (λ to. alone_left n (what.Link from.0 to unset force) word.1 less)))
 
 style_left : (n : ℕ) (unset : Bool) (word text : List ℕ) → length text ≤ n
     → Leaves n (style_command unset word text)
@@ -220,8 +229,8 @@ style_left n unset word text most =
     left_by n (group_name word)
     (λ group. style_parts text >>= λ parts. Ok (what.Style group parts.0 unset, parts.1))
     (λ group. left_behind n n (style_parts text)
-        (λ parts. Ok (what.Style group parts.0 unset, parts.1))
-        (parts_left n false [] text text most) (λ parts fewer. fewer))
+    (λ parts. Ok (what.Style group parts.0 unset, parts.1))
+    (parts_left n false [] text text most) (λ parts fewer. fewer))
 
 link_or_left : (n : ℕ) (unset force : Bool) (word text : List ℕ) → length text ≤ n
     → Leaves n (link_or_style unset force word text)
@@ -242,12 +251,12 @@ highlight_left : (n : ℕ) (force : Bool) (text : List ℕ) → length text ≤ 
 highlight_left n force text most =
     left_behind n n (argument text)
     (λ word. if is_default word.0 then unset_command force word.1
-        else link_or_style false force word.0 word.1)
+    else link_or_style false force word.0 word.1)
     (argument_left n text most)
     (λ word fewer. left_if n (is_default word.0) (unset_command force word.1)
-        (link_or_style false force word.0 word.1)
-        (λ is. unset_left n force word.1 fewer)
-        (λ is. link_or_left n false force word.0 word.1 fewer))
+    (link_or_style false force word.0 word.1)
+    (λ is. unset_left n force word.1 fewer)
+    (λ is. link_or_left n false force word.0 word.1 fewer))
 
 -- All commands.
 
@@ -256,8 +265,8 @@ guard_at_left n text most =
     left_if n (is_guard (run until.Word text))
     (no_more (past until.Word text) >>= λ rest. Ok (OpensGuard, rest)) (Err cause.UnknownCommand)
     (λ is. left_from n n (no_more (past until.Word text)) (λ rest. Ok (OpensGuard, rest))
-        (no_more_left n (past until.Word text) (past_left n until.Word text most))
-        (λ rest fewer. fewer))
+    (no_more_left n (past until.Word text) (past_left n until.Word text most))
+    (λ rest fewer. fewer))
     (λ is. tt)
 
 guard_left : (n : ℕ) (text : List ℕ) → length text ≤ n → Leaves n (guard text)

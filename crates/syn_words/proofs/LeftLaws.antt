@@ -1,10 +1,12 @@
 -- How much of a line is left behind each of its parts: never more characters than there were.
-use Rattle.std.proofs.Common.{◌≡◌, ℕ, suc, ◌≤◌, Bool, true, false, List, [], ◌∷◌, length, refl, arith, cond}
+use Rattle.std.proofs.Common.{◌≡◌, ℕ, suc, ◌≤◌, Bool, true, false, List, [], ◌∷◌, length, refl}
+use Rattle.std.proofs.Common.{arith, cond}
 use Rattle.std.specs.Prelude.{Result, Ok, Err, nat_eq, if◌then◌else◌}
 use Rattle.text_scan.specs.Characters.{is_blank, past_blanks}
 use Rattle.word_reader.specs.declared.words.Until.{Until}
 use Rattle.word_reader.specs.declared.words.Until.TheVariants as until
-use Rattle.word_reader.specs.Words.{begins, behind_equals, behind_first, has_equals, is_over, past, run, stops}
+use Rattle.word_reader.specs.Words.{begins, behind_equals, behind_first, has_equals, is_over, past}
+use Rattle.word_reader.specs.Words.{run, stops}
 use Rattle.syn_words.specs.declared.cause.Cause.{Cause}
 use Rattle.syn_words.specs.declared.cause.Cause.TheVariants.{MissingArgument}
 use Rattle.syn_words.specs.Answers.{Read, ◌>>=◌}
@@ -67,7 +69,8 @@ equals_left n text is most =
     begun_left n 61 (past_blanks text) is (omega (arith, blanks, most))
 
 -- a run that takes a character
-pub run_left : (n : ℕ) (u : Until) (c : ℕ) (cs : List ℕ) → stops u c ≡ false → length (c ∷ cs) ≤ suc n
+pub run_left : (n : ℕ) (u : Until) (c : ℕ) (cs : List ℕ) → stops u c ≡ false
+    → length (c ∷ cs) ≤ suc n
     → length (past u (c ∷ cs)) ≤ n
 run_left n u c cs goes most =
     let later = past_shorter u cs in
@@ -86,7 +89,8 @@ pub value_start_left : (n : ℕ) (text : List ℕ) → length text ≤ n → Lea
 value_start_left n [] most = tt
 value_start_left n (c ∷ cs) most =
     let fewer : length cs ≤ n = omega (arith, most) in
-    text_if n (is_blank c) (word_start cs) (if nat_eq c 124 then Err MissingArgument else Ok (c ∷ cs)) (word_start_left n cs fewer)
+    text_if n (is_blank c) (word_start cs)
+    (if nat_eq c 124 then Err MissingArgument else Ok (c ∷ cs)) (word_start_left n cs fewer)
     (text_if n (nat_eq c 124) (Err MissingArgument) (Ok (c ∷ cs)) tt most)
 
 pub past_left : (n : ℕ) (u : Until) (text : List ℕ) → length text ≤ n → length (past u text) ≤ n
@@ -94,7 +98,8 @@ past_left n u text most = let shorter = past_shorter u text in omega (arith, sho
 
 pub argument_left : (n : ℕ) (text : List ℕ) → length text ≤ n → Leaves n (argument text)
 argument_left n text most =
-    left_from n n (word_start text) (λ start. Ok (run until.Word start, past until.Word start)) (word_start_left n text most)
+    left_from n n (word_start text) (λ start. Ok (run until.Word start, past until.Word start))
+    (word_start_left n text most)
     (λ start fewer. past_left n until.Word start fewer)
 
 -- what begins with no blank

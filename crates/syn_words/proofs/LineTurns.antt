@@ -1,9 +1,10 @@
 -- The turns of a line's commands never run out before the line does.
-use Rattle.std.proofs.Common.{◌≡◌, ℕ, suc, ◌≤◌, Bool, true, false, List, [], ◌∷◌, ◌++◌, length, refl, arith, cond}
+use Rattle.std.proofs.Common.{◌≡◌, ℕ, suc, ◌≤◌, Bool, true, false, List, [], ◌∷◌, ◌++◌, length}
+use Rattle.std.proofs.Common.{refl, arith, cond}
 use Rattle.std.specs.Prelude.{Result, Ok, Err, nat_eq, ◌||◌, codes}
 use Rattle.text_scan.specs.Characters.{is_blank, past_blanks}
 use Rattle.word_reader.specs.declared.words.Until.TheVariants as until
-use Rattle.word_reader.specs.Words.{begins, behind_first, stops}
+use Rattle.word_reader.specs.Words.{stops}
 use Rattle.syn_words.specs.declared.cause.Cause.{Cause}
 use Rattle.syn_words.specs.declared.first_words.Said.{Said}
 use Rattle.syn_words.specs.declared.file.Guard.{Guard}
@@ -11,7 +12,8 @@ use Rattle.syn_words.specs.declared.file.Guard.TheVariants.{Outside, AwaitsFinis
 use Rattle.syn_words.specs.declared.file.Progress.{Progress}
 use Rattle.syn_words.specs.Answers.{Read}
 use Rattle.syn_words.specs.Commands.{awaited, command}
-use Rattle.syn_words.specs.FileCommands.{Reading, by_endif, by_finish, by_said, line_after, line_is_over, read_by, read_one}
+use Rattle.syn_words.specs.FileCommands.{Reading, by_endif, by_finish, by_said, line_after}
+use Rattle.syn_words.specs.FileCommands.{line_is_over, read_by, read_one}
 use Rattle.syn_words.specs.Turns.{MoreTurnsReadTheSameCommands}
 use Rattle.syn_words.proofs.CommandLeft.{awaited_left, command_left}
 use Rattle.syn_words.proofs.LeftLaws.{Leaves, LeavesText, StartsBare, blanks_bare}
@@ -72,11 +74,11 @@ line_turns p number (t ∷ turns) more text enough =
     let most : length (past_blanks text) ≤ suc (length turns) = omega (arith, blanks, enough) in
     same_by (line_is_over (past_blanks text)) p
     (line_after (read_one p number (past_blanks text)).0 number (turns ++ more)
-        (read_one p number (past_blanks text)).1)
+    (read_one p number (past_blanks text)).1)
     p
     (line_after (read_one p number (past_blanks text)).0 number turns
-        (read_one p number (past_blanks text)).1)
+    (read_one p number (past_blanks text)).1)
     (λ is. refl)
     (λ is. line_turns (read_one p number (past_blanks text)).0 number turns more
-        (read_one p number (past_blanks text)).1
-        (one_left (length turns) p number (past_blanks text) (blanks_bare text) is most))
+    (read_one p number (past_blanks text)).1
+    (one_left (length turns) p number (past_blanks text) (blanks_bare text) is most))

@@ -1,10 +1,10 @@
 -- The turns of an item's pieces never run out before their text does.
-use Rattle.std.proofs.Common.{◌≡◌, ℕ, suc, ◌≤◌, Bool, true, false, List, [], ◌∷◌, ◌++◌, length, refl, ap, sym, ◌∙◌, arith, cond}
-use Rattle.std.specs.Prelude.{Option, Some, None, Result, Ok, Err, nat_eq, not, ◌&&◌, ◌||◌, if◌then◌else◌}
+use Rattle.std.proofs.Common.{◌≡◌, ℕ, suc, ◌≤◌, Bool, true, false, List, [], ◌∷◌, ◌++◌, length}
+use Rattle.std.proofs.Common.{refl, ap, sym, ◌∙◌, arith, cond}
+use Rattle.std.specs.Prelude.{Option, Some, None, Ok, Err, nat_eq, not, ◌&&◌, ◌||◌, if◌then◌else◌}
 use Rattle.text_scan.specs.Characters.{is_blank, past_blanks}
 use Rattle.word_reader.specs.declared.words.Until.TheVariants as until
 use Rattle.word_reader.specs.Words.{begins, behind_equals, has_equals, past, run, stops}
-use Rattle.syn_words.specs.declared.cause.Cause.{Cause}
 use Rattle.syn_words.specs.declared.cause.Cause.TheVariants.{UnknownOption, OptionHere, TwoSkips}
 use Rattle.syn_words.specs.declared.what.ItemCommand.{ItemCommand}
 use Rattle.syn_words.specs.declared.what.ItemCommand.TheVariants.{Keyword, Match, Region}
@@ -13,7 +13,7 @@ use Rattle.syn_words.specs.declared.what.Role.TheVariants as role
 use Rattle.syn_words.specs.declared.what.Field.{Field}
 use Rattle.syn_words.specs.declared.what.Flag.{Flag}
 use Rattle.syn_words.specs.declared.what.Piece.{Piece}
-use Rattle.syn_words.specs.declared.what.Piece.TheVariants.{Has, Cchar, Names, Matchgroup, Quote, Word}
+use Rattle.syn_words.specs.declared.what.Piece.TheVariants.{Has, Cchar, Names, Matchgroup, Quote}
 use Rattle.syn_words.specs.declared.options.OptionWord.{OptionWord}
 use Rattle.syn_words.specs.declared.options.OptionWord.TheVariants as word
 use Rattle.syn_words.specs.declared.pieces.Seen.{Seen}
@@ -22,13 +22,20 @@ use Rattle.syn_words.specs.Arguments.{value_start}
 use Rattle.syn_words.specs.Lists.{list_value}
 use Rattle.syn_words.specs.Options.{option_of}
 use Rattle.syn_words.specs.Quoted.{quoted}
-use Rattle.syn_words.specs.Pieces.{begins_pattern, behind_key, behind_key_at, cchar, flag_piece, group_or_none, is_contains, is_keyword, is_match, is_region, is_skip, matchgroup, may_be_special, missing, names, names_piece, only_character, piece_at, piece_by, pieces_after, pieces_end, pieces_so_far, pieces_whole, plain_piece, quote_as, region_quote, with_piece}
+use Rattle.syn_words.specs.Pieces.{begins_pattern, behind_key, behind_key_at, cchar, flag_piece}
+use Rattle.syn_words.specs.Pieces.{group_or_none, is_contains, is_keyword, is_match, is_region}
+use Rattle.syn_words.specs.Pieces.{is_skip, matchgroup, may_be_special, missing, names}
+use Rattle.syn_words.specs.Pieces.{only_character, piece_at, piece_by, pieces_after, pieces_end}
+use Rattle.syn_words.specs.Pieces.{pieces_so_far, pieces_whole, plain_piece, quote_as, region_quote}
+use Rattle.syn_words.specs.Pieces.{with_piece}
 use Rattle.syn_words.specs.Turns.{MoreTurnsReadTheSamePieces}
-use Rattle.syn_words.proofs.LeftLaws.{Leaves, LeavesText, StartsBare, blanks_bare, equals_left, left_behind, left_by, left_from, left_if, past_left, run_left, text_if, value_start_left}
+use Rattle.syn_words.proofs.LeftLaws.{Leaves, LeavesText, StartsBare, blanks_bare, equals_left}
+use Rattle.syn_words.proofs.LeftLaws.{left_behind, left_by, left_from, left_if, past_left, run_left}
+use Rattle.syn_words.proofs.LeftLaws.{value_start_left}
 use Rattle.syn_words.proofs.ListTurns.{list_left}
 use Rattle.syn_words.proofs.QuotedTurns.{quoted_left}
 use Rattle.syn_words.proofs.TurnLaws.{same_behind}
-use Rattle.syn_words.proofs.WordLaws.{blanks_shorter, past_shorter, same_by}
+use Rattle.syn_words.proofs.WordLaws.{blanks_shorter, same_by}
 
 -- Values.
 
@@ -38,17 +45,17 @@ only_left n text most =
     (λ start. only_character (run until.Word start) >>= λ c. Ok (Cchar c, past until.Word start))
     (value_start_left n text most)
     (λ start fewer. left_by n (only_character (run until.Word start))
-        (λ c. Ok (Cchar c, past until.Word start)) (λ c. past_left n until.Word start fewer))
+    (λ c. Ok (Cchar c, past until.Word start)) (λ c. past_left n until.Word start fewer))
 
 matchgroup_left : (n : ℕ) (text : List ℕ) → length text ≤ n → Leaves n (matchgroup text)
 matchgroup_left n text most =
     left_from n n (value_start text)
     (λ start. group_or_none (run until.Word start) >>= λ name. Ok
-        (Matchgroup name, past until.Word start))
+    (Matchgroup name, past until.Word start))
     (value_start_left n text most)
     (λ start fewer. left_by n (group_or_none (run until.Word start))
-        (λ name. Ok (Matchgroup name, past until.Word start))
-        (λ name. past_left n until.Word start fewer))
+    (λ name. Ok (Matchgroup name, past until.Word start))
+    (λ name. past_left n until.Word start fewer))
 
 names_left : (n : ℕ) (asked : Field) (text : List ℕ) → length text ≤ n → Leaves n (names asked text)
 names_left n asked text most =
@@ -126,7 +133,7 @@ unless_region : (n : ℕ) (kind : ItemCommand) (seen : Seen) (c : ℕ) (cs : Lis
     → stops until.Word c ≡ false → length (c ∷ cs) ≤ suc n
     → ((value : List ℕ) → length value ≤ n → Leaves n (f value))
     → Leaves n (if not (is_region kind) then plain_piece kind seen (c ∷ cs) else
-        (behind_key (c ∷ cs) >>= f))
+    (behind_key (c ∷ cs) >>= f))
 unless_region n kind seen c cs f goes most later =
     left_if n (not (is_region kind)) (plain_piece kind seen (c ∷ cs)) (behind_key (c ∷ cs) >>= f)
     (λ is. plain_left n kind seen c cs goes most)
@@ -160,7 +167,7 @@ piece_left n kind seen [] bare end most = absurd cc
 piece_left n kind seen (c ∷ cs) bare end most =
     by_left n kind seen (option_of (run until.Key (c ∷ cs))) c cs
     (no_stop (is_blank c) (nat_eq c 124)
-        (nat_eq c 34 && not (is_match kind && not seen.pattern)) bare end) most
+    (nat_eq c 34 && not (is_match kind && not seen.pattern)) bare end) most
 
 -- All pieces.
 
@@ -182,10 +189,10 @@ pieces_turns kind seen so_far (t ∷ turns) more text enough =
     (piece_at kind seen (past_blanks text) >>= further kind seen so_far turns)
     (λ is. refl)
     (λ is. same_behind (length turns) (piece_at kind seen (past_blanks text))
-        (further kind seen so_far (turns ++ more)) (further kind seen so_far turns)
-        (piece_left (length turns) kind seen (past_blanks text) (blanks_bare text) is most)
-        (λ p fewer. pieces_turns kind (with_piece seen p.0)
-            (so_far ++ p.0 ∷ []) turns more p.1 fewer))
+    (further kind seen so_far (turns ++ more)) (further kind seen so_far turns)
+    (piece_left (length turns) kind seen (past_blanks text) (blanks_bare text) is most)
+    (λ p fewer. pieces_turns kind (with_piece seen p.0)
+    (so_far ++ p.0 ∷ []) turns more p.1 fewer))
 
 -- What is left behind them.
 
@@ -206,5 +213,5 @@ pieces_left n kind seen so_far (t ∷ turns) text most =
     (piece_at kind seen (past_blanks text) >>= further kind seen so_far turns)
     (λ is. so_far_left n kind seen so_far (past_blanks text) fits)
     (λ is. left_behind n n (piece_at kind seen (past_blanks text)) (further kind seen so_far turns)
-        (piece_left n kind seen (past_blanks text) (blanks_bare text) is (omega (arith, fits)))
-        (λ p fewer. pieces_left n kind (with_piece seen p.0) (so_far ++ p.0 ∷ []) turns p.1 fewer))
+    (piece_left n kind seen (past_blanks text) (blanks_bare text) is (omega (arith, fits)))
+    (λ p fewer. pieces_left n kind (with_piece seen p.0) (so_far ++ p.0 ∷ []) turns p.1 fewer))

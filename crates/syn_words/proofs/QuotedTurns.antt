@@ -1,15 +1,19 @@
 -- The turns of offsets never run out before their text does, and what is left behind a pattern.
-use Rattle.std.proofs.Common.{◌≡◌, ℕ, suc, ◌≤◌, Bool, true, false, List, [], ◌∷◌, ◌++◌, length, refl, arith, cond}
-use Rattle.std.specs.Prelude.{Option, Some, None, Result, Ok, Err, nat_eq, ◌+◌, ◌-◌, ◌&&◌, if◌then◌else◌, codes, pos}
+use Rattle.std.proofs.Common.{◌≡◌, ℕ, suc, ◌≤◌, Bool, true, false, List, [], ◌∷◌, ◌++◌, length}
+use Rattle.std.proofs.Common.{refl, arith, cond}
+use Rattle.std.specs.Prelude.{Option, Some, None, Err, nat_eq, ◌+◌, ◌-◌, ◌&&◌, if◌then◌else◌, codes}
+use Rattle.std.specs.Prelude.{pos}
 use Rattle.text_scan.specs.Characters.{is_digit}
 use Rattle.text_scan.specs.Numbers.{Digits, digits, digits_after, with_digit}
 use Rattle.syntax_set.specs.declared.item.Offset.{Offset}
 use Rattle.word_reader.specs.declared.offsets.Adjusts.{Adjusts}
-use Rattle.word_reader.specs.Delimited.{can_delimit, delimited, delimited_after, first_scan, may_close, scan_next}
-use Rattle.word_reader.specs.Offsets.{adjust_at, adjust_behind, backwards, edge_at, edge_or, forwards, leads, moved, moves, no_adjusts, number, number_of, offset, offsets, offsets_after, place, signed, with_adjust}
+use Rattle.word_reader.specs.Delimited.{can_delimit, delimited, delimited_after, first_scan}
+use Rattle.word_reader.specs.Delimited.{may_close, scan_next}
+use Rattle.word_reader.specs.Offsets.{adjust_at, adjust_behind, backwards, edge_at, edge_or}
+use Rattle.word_reader.specs.Offsets.{forwards, leads, moved, moves, no_adjusts, number, number_of}
+use Rattle.word_reader.specs.Offsets.{offset, offsets, offsets_after, place, signed, with_adjust}
 use Rattle.word_reader.specs.Words.{begins, behind_first, ends_word, strip}
 use Rattle.syn_words.specs.declared.cause.Cause.TheVariants.{NoPattern}
-use Rattle.syn_words.specs.Answers.{Read, ◌>>=◌}
 use Rattle.syn_words.specs.Quoted.{quoted, quoted_from, with_offsets}
 use Rattle.syn_words.specs.Turns.{MoreTurnsReadTheSameOffsets}
 use Rattle.syn_words.proofs.LeftLaws.{Leaves, begun_left, first_left, left_if}
@@ -80,7 +84,7 @@ signed_left n b (c ∷ cs) most =
     (if nat_eq c 45 then backwards b (number cs) else Some (offset b (pos 0), c ∷ cs))
     (λ is. forwards_left n b (number cs) (number_left n cs fewer))
     (λ is. some_if n (nat_eq c 45) (backwards b (number cs)) (Some (offset b (pos 0), c ∷ cs))
-        (λ so. backwards_left n b (number cs) (number_left n cs fewer)) (λ so. most))
+    (λ so. backwards_left n b (number cs) (number_left n cs fewer)) (λ so. most))
 
 place_left : (n : ℕ) (text : List ℕ) → length text ≤ n → LeavesSome n (place text)
 place_left n [] most = tt
@@ -89,7 +93,7 @@ place_left n (c ∷ cs) most =
     some_if n (nat_eq c 115) (signed false cs) (if nat_eq c 101 then signed true cs else None)
     (λ is. signed_left n false cs fewer)
     (λ is. some_if n (nat_eq c 101) (signed true cs) None (λ so. signed_left n true cs fewer)
-        (λ so. tt))
+    (λ so. tt))
 
 strip_left : (n : ℕ) (word text : List ℕ) → length text ≤ n → LeavesRest n (strip word text)
 strip_left n [] text most = most
@@ -141,7 +145,8 @@ further adjusted turns p =
     if ends_word p.1 then Some (adjusted p.0, p.1)
     else if begins 44 p.1 then offsets_after (adjusted p.0) turns (behind_first p.1) else None
 
-abbrev further_by : {J : Type 0} → (J → Adjusts) → List ℕ → Option (J × List ℕ) → Option (Adjusts × List ℕ)
+abbrev further_by : {J : Type 0} → (J → Adjusts) → List ℕ → Option (J × List ℕ)
+    → Option (Adjusts × List ℕ)
 further_by adjusted turns None = None
 further_by adjusted turns (Some p) = further adjusted turns p
 
@@ -149,7 +154,8 @@ abbrev LeavesAll : ℕ → List ℕ → Type 0
 LeavesAll n turns =
     (a : Adjusts) (text : List ℕ) → length text ≤ n → LeavesSome n (offsets_after a turns text)
 
-further_left : {J : Type 0} (n : ℕ) (adjusted : J → Adjusts) (turns : List ℕ) (o : Option (J × List ℕ))
+further_left : {J : Type 0} (n : ℕ) (adjusted : J → Adjusts) (turns : List ℕ)
+    (o : Option (J × List ℕ))
     → LeavesSome n o → LeavesAll n turns → LeavesSome n (further_by adjusted turns o)
 further_left n adjusted turns None most later = tt
 further_left n adjusted turns (Some p) most later =
@@ -158,13 +164,14 @@ further_left n adjusted turns (Some p) most later =
     (if begins 44 p.1 then offsets_after (adjusted p.0) turns (behind_first p.1) else None)
     (λ is. most)
     (λ is. some_if n (begins 44 p.1) (offsets_after (adjusted p.0) turns (behind_first p.1)) None
-        (λ so. later (adjusted p.0) (behind_first p.1) (omega (arith, first, most)))
-        (λ so. tt))
+    (λ so. later (adjusted p.0) (behind_first p.1) (omega (arith, first, most)))
+    (λ so. tt))
 
 after_left : (n : ℕ) (turns : List ℕ) → LeavesAll n turns
 after_left n [] a text most = tt
 after_left n (t ∷ turns) a text most =
-    further_left n (with_adjust a) turns (adjust_at text) (adjust_left n text most) (after_left n turns)
+    further_left n (with_adjust a) turns (adjust_at text) (adjust_left n text most)
+    (after_left n turns)
 
 offsets_left : (n : ℕ) (text : List ℕ) → length text ≤ n → LeavesSome n (offsets text)
 offsets_left n text most =
@@ -182,22 +189,24 @@ further_same : {J : Type 0} (adjusted : J → Adjusts) (turns more : List ℕ) (
 further_same adjusted turns more None most later = refl
 further_same adjusted turns more (Some p) most later =
     same_by (ends_word p.1) (Some (adjusted p.0, p.1))
-    (if begins 44 p.1 then offsets_after (adjusted p.0) (turns ++ more) (behind_first p.1) else None)
+    (if begins 44 p.1 then offsets_after (adjusted p.0) (turns ++ more) (behind_first p.1)
+    else None)
     (Some (adjusted p.0, p.1))
     (if begins 44 p.1 then offsets_after (adjusted p.0) turns (behind_first p.1) else None)
     (λ is. refl)
     (λ is. same_by (begins 44 p.1)
-        (offsets_after (adjusted p.0) (turns ++ more) (behind_first p.1)) None
-        (offsets_after (adjusted p.0) turns (behind_first p.1)) None
-        (λ so. later (adjusted p.0) (behind_first p.1) (begun_left (length turns) 44 p.1 so most))
-        (λ so. refl))
+    (offsets_after (adjusted p.0) (turns ++ more) (behind_first p.1)) None
+    (offsets_after (adjusted p.0) turns (behind_first p.1)) None
+    (λ so. later (adjusted p.0) (behind_first p.1) (begun_left (length turns) 44 p.1 so most))
+    (λ so. refl))
 
 offsets_same : (turns more : List ℕ) → SameTurns turns more
 offsets_same [] [] a text enough = refl
 offsets_same [] (m ∷ more) a [] enough = refl
 offsets_same [] (m ∷ more) a (c ∷ cs) enough = absurd (omega (arith, enough))
 offsets_same (t ∷ turns) more a text enough =
-    further_same (with_adjust a) turns more (adjust_at text) (adjust_left (suc (length turns)) text enough)
+    further_same (with_adjust a) turns more (adjust_at text)
+    (adjust_left (suc (length turns)) text enough)
     (offsets_same turns more)
 
 pub offsets_turns : MoreTurnsReadTheSameOffsets

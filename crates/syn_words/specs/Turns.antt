@@ -65,11 +65,11 @@ MoreTurnsReadTheSameNames =
     (may_be_special : Bool) (list : NamedList) (t : ℕ) (turns more text : List ℕ)
     → length text ≤ length (t ∷ turns)
     → names_after may_be_special list (t ∷ turns ++ more) text
-        ≡ names_after may_be_special list (t ∷ turns) text
+    ≡ names_after may_be_special list (t ∷ turns) text
 
 -- so the value of a list is the same with more turns
 abbrev pub MoreTurnsReadTheSameList : Type 0
 MoreTurnsReadTheSameList =
     (may_be_special : Bool) (more text : List ℕ)
     → (value_start text >>= λ start. names_after may_be_special no_names (start ++ more) start)
-        ≡ list_value may_be_special text
+    ≡ list_value may_be_special text
