@@ -1,14 +1,16 @@
 -- How much of a line is left behind each of its parts: never more characters than there were.
-use Rattle.std.proofs.Common.{◌≡◌, ℕ, suc, ◌≤◌, Bool, true, false, List, [], ◌∷◌, ◌++◌, length, refl, ap, ◌∙◌, arith, cond}
-use Rattle.std.specs.Prelude.{Option, Some, None, Result, Ok, Err, nat_eq, if◌then◌else◌}
+use Rattle.std.proofs.Common.{◌≡◌, ℕ, suc, ◌≤◌, Bool, true, false, List, [], ◌∷◌, length, refl}
+use Rattle.std.proofs.Common.{arith, cond}
+use Rattle.std.specs.Prelude.{Result, Ok, Err, nat_eq, if◌then◌else◌}
 use Rattle.text_scan.specs.Characters.{is_blank, past_blanks}
 use Rattle.word_reader.specs.declared.words.Until.{Until}
 use Rattle.word_reader.specs.declared.words.Until.TheVariants as until
-use Rattle.word_reader.specs.Words.{begins, behind_equals, behind_first, has_equals, is_over, past, run, stops}
+use Rattle.word_reader.specs.Words.{begins, behind_equals, behind_first, has_equals, is_over, past}
+use Rattle.word_reader.specs.Words.{run, stops}
 use Rattle.syn_words.specs.declared.cause.Cause.{Cause}
-use Rattle.syn_words.specs.declared.cause.Cause.TheVariants.{MissingArgument, UnknownOption}
+use Rattle.syn_words.specs.declared.cause.Cause.TheVariants.{MissingArgument}
 use Rattle.syn_words.specs.Answers.{Read, ◌>>=◌}
-use Rattle.syn_words.specs.Arguments.{argument, no_more, value_start, word_start, word_start_at}
+use Rattle.syn_words.specs.Arguments.{argument, value_start, word_start, word_start_at}
 use Rattle.syn_words.proofs.WordLaws.{blanks_shorter, past_shorter}
 
 -- what is left of an answer has no more than so many characters
@@ -67,7 +69,8 @@ equals_left n text is most =
     begun_left n 61 (past_blanks text) is (omega (arith, blanks, most))
 
 -- a run that takes a character
-pub run_left : (n : ℕ) (u : Until) (c : ℕ) (cs : List ℕ) → stops u c ≡ false → length (c ∷ cs) ≤ suc n
+pub run_left : (n : ℕ) (u : Until) (c : ℕ) (cs : List ℕ) → stops u c ≡ false
+    → length (c ∷ cs) ≤ suc n
     → length (past u (c ∷ cs)) ≤ n
 run_left n u c cs goes most =
     let later = past_shorter u cs in
@@ -86,7 +89,8 @@ pub value_start_left : (n : ℕ) (text : List ℕ) → length text ≤ n → Lea
 value_start_left n [] most = tt
 value_start_left n (c ∷ cs) most =
     let fewer : length cs ≤ n = omega (arith, most) in
-    text_if n (is_blank c) (word_start cs) (if nat_eq c 124 then Err MissingArgument else Ok (c ∷ cs)) (word_start_left n cs fewer)
+    text_if n (is_blank c) (word_start cs)
+    (if nat_eq c 124 then Err MissingArgument else Ok (c ∷ cs)) (word_start_left n cs fewer)
     (text_if n (nat_eq c 124) (Err MissingArgument) (Ok (c ∷ cs)) tt most)
 
 pub past_left : (n : ℕ) (u : Until) (text : List ℕ) → length text ≤ n → length (past u text) ≤ n
@@ -94,5 +98,20 @@ past_left n u text most = let shorter = past_shorter u text in omega (arith, sho
 
 pub argument_left : (n : ℕ) (text : List ℕ) → length text ≤ n → Leaves n (argument text)
 argument_left n text most =
-    left_from n n (word_start text) (λ start. Ok (run until.Word start, past until.Word start)) (word_start_left n text most)
+    left_from n n (word_start text) (λ start. Ok (run until.Word start, past until.Word start))
+    (word_start_left n text most)
     (λ start fewer. past_left n until.Word start fewer)
+
+-- what begins with no blank
+abbrev pub StartsBare : List ℕ → Type 0
+StartsBare [] = Unit {0}
+StartsBare (c ∷ cs) = is_blank c ≡ false
+
+bare_by : (c : ℕ) (cs : List ℕ) (b : Bool) → is_blank c ≡ b → StartsBare (past_blanks cs)
+    → StartsBare (cond b (past_blanks cs) (c ∷ cs))
+bare_by c cs true is later = later
+bare_by c cs false is later = is
+
+pub blanks_bare : (text : List ℕ) → StartsBare (past_blanks text)
+blanks_bare [] = tt
+blanks_bare (c ∷ cs) = bare_by c cs (is_blank c) refl (blanks_bare cs)

@@ -9,3 +9,9 @@ pub mod LeftLaws
 pub mod TurnLaws
 pub mod StyleTurns
 pub mod ListTurns
+pub mod ClusterTurns
+pub mod ClearTurns
+pub mod QuotedTurns
+pub mod PieceTurns
+pub mod CommandLeft
+pub mod LineTurns

@@ -39,5 +39,6 @@ start_begins (c ∷ cs) = text_by (is_over (c ∷ cs)) (Err MissingArgument) (Ok
 pub value_begins : (text : List ℕ) → HasText (value_start text)
 value_begins [] = tt
 value_begins (c ∷ cs) =
-    text_by (is_blank c) (word_start cs) (if nat_eq c 124 then Err MissingArgument else Ok (c ∷ cs)) (start_begins (past_blanks cs))
+    text_by (is_blank c) (word_start cs) (if nat_eq c 124 then Err MissingArgument else Ok (c ∷ cs))
+    (start_begins (past_blanks cs))
     (text_by (nat_eq c 124) (Err MissingArgument) (Ok (c ∷ cs)) tt tt)
