@@ -1,2 +1,3 @@
+pub mod OptionLaws
 pub mod WordLaws
 mod KnownWords

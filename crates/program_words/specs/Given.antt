@@ -1,5 +1,5 @@
 -- What words give.
-use Rattle.std.specs.Prelude.{ℕ, Bool, List}
+use Rattle.std.specs.Prelude.{ℕ, Bool, List, Option}
 
 -- the names of the two files of `spans`
 pub record SpansWords : Type 0 where
@@ -12,3 +12,9 @@ pub record CheckWords : Type 0 where
   pub syntax : List ℕ
   pub folder : List ℕ
   pub assume_fromstart : Bool
+
+-- what the options of `check` say: whether sync methods other than `fromstart` are passed over, and the
+-- folder that is named
+pub record Options : Type 0 where
+  pub fromstart : Bool
+  pub folder : Option (List ℕ)

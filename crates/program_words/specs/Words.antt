@@ -1,14 +1,14 @@
 -- The table of words. Words are a command, its options, perhaps the word `--`, and its names. An option
 -- stands at most once, and none stands behind a name. No name is empty, and one that begins with a dash
 -- stands behind `--` alone.
-use Rattle.std.specs.Prelude.{ℕ, ◌==◌, nat_eq, nat_le, Bool, true, false, not, ◌&&◌, ◌||◌, List, [], ◌∷◌, drop, map, count_by, codes, Option, Some, None, is_some, unwrap_or, option_map, if◌then◌else◌}
+use Rattle.std.specs.Prelude.{◌≡◌, ℕ, ◌==◌, nat_eq, nat_le, Bool, true, false, not, ◌&&◌, ◌||◌, List, [], ◌∷◌, drop, map, count_by, codes, Option, Some, None, is_some, unwrap_or, option_map, if◌then◌else◌}
 use Rattle.std.specs.declared.string.String.{String}
 use Rattle.std.specs.List.{list_all, list_any, prefix_len, starts_with, take_while}
 use Rattle.std.specs.Str.{bytes_eq}
 use Rattle.std.specs.String.{string_bytes}
 use Rattle.program_words.specs.declared.words.Asked.{Asked}
 use Rattle.program_words.specs.declared.words.Asked.TheVariants.{Spans, Check}
-use Rattle.program_words.specs.Given.{SpansWords, CheckWords}
+use Rattle.program_words.specs.Given.{SpansWords, CheckWords, Options}
 
 -- the bytes of the words
 abbrev pub texts_of : {Z : Type 0} → List (String Z) → List (List ℕ)
@@ -76,6 +76,26 @@ are_check_options words =
 abbrev pub folder_of : List (List ℕ) → List ℕ
 folder_of [] = codes "."
 folder_of (word ∷ words) = unwrap_or (folder_in word) (folder_of words)
+
+-- what options say that are all of `check`, none of them twice
+abbrev pub AreOptions : Options → List (List ℕ) → Type 0
+AreOptions options words =
+    (are_check_options words ≡ true)
+    × (options.fromstart ≡ list_any is_fromstart words)
+    × (unwrap_or options.folder (codes ".") ≡ folder_of words)
+
+-- options with the folder that one more names
+abbrev pub with_folder : Options → Option (List ℕ) → Option Options
+with_folder options None = None
+with_folder options (Some folder) =
+    if is_some options.folder then None else Some (record options { folder = Some folder })
+
+-- options with one more, unless it is none of `check` or stands already
+abbrev pub with_option : Options → List ℕ → Option Options
+with_option options word =
+    if is_fromstart word
+    then (if options.fromstart then None else Some (record options { fromstart = true }))
+    else with_folder options (folder_in word)
 
 -- what `check` with these options and names asks
 abbrev pub check_of : List (List ℕ) → Option (List (List ℕ)) → Option CheckWords

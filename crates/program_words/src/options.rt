@@ -1,10 +1,13 @@
 //! The options of the program, which stand between its command and its names.
-ghost use Rattle.std.specs.Prelude.{◌≡◌, ◌≤◌, count_by, length, None, Some, MatchOption};
-ghost use Rattle.std.specs.List.{list_all, list_any, prefix_len};
+ghost use Rattle.std.specs.Prelude.{◌≡◌, ◌≤◌, codes, false, length, unwrap_or, None, Some, MatchOption};
+ghost use Rattle.std.specs.List.{prefix_len};
 ghost use Rattle.std.specs.String.{string_bytes};
-ghost use Rattle.program_words.specs.Words.{are_check_options, behind_options, folder_in, folder_of, is_check_option, is_folder, is_fromstart, is_option, not_empty, options_of, texts_of};
+ghost use Rattle.program_words.specs.Words.{behind_options, is_option, options_of, texts_of};
+ghost use Rattle.program_words.specs.Words.{folder_in, not_empty, with_option};
+ghost use Rattle.program_words.specs.Words.{AreOptions, are_check_options};
 
 use crate::words::{has_dash, is_dashes};
+use std::marker::Model;
 
 /// The folder where the program runs.
 const HERE: &str = ".";
@@ -36,86 +39,88 @@ fn is_option(word: &str) -> bool
     has_dash(word) && !is_dashes(word)
 }
 
-/// Whether all are options of `check`, and none stands twice.
-#[tactic(auto, using(crate::proofs::WordLaws::check_options_in))]
-pub(crate) fn are_check_options(options: &[String]) -> bool
-    ensures { result ≡ are_check_options (texts_of options.now) }
-{
-    are_options(options) && fromstart_count(options) <= 1 && folder_count(options) <= 1
+/// The options of `check`: whether sync methods other than `fromstart` are to be passed over, and the
+/// folder in which included files are looked for.
+#[derive(Drop)]
+pub(crate) struct Options<'a> {
+    fromstart: bool,
+    folder: Option<&'a str>,
 }
 
-fn are_options(options: &[String]) -> bool
-    ensures { result ≡ list_all (λ option. is_check_option (string_bytes option)) options.now }
-{
-    options
-        .iter()
-        .all(|option| is_check_option(option.as_str()))
+impl<'a> Model for Options<'a> {
+    ghost use Rattle.program_words.specs.Given as given;
+    ghost use Rattle.std.specs.Prelude.{option_map};
+
+    ghost Value = { given.Options };
+
+    ghost view = { λ o. record { fromstart = o.fromstart; folder = option_map (λ folder. folder.now) o.folder } };
 }
 
-fn fromstart_count(options: &[String]) -> usize
-    ensures { result ≡ count_by (λ option. is_fromstart (string_bytes option)) options.now }
-{
-    options
-        .iter()
-        .filter(|option| is_fromstart(option.as_str()))
-        .count()
-}
-
-fn folder_count(options: &[String]) -> usize
-    ensures { result ≡ count_by (λ option. is_folder (string_bytes option)) options.now }
-{
-    options
-        .iter()
-        .filter(|option| is_folder(option.as_str()))
-        .count()
-}
-
-/// Whether sync methods other than `fromstart` are to be passed over.
-pub(crate) fn has_fromstart(options: &[String]) -> bool
-    ensures { result ≡ list_any (λ option. is_fromstart (string_bytes option)) options.now }
-{
-    options.iter().any(|option| is_fromstart(option.as_str()))
-}
-
-/// The folder that the options name, or else the one where the program runs.
-pub(crate) fn folder(options: &[String]) -> &str
-    ensures { result.now ≡ folder_of (texts_of options.now) }
-{
-    for option in options {
-        if let Some(folder) = folder_in(option.as_str()) {
-            return folder;
+impl<'a> Options<'a> {
+    /// What the options say, if each is one of `check` and none stands twice.
+    pub(crate) fn read(words: &'a [String]) -> Option<Options<'a>>
+        ensures { MatchOption result (are_check_options (texts_of words.now) ≡ false)
+            (λ options. AreOptions options (texts_of words.now)) }
+    {
+        let mut options = Options {
+            fromstart: false,
+            folder: None,
+        };
+        for word in words {
+            options = options.with(word.as_str())?;
         }
+        Some(options)
     }
-    HERE
-}
 
-fn is_check_option(word: &str) -> bool
-    ensures { result ≡ is_check_option word.now }
-{
-    is_fromstart(word) || is_folder(word)
-}
+    /// With this option too, unless it is no option of `check` or stands already.
+    fn with(self, word: &'a str) -> Option<Options<'a>>
+        ensures { result ≡ with_option self.entry word.now }
+    {
+        if word == "--assume-fromstart" {
+            if self.fromstart {
+                return None;
+            }
+            return Some(Options {
+                fromstart: true,
+                folder: self.folder,
+            });
+        }
+        let folder = folder_in(word)?;
+        if self.folder.is_some() {
+            return None;
+        }
+        Some(Options {
+            fromstart: self.fromstart,
+            folder: Some(folder),
+        })
+    }
 
-fn is_fromstart(word: &str) -> bool
-    ensures { result ≡ is_fromstart word.now }
-{
-    word == "--assume-fromstart"
-}
+    /// Whether sync methods other than `fromstart` are to be passed over.
+    pub(crate) fn fromstart(&self) -> bool
+        ensures { result ≡ self.now.fromstart }
+    {
+        self.fromstart
+    }
 
-fn is_folder(word: &str) -> bool
-    ensures { result ≡ is_folder word.now }
-{
-    folder_in(word).is_some()
+    /// The folder that is named, or else the one where the program runs.
+    pub(crate) fn folder(&self) -> &'a str
+        ensures { result.now ≡ unwrap_or self.now.folder (codes ".") }
+    {
+        self.folder.unwrap_or(HERE)
+    }
 }
 
 /// The folder that the word names, if it is the option of a folder.
 fn folder_in(word: &str) -> Option<&str>
-    ensures { MatchOption result (folder_in word.now ≡ None) (λ folder. folder_in word.now ≡ Some folder.now) }
+    ensures { MatchOption result (folder_in word.now ≡ None)
+        (λ folder. folder_in word.now ≡ Some folder.now) }
 {
     not_empty(word.strip_prefix("--folder=")?)
 }
 
 fn not_empty(word: &str) -> Option<&str>
-    ensures { MatchOption result (not_empty word.now ≡ None) (λ text. not_empty word.now ≡ Some text.now) }
+    ensures { MatchOption result (not_empty word.now ≡ None)
+        (λ text. not_empty word.now ≡ Some text.now) }
 {
     match word.as_bytes() {
         [] => None,

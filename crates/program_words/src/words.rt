@@ -4,7 +4,7 @@ ghost use Rattle.std.specs.List.{list_all};
 ghost use Rattle.std.specs.String.{string_bytes};
 ghost use Rattle.program_words.specs.Words.{asked_of, behind_options, check_of, has_dash, is_dashes, is_full, is_name, names_in, options_of, spans_of, texts_of};
 
-use crate::options::{are_check_options, folder, has_fromstart, split_options};
+use crate::options::{Options, split_options};
 use std::marker::Model;
 
 /// What the words ask.
@@ -99,17 +99,15 @@ impl<'a> CheckWords<'a> {
     fn read(words: &'a [String]) -> Option<CheckWords<'a>>
         ensures { result ≡ check_of (options_of (texts_of words.now)) (names_in (behind_options (texts_of words.now))) }
     {
-        let (options, rest) = split_options(words);
+        let (front, rest) = split_options(words);
         let Some([syntax]) = names_in(rest) else {
             return None;
         };
-        if !are_check_options(options) {
-            return None;
-        }
+        let options = Options::read(front)?;
         Some(CheckWords {
             syntax: syntax.as_str(),
-            folder: folder(options),
-            assume_fromstart: has_fromstart(options),
+            folder: options.folder(),
+            assume_fromstart: options.fromstart(),
         })
     }
 
