@@ -38,7 +38,8 @@ fn print_place(
     at: usize,
     cause: &PatternCause,
 ) -> Result<(), AllocError>
-    ensures { OnOk result (out.new.items ≡ out.old.items ++ pattern.cause_text cause.now ++ codes " at " ++ decimal (at + 1)) }
+    ensures { OnOk result (out.new.items ≡ out.old.items ++ pattern.cause_text cause.now
+        ++ codes " at " ++ decimal (at + 1)) }
 {
     push_bytes(out, cause.to_string(alloc)?.as_bytes())?;
     push_bytes(out, b" at ")?;

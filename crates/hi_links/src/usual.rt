@@ -206,8 +206,10 @@ impl Links {
     /// The groups that exist from the start (`group-name`), with their links and styles. Where it is
     /// refused, some of these groups may have been made.
     pub fn usual(alloc: Global, groups: &mut Groups) -> Result<Links, SetError>
-        ensures links { IfOk result (λ links. links ≡ (with_all_usual (groups_and_links groups.old []) usual_groups).links) }
-        ensures names { OnOk result (groups.new ≡ (with_all_usual (groups_and_links groups.old []) usual_groups).names) }
+        ensures links { IfOk result (λ links. links
+            ≡ (with_all_usual (groups_and_links groups.old []) usual_groups).links) }
+        ensures names { OnOk result (groups.new
+            ≡ (with_all_usual (groups_and_links groups.old []) usual_groups).names) }
         ensures most { OnOk result (length groups.new ≤ 20000) }
         ensures refused { IfErr result (IsRefusedUsual usual_groups groups.new) }
         ensures some { OnErr result (HasSomeUsual usual_groups groups.old groups.new) }
@@ -221,7 +223,8 @@ impl Links {
 /// Makes these groups.
 fn add_all(rows: &[UsualRow], groups: &mut Groups, links: &mut Links) -> Result<(), SetError>
     requires none { links.old ≡ [] }
-    ensures made { OnOk result (groups_and_links groups.new links.new ≡ with_all_usual (groups_and_links groups.old []) (usual_rows rows.now)) }
+    ensures made { OnOk result (groups_and_links groups.new links.new
+        ≡ with_all_usual (groups_and_links groups.old []) (usual_rows rows.now)) }
     ensures most { OnOk result (0 < length rows.now → length groups.new ≤ 20000) }
     ensures refused { IfErr result (IsRefusedUsual (usual_rows rows.now) groups.new) }
     ensures some { OnErr result (HasSomeUsual (usual_rows rows.now) groups.old groups.new) }
@@ -235,10 +238,12 @@ fn add_all(rows: &[UsualRow], groups: &mut Groups, links: &mut Links) -> Result<
 /// Makes one of these groups.
 fn add(row: &UsualRow, groups: &mut Groups, links: &mut Links) -> Result<(), SetError>
     ensures names { OnOk result (groups.new ≡ with_group groups.old row.now.name.now) }
-    ensures links { OnOk result (links.new ≡ with_usual_links groups.new links.old (usual_group row.now)) }
+    ensures links { OnOk result (links.new
+        ≡ with_usual_links groups.new links.old (usual_group row.now)) }
     ensures most { OnOk result (length groups.new ≤ 20000) }
     ensures refused { IfErr result (IsRefusedGroup groups.new row.now.name.now) }
-    ensures some { OnErr result ((groups.new ≡ groups.old) ⊎ (groups.new ≡ with_group groups.old row.now.name.now)) }
+    ensures some { OnErr result ((groups.new ≡ groups.old)
+        ⊎ (groups.new ≡ with_group groups.old row.now.name.now)) }
 {
     let group = groups.number(row.name)?;
     match row.usual {

@@ -53,7 +53,8 @@ pub(crate) fn push_bytes(page: &mut Vec<u8>, pre: bool, bytes: &[u8]) -> Result<
 
 /// Appends so many spaces.
 pub(crate) fn push_spaces(page: &mut Vec<u8>, pre: bool, count: usize) -> Result<(), AllocError>
-    ensures { OnOk result (page.new.items ≡ page.old.items ++ line_text pre (replicate count space)) }
+    ensures { OnOk result (page.new.items ≡ page.old.items
+        ++ line_text pre (replicate count space)) }
 {
     for _space in 0..count {
         push_character(page, pre, ' ')?;

@@ -63,7 +63,8 @@ fn push_spanned(
     spans: &[Span],
 ) -> Result<(), AllocError>
     requires fit { IsFromColumn 0 (length line.now) spans.now }
-    ensures { OnOk result (page.new.items ≡ page.old.items ++ spanned_text groups.now links.now pre line.now 0 spans.now) }
+    ensures { OnOk result (page.new.items ≡ page.old.items
+        ++ spanned_text groups.now links.now pre line.now 0 spans.now) }
 {
     let mut column = 0;
     for span in spans {
@@ -85,7 +86,8 @@ fn push_span(
 ) -> Result<(), AllocError>
     requires from { span.now.first ≤ span.now.last }
     requires to { span.now.last < length line.now }
-    ensures { OnOk result (page.new.items ≡ page.old.items ++ span_text groups.now links.now pre line.now span.now) }
+    ensures { OnOk result (page.new.items ≡ page.old.items
+        ++ span_text groups.now links.now pre line.now span.now) }
 {
     page.extend_from_slice(b"<span class=\"")?;
     page.extend_from_slice(groups.name(links.final_group(span.group)).as_bytes())?;

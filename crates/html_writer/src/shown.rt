@@ -26,7 +26,8 @@ pub(crate) fn shown_groups<P: Lines + Colours>(
 
 /// Adds the final groups of a line's spans.
 fn add_shown(shown: &mut IndexSet<GroupId>, links: &Links, spans: &[Span]) -> Result<(), Memory>
-    ensures { OnOk result (shown.new.keys ≡ fold with_used shown.old.keys (final_groups links.now spans.now)) }
+    ensures { OnOk result (shown.new.keys
+        ≡ fold with_used shown.old.keys (final_groups links.now spans.now)) }
 {
     for span in spans {
         shown.insert(links.final_group(span.group))?;

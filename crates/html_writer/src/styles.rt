@@ -15,7 +15,8 @@ pub(crate) fn push_style_lines(
     links: &Links,
     shown: &[GroupId],
 ) -> Result<(), AllocError>
-    ensures { OnOk result (page.new.items ≡ page.old.items ++ flat_map (style_line groups.now links.now) shown.now) }
+    ensures { OnOk result (page.new.items ≡ page.old.items
+        ++ flat_map (style_line groups.now links.now) shown.now) }
 {
     for g in shown {
         push_style_line(page, groups, links, *g)?;

@@ -26,7 +26,8 @@ fn expand_bracketed(
     behind: &[char],
 ) -> Result<List<List<char>>, ExpandError>
     ensures words { IfOk result (λ words. bracketed stem.now behind.now ≡ Some words) }
-    ensures bad_brackets { (result ≡ Err ExpandError.BadBrackets) ↔ (bracketed stem.now behind.now ≡ None) }
+    ensures bad_brackets { (result ≡ Err ExpandError.BadBrackets)
+        ↔ (bracketed stem.now behind.now ≡ None) }
 {
     match place_of(']', behind) {
         Some(close) if !stem.is_empty() && close + 1 == behind.len() => {

@@ -27,7 +27,8 @@ pub(crate) fn put_last(
     ensures earlier { IfOk result (λ earlier. earlier ≡ last_at table.old key.items) }
     ensures put { OnOk result ((other : List ℕ) → last_at table.new other
         ≡ (if pointwise nat_eq key.items other then Some place else last_at table.old other)) }
-    ensures err { OnErr result ((other : List ℕ) → last_at table.new other ≡ last_at table.old other) }
+    ensures err { OnErr result ((other : List ℕ)
+        → last_at table.new other ≡ last_at table.old other) }
 {
     table.insert(key, place)
 }

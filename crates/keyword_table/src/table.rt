@@ -76,7 +76,8 @@ impl Keywords {
 
     /// Adds a definition: the word starts the item, where `ignore` says that case is ignored.
     pub fn add(&mut self, word: List<char>, item: ItemId, ignore: bool) -> Result<(), KeywordError>
-        ensures ok { OnOk result (self.new ≡ self.old ++ record { word = word; item = item; ignore = ignore } ∷ []) }
+        ensures ok { OnOk result (self.new ≡ self.old
+            ++ record { word = word; item = item; ignore = ignore } ∷ []) }
         ensures too_long { (result ≡ Err KeywordError.TooLongWord) ↔ (80 < length word) }
         ensures err { OnErr result (self.new ≡ self.old) }
     {

@@ -49,7 +49,8 @@ fn span_of(shown: &mut Shown, text: &str) -> Result<Span, Fault> {
 /// Whether a line and the columns of its spans have successors.
 fn are_countable(number: usize, spans: &[Span]) -> bool
     ensures number { IsTrue result → number < usize.MAX }
-    ensures columns { IsTrue result → All (λ span. (span.first < usize.MAX) × (span.last < usize.MAX)) spans.now }
+    ensures columns { IsTrue result
+        → All (λ span. (span.first < usize.MAX) × (span.last < usize.MAX)) spans.now }
 {
     number < usize::MAX
         && spans

@@ -76,7 +76,8 @@ fn print_span(
 ) -> Result<(), AllocError>
     requires number { number < usize.MAX }
     requires columns { (span.now.first < usize.MAX) × (span.now.last < usize.MAX) }
-    ensures { OnOk result (out.new.items ≡ out.old.items ++ span_text groups.now links.now number span.now) }
+    ensures { OnOk result (out.new.items ≡ out.old.items
+        ++ span_text groups.now links.now number span.now) }
 {
     push_number_from_one(out, number)?;
     push_bytes(out, b":")?;

@@ -44,7 +44,8 @@ impl ItemSet {
 
     /// Adds a live item (`:syn-define`). An item that is refused is dropped.
     pub fn add_item(&mut self, item: Item) -> Result<ItemId, SetError>
-        ensures added { OnOk result (self.new ≡ self.old ++ record { item = item; live = true } ∷ []) }
+        ensures added { OnOk result (self.new ≡ self.old
+            ++ record { item = item; live = true } ∷ []) }
         ensures number { IfOk result (λ id. id.0 ≡ length self.old) }
         ensures too_many { IsErrOf result SetError.TooManyItems ↔ (length self.old ≡ 32000) }
         ensures no_groups { ¬ (IsErrOf result SetError.TooManyGroups) }

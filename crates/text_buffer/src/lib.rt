@@ -78,7 +78,8 @@ impl Text {
     /// that isn't UTF-8 comes before a line too long, and that before a line too many.
     pub fn from_bytes(alloc: Global, bytes: &[u8]) -> Result<Text, TextError>
         ensures text { IfOk result (λ text. text_of bytes.now ≡ Ok text) }
-        ensures fault { IfErr result (λ fault. fault ≢ TextError.Memory → text_of bytes.now ≡ Err fault) }
+        ensures fault { IfErr result (λ fault. fault ≢ TextError.Memory
+            → text_of bytes.now ≡ Err fault) }
         // The line of a fault is at most the one that is one too many.
         ensures near { IfErr result (λ fault. line_of_fault fault ≤ most_lines) }
     {

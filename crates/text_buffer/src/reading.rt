@@ -14,7 +14,8 @@ pub(super) fn read_lines(alloc: Global, bytes: &[u8]) -> Result<Vec<Line>, TextE
     ensures lines { IfOk result (λ lines. text_of bytes.now ≡ Ok lines.items) }
     ensures some { IfOk result (λ lines. 0 < vec_len lines) }
     ensures few { IfOk result (λ lines. vec_len lines ≤ most_lines) }
-    ensures fault { IfErr result (λ fault. fault ≢ TextError.Memory → text_of bytes.now ≡ Err fault) }
+    ensures fault { IfErr result (λ fault. fault ≢ TextError.Memory
+        → text_of bytes.now ≡ Err fault) }
     ensures near { IfErr result (λ fault. line_of_fault fault ≤ most_lines) }
 {
     let mut lines = Vec::new(alloc);
@@ -71,7 +72,8 @@ fn read_line(alloc: Global, number: usize, bytes: &[u8]) -> Result<Line, TextErr
     ensures faultless { IfOk result (λ _. line_fault number bytes.now ≡ None) }
     ensures line { IfOk result (λ line. line ≡ chars bytes.now) }
     ensures few { IfOk result (λ _. number < most_lines) }
-    ensures fault { IfErr result (λ fault. fault ≢ TextError.Memory → line_fault number bytes.now ≡ Some fault) }
+    ensures fault { IfErr result (λ fault. fault ≢ TextError.Memory
+        → line_fault number bytes.now ≡ Some fault) }
     ensures near { IfErr result (λ fault. line_of_fault fault ≤ most_lines) }
 {
     let Ok(text) = simdutf8::compat::from_utf8(bytes) else {

@@ -61,7 +61,8 @@ fn print_fault(line: &mut Vec<u8>, fault: NamedFault) -> Result<(), AllocError>
 
 /// Appends the number of a line of the file, and what is wrong with it.
 fn print_place(line: &mut Vec<u8>, number: usize, text: &[u8]) -> Result<(), AllocError>
-    ensures { OnOk result (line.new.items ≡ line.old.items ++ codes ":" ++ decimal number ++ text.now) }
+    ensures { OnOk result (line.new.items ≡ line.old.items ++ codes ":" ++ decimal number
+        ++ text.now) }
 {
     push_bytes(line, b":")?;
     push_number(line, number)?;

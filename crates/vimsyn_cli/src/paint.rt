@@ -34,7 +34,8 @@ pub(crate) fn next_run(literal: &[char], line: &[char], from: usize) -> Option<R
 /// The first column from `from` on at which the literal stands.
 fn next_start(literal: &[char], line: &[char], from: usize) -> Option<usize>
     requires { from ≤ length line.now }
-    ensures start { MatchOption result (runs_from from (shown literal.now (drop from line.now)) ≡ [])
+    ensures start { MatchOption result (runs_from from (shown literal.now (drop from line.now))
+        ≡ [])
         (λ first. runs_from from (shown literal.now (drop from line.now))
         ≡ runs_from first (shown literal.now (drop first line.now))) }
     ensures behind { IfSome result (λ first. from ≤ first) }
@@ -56,7 +57,8 @@ fn run_end(literal: &[char], line: &[char], first: usize) -> usize
     requires stands { stands_at literal.now line.now first ≡ true }
     requires fits { first + length literal.now ≤ length line.now }
     ensures run { runs_from first (shown literal.now (drop first line.now))
-        ≡ record { first = first; last = result - 1 } ∷ runs_from result (shown literal.now (drop result line.now)) }
+        ≡ record { first = first; last = result - 1 }
+        ∷ runs_from result (shown literal.now (drop result line.now)) }
     ensures ahead { first < result }
     ensures inside { result ≤ length line.now }
 {

@@ -49,7 +49,8 @@ fn print_line(
 ) -> Result<(), AllocError>
     requires some { 0 < length literal.now }
     requires few { number < 2 ^ 32 }
-    ensures { OnOk result (out.new.items ≡ out.old.items ++ runs_text name.now number (spans_of literal.now line.now)) }
+    ensures { OnOk result (out.new.items ≡ out.old.items
+        ++ runs_text name.now number (spans_of literal.now line.now)) }
 {
     let mut column = 0;
     while let Some(run) = next_run(literal, line, column) {

@@ -39,7 +39,8 @@ pub fn run<F: Files, I: Source, O: Sink, E: Sink, L: Ledger>(
 ) -> Status
     // The rules run anew: where the files tell and nothing fails, all is as in the session.
     ensures session { IfSome (F.told files.old) (λ known.
-        ¬ Rose (F.faults files.old) (F.faults files.new) → ¬ Rose (O.faults out.old) (O.faults out.new)
+        ¬ Rose (F.faults files.old) (F.faults files.new)
+        → ¬ Rose (O.faults out.old) (O.faults out.new)
         → ¬ Rose (E.faults err.old) (E.faults err.new) → result ≢ Status.Memory
         → GivesSession (session (texts_of words.now) known)
         (O.written out.old) (O.written out.new) (E.written err.old) (E.written err.new) result) }
@@ -56,12 +57,15 @@ pub fn run<F: Files, I: Source, O: Sink, E: Sink, L: Ledger>(
 
     // Each answer and its cause.
     ensures usage { result ≡ Status.Usage → asked_of (texts_of words.now) ≡ None }
-    ensures faulty_words { asked_of (texts_of words.now) ≡ None → (result ≡ Status.Usage) ⊎ (result ≡ Status.WriteFault) }
+    ensures faulty_words { asked_of (texts_of words.now) ≡ None → (result ≡ Status.Usage)
+        ⊎ (result ≡ Status.WriteFault) }
     ensures refused { result ≡ Status.Refused → IsSomeAnd (asked_of (texts_of words.now)) (λ asked.
         TellsFault asked (E.written err.old) (E.written err.new) (F.longs files.old) (F.longs files.new) result) }
     ensures read_fault { result ≡ Status.ReadFault
-        → Rose (F.faults files.old) (F.faults files.new) ⊎ Rose (F.misses files.old) (F.misses files.new) }
-    ensures read_fault_line { result ≡ Status.ReadFault → IsSomeAnd (asked_of (texts_of words.now)) (λ asked.
+        → Rose (F.faults files.old) (F.faults files.new)
+        ⊎ Rose (F.misses files.old) (F.misses files.new) }
+    ensures read_fault_line { result ≡ Status.ReadFault
+        → IsSomeAnd (asked_of (texts_of words.now)) (λ asked.
         TellsFault asked (E.written err.old) (E.written err.new) (F.longs files.old) (F.longs files.new) result) }
     ensures read_fault_told { result ≡ Status.ReadFault → IfSome (F.told files.old) (λ known.
         (E.written err.new ≡ appended (E.written err.old) (session (texts_of words.now) known).err)
