@@ -1,5 +1,5 @@
 -- The patterns of items (Vim's help, :syn-pattern), each with its tree, or with the fault of its text.
-use Rattle.std.specs.Prelude.{ℕ, nat_eq, min, List, [], length, Option, Some, None, false, if◌then◌else◌, Result, Ok, Err, pos}
+use Rattle.std.specs.Prelude.{ℕ, nat_eq, min, List, [], ◌∷◌, ◌++◌, length, Option, Some, None, false, if◌then◌else◌, Result, Ok, Err, pos}
 use Rattle.pattern_items.specs.declared.item.PatternUse.{PatternUse}
 use Rattle.pattern_items.specs.declared.item.PatternUse.TheVariants as usage
 use Rattle.vim_pattern.specs.Tree.{PatternTree}
