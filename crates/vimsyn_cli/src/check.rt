@@ -27,7 +27,7 @@ pub(crate) fn check<F: Files>(
 {
     let options = read_options(alloc, words)?;
     match read_syntax(alloc, files, words.syntax(), &options) {
-        Ok(syntax) => Ok(print_counts(alloc, &syntax)?),
+        Ok(syntax) => Ok(print_counts(alloc, syntax)?),
         Err(error) => Err(stop_for(alloc, &error)),
     }
 }
@@ -42,8 +42,9 @@ fn read_options(alloc: Global, words: &CheckWords<'_>) -> Result<ReadOptions, Me
     })
 }
 
-fn print_counts(alloc: Global, syntax: &Syntax) -> Result<List<u8>, Memory>
-    ensures { IfOk result (λ bytes. bytes ≡ syntax_counts syntax.now) }
+/// The counts of a syntax, which isn't needed behind them.
+fn print_counts(alloc: Global, syntax: Syntax) -> Result<List<u8>, Memory>
+    ensures { IfOk result (λ bytes. bytes ≡ syntax_counts syntax) }
 {
     counts_text(
         alloc,
