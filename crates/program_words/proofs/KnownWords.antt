@@ -1,27 +1,67 @@
 -- Words, and what they ask.
-use Rattle.std.proofs.Common.{◌≡◌, true, false, [], ◌∷◌, refl}
+use Rattle.std.proofs.Common.{◌≡◌, ℕ, Bool, List, true, false, [], ◌∷◌, refl}
 use Rattle.std.specs.Prelude.{codes, Some, None}
-use Rattle.program_words.specs.declared.words.Asked.TheVariants.{Spans, Check}
-use Rattle.program_words.specs.Words.{asked_of}
+use Rattle.program_words.specs.declared.words.Asked.TheVariants.{Check, Html, Spans}
+use Rattle.program_words.specs.Given.{CheckWords, PaintWords}
+use Rattle.program_words.specs.Words.{asked_of, budget_of}
 
-two_names : asked_of (codes "spans" ∷ codes "s" ∷ codes "t" ∷ []) ≡ Some (Spans (record { syntax = codes "s"; text = codes "t" }))
+abbrev checked : List ℕ → List ℕ → Bool → CheckWords
+checked syntax folder fromstart = record { syntax = syntax; folder = folder; assume_fromstart = fromstart }
+
+abbrev painted : CheckWords → List ℕ → ℕ → PaintWords
+painted syntax text budget = record { syntax = syntax; text = text; budget = budget }
+
+abbrev plain : CheckWords
+plain = checked (codes "s") (codes ".") false
+
+two_names : asked_of (codes "spans" ∷ codes "s" ∷ codes "t" ∷ []) ≡ Some (Spans (painted plain (codes "t") 1000000))
 two_names = refl
 
 -- behind `--` each word is a name
-behind_dashes : asked_of (codes "spans" ∷ codes "--" ∷ codes "-s" ∷ codes "--" ∷ []) ≡ Some (Spans (record { syntax = codes "-s"; text = codes "--" }))
+behind_dashes : asked_of (codes "spans" ∷ codes "--" ∷ codes "-s" ∷ codes "--" ∷ []) ≡ Some (Spans (painted (checked (codes "-s") (codes ".") false) (codes "--") 1000000))
 behind_dashes = refl
 
 dashes_behind_a_name : asked_of (codes "spans" ∷ codes "s" ∷ codes "--" ∷ codes "t" ∷ []) ≡ None
 dashes_behind_a_name = refl
 
-no_options_yet : asked_of (codes "spans" ∷ codes "--assume-fromstart" ∷ codes "s" ∷ codes "t" ∷ []) ≡ None
-no_options_yet = refl
+a_budget : asked_of (codes "spans" ∷ codes "--budget=12" ∷ codes "--assume-fromstart" ∷ codes "s" ∷ codes "t" ∷ []) ≡ Some (Spans (painted (checked (codes "s") (codes ".") true) (codes "t") 12))
+a_budget = refl
 
-one_name : asked_of (codes "check" ∷ codes "s" ∷ []) ≡ Some (Check (record { syntax = codes "s"; folder = codes "."; assume_fromstart = false }))
+the_greatest_budget : budget_of (codes "1000000000") ≡ Some 1000000000
+the_greatest_budget = refl
+
+one_more : budget_of (codes "1000000001") ≡ None
+one_more = refl
+
+no_budget : budget_of (codes "0") ≡ None
+no_budget = refl
+
+a_leading_zero : budget_of (codes "01") ≡ None
+a_leading_zero = refl
+
+no_digits : budget_of [] ≡ None
+no_digits = refl
+
+no_digit : budget_of (codes "1a") ≡ None
+no_digit = refl
+
+a_budget_twice : asked_of (codes "spans" ∷ codes "--budget=1" ∷ codes "--budget=1" ∷ codes "s" ∷ codes "t" ∷ []) ≡ None
+a_budget_twice = refl
+
+numbered_spans : asked_of (codes "spans" ∷ codes "--number" ∷ codes "s" ∷ codes "t" ∷ []) ≡ None
+numbered_spans = refl
+
+a_page : asked_of (codes "html" ∷ codes "--no-pre" ∷ codes "--number" ∷ codes "s" ∷ codes "t" ∷ []) ≡ Some (Html (record { painting = painted plain (codes "t") 1000000; number = true; pre = false }))
+a_page = refl
+
+a_plain_page : asked_of (codes "html" ∷ codes "s" ∷ codes "t" ∷ []) ≡ Some (Html (record { painting = painted plain (codes "t") 1000000; number = false; pre = true }))
+a_plain_page = refl
+
+one_name : asked_of (codes "check" ∷ codes "s" ∷ []) ≡ Some (Check plain)
 one_name = refl
 
 both_options : asked_of (codes "check" ∷ codes "--folder=a" ∷ codes "--assume-fromstart" ∷ codes "--" ∷ codes "--" ∷ [])
-    ≡ Some (Check (record { syntax = codes "--"; folder = codes "a"; assume_fromstart = true }))
+    ≡ Some (Check (checked (codes "--") (codes "a") true))
 both_options = refl
 
 empty_folder : asked_of (codes "check" ∷ codes "--folder=" ∷ codes "s" ∷ []) ≡ None
@@ -39,8 +79,8 @@ no_name = refl
 empty_name : asked_of (codes "check" ∷ codes "--" ∷ [] ∷ []) ≡ None
 empty_name = refl
 
-unknown : asked_of (codes "check" ∷ codes "--budget=2" ∷ codes "s" ∷ []) ≡ None
-unknown = refl
+a_budget_of_check : asked_of (codes "check" ∷ codes "--budget=2" ∷ codes "s" ∷ []) ≡ None
+a_budget_of_check = refl
 
 one_dash : asked_of (codes "check" ∷ codes "-" ∷ codes "s" ∷ []) ≡ None
 one_dash = refl

@@ -4,9 +4,9 @@ use Rattle.std.specs.Prelude.{Option, Some, None}
 use Rattle.std.specs.declared.string.String.{String}
 use Rattle.std.specs.String.{string_bytes}
 use Rattle.std.proofs.Math.Seq.{take-length}
-use Rattle.std.specs.List.{list_all, list_any, prefix_len, drop-map, take-map}
+use Rattle.std.specs.List.{list_all, prefix_len, drop-map, take-map}
 use Rattle.std.proofs.lemmas.List.Folds.{list_all-map}
-use Rattle.program_words.specs.Words.{are_check_options, behind_options, check_of, folder_of, is_dashes, is_fromstart, is_full, is_name, is_option, names_in, options_of, texts_of}
+use Rattle.program_words.specs.Words.{behind_options, is_dashes, is_full, is_name, is_option, names_in, options_of, texts_of}
 
 prefix_len-map : {X Y : Type 0} (p : Y → Bool) (h : X → Y) (xs : List X) → prefix_len p (map h xs) ≡ prefix_len (λ x. p (h x)) xs
 prefix_len-map p h [] = refl
@@ -37,8 +37,3 @@ one_of : {X : Type 0} (xs : List X) (x : X) → 1 ≤ length xs → length xs < 
 one_of [] x some few at = absurd (omega (arith, some))
 one_of (y ∷ []) x some few at = ap (λ z. z ∷ []) (sym at)
 one_of (y ∷ z ∷ xs) x some few at = absurd (omega (arith, few))
-
--- what `check` is asked, where its options and its one name are in order
-pub checked : {Z : Type 0} (options found : List (String Z)) (given : List (List ℕ)) (names : Option (List (List ℕ))) (name : String Z) (text folder : List ℕ) (fromstart : Bool) → texts_of options ≡ given → names ≡ Some (texts_of found) → 1 ≤ length found → length found < 2 → name ≡ get_or found 0 name → text ≡ string_bytes name → are_check_options (texts_of options) ≡ true → folder ≡ folder_of (texts_of options) → fromstart ≡ list_any is_fromstart (texts_of options) → Some (record { syntax = text; folder = folder; assume_fromstart = fromstart }) ≡ check_of given names
-checked options found given names name text folder fromstart same is some few at syntax valid folder_is fromstart_is =
-    rw (is, one_of found name some few at, ← same, valid, syntax, folder_is, fromstart_is) refl

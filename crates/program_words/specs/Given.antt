@@ -1,20 +1,37 @@
 -- What words give.
-use Rattle.std.specs.Prelude.{ℕ, Bool, List, Option}
+use Rattle.std.specs.Prelude.{ℕ, Bool, List, Option, None, false}
 
--- the names of the two files of `spans`
-pub record SpansWords : Type 0 where
-  pub syntax : List ℕ
-  pub text : List ℕ
+-- what the options say, each of which stands at most once
+pub record Options : Type 0 where
+  -- sync methods other than `fromstart` are passed over
+  pub fromstart : Bool
+  -- the folder in which included files are looked for
+  pub folder : Option (List ℕ)
+  -- the most ticks of one attempt
+  pub budget : Option ℕ
+  -- lines of the page begin with their numbers
+  pub number : Bool
+  -- the page has no `<pre>` element
+  pub no_pre : Bool
 
--- what `check` is asked: the syntax file, the folder in which included files are looked for, and whether
--- sync methods other than `fromstart` are passed over
+abbrev pub no_options : Options
+no_options = record { fromstart = false; folder = None; budget = None; number = false; no_pre = false }
+
+-- the syntax file, the folder in which included files are looked for, and whether sync methods other
+-- than `fromstart` are passed over
 pub record CheckWords : Type 0 where
   pub syntax : List ℕ
   pub folder : List ℕ
   pub assume_fromstart : Bool
 
--- what the options of `check` say: whether sync methods other than `fromstart` are passed over, and the
--- folder that is named
-pub record Options : Type 0 where
-  pub fromstart : Bool
-  pub folder : Option (List ℕ)
+-- the syntax, the text file that is painted, and the most ticks of one attempt
+pub record PaintWords : Type 0 where
+  pub syntax : CheckWords
+  pub text : List ℕ
+  pub budget : ℕ
+
+-- the same, and how the page is made
+pub record PageWords : Type 0 where
+  pub painting : PaintWords
+  pub number : Bool
+  pub pre : Bool

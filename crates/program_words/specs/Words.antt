@@ -1,14 +1,14 @@
 -- The table of words. Words are a command, its options, perhaps the word `--`, and its names. An option
 -- stands at most once, and none stands behind a name. No name is empty, and one that begins with a dash
 -- stands behind `--` alone.
-use Rattle.std.specs.Prelude.{◌≡◌, ℕ, ◌==◌, nat_eq, nat_le, Bool, true, false, not, ◌&&◌, ◌||◌, List, [], ◌∷◌, drop, map, count_by, codes, Option, Some, None, is_some, unwrap_or, option_map, if◌then◌else◌}
+use Rattle.std.specs.Prelude.{ℕ, ◌+◌, ◌-◌, ◌*◌, ◌==◌, nat_eq, nat_le, Bool, true, false, not, ◌&&◌, List, [], ◌∷◌, drop, map, codes, Option, Some, None, is_none, is_some, unwrap_or, option_map, if◌then◌else◌}
 use Rattle.std.specs.declared.string.String.{String}
-use Rattle.std.specs.List.{list_all, list_any, prefix_len, starts_with, take_while}
+use Rattle.std.specs.List.{list_all, prefix_len, starts_with, take_while}
 use Rattle.std.specs.Str.{bytes_eq}
 use Rattle.std.specs.String.{string_bytes}
 use Rattle.program_words.specs.declared.words.Asked.{Asked}
-use Rattle.program_words.specs.declared.words.Asked.TheVariants.{Spans, Check}
-use Rattle.program_words.specs.Given.{SpansWords, CheckWords, Options}
+use Rattle.program_words.specs.declared.words.Asked.TheVariants.{Check, Html, Spans}
+use Rattle.program_words.specs.Given.{CheckWords, Options, PageWords, PaintWords, no_options}
 
 -- the bytes of the words
 abbrev pub texts_of : {Z : Type 0} → List (String Z) → List (List ℕ)
@@ -49,9 +49,7 @@ options_of words = take_while is_option words
 abbrev pub behind_options : List (List ℕ) → List (List ℕ)
 behind_options words = drop (prefix_len is_option words) words
 
--- the options of `check`
-abbrev pub is_fromstart : List ℕ → Bool
-is_fromstart word = bytes_eq word (codes "--assume-fromstart")
+-- ---- single options
 
 abbrev pub not_empty : List ℕ → Option (List ℕ)
 not_empty [] = None
@@ -61,59 +59,145 @@ not_empty (byte ∷ bytes) = Some (byte ∷ bytes)
 abbrev pub folder_in : List ℕ → Option (List ℕ)
 folder_in word = if starts_with nat_eq word (codes "--folder=") then not_empty (drop 9 word) else None
 
-abbrev pub is_folder : List ℕ → Bool
-is_folder word = is_some (folder_in word)
+-- the value of the budget's option, if the word is this one
+abbrev pub budget_value : List ℕ → Option (List ℕ)
+budget_value word = if starts_with nat_eq word (codes "--budget=") then Some (drop 9 word) else None
 
-abbrev pub is_check_option : List ℕ → Bool
-is_check_option word = is_fromstart word || is_folder word
+-- 0 to 9 are the bytes 48 to 57
+abbrev pub is_digit : ℕ → Bool
+is_digit byte = nat_le 48 byte && nat_le byte 57
 
--- all words are options of `check`, and none stands twice
-abbrev pub are_check_options : List (List ℕ) → Bool
-are_check_options words =
-    list_all is_check_option words && nat_le (count_by is_fromstart words) 1 && nat_le (count_by is_folder words) 1
+-- a number with one more digit behind it, none above 1,000,000,000
+abbrev pub with_digit : ℕ → ℕ → Option ℕ
+with_digit number byte =
+    if is_digit byte && nat_le (number * 10 + (byte - 48)) 1000000000
+    then Some (number * 10 + (byte - 48))
+    else None
 
--- the folder that is named in the options, or else the one where the program runs
-abbrev pub folder_of : List (List ℕ) → List ℕ
-folder_of [] = codes "."
-folder_of (word ∷ words) = unwrap_or (folder_in word) (folder_of words)
+-- the number of these digits, behind those of another one
+abbrev pub number_after : Option ℕ → List ℕ → Option ℕ
+number_after None bytes = None
+number_after (Some number) [] = Some number
+number_after (Some number) (byte ∷ bytes) = number_after (with_digit number byte) bytes
 
--- what options say that are all of `check`, none of them twice
-abbrev pub AreOptions : Options → List (List ℕ) → Type 0
-AreOptions options words =
-    (are_check_options words ≡ true)
-    × (options.fromstart ≡ list_any is_fromstart words)
-    × (unwrap_or options.folder (codes ".") ≡ folder_of words)
+abbrev pub at_least_one : Option ℕ → Option ℕ
+at_least_one None = None
+at_least_one (Some number) = if nat_le 1 number then Some number else None
 
--- options with the folder that one more names
+-- a budget: digits without a leading zero, 1 to 1,000,000,000
+abbrev pub budget_of : List ℕ → Option ℕ
+budget_of [] = None
+budget_of (byte ∷ bytes) = if byte == 48 then None else at_least_one (number_after (Some 0) (byte ∷ bytes))
+
+-- ---- all options
+
+-- options with one more, unless it stands already
+abbrev pub with_flag : Bool → Options → Option Options
+with_flag stands options = if stands then None else Some options
+
 abbrev pub with_folder : Options → Option (List ℕ) → Option Options
 with_folder options None = None
 with_folder options (Some folder) =
     if is_some options.folder then None else Some (record options { folder = Some folder })
 
--- options with one more, unless it is none of `check` or stands already
+abbrev pub with_budget : Options → Option ℕ → Option Options
+with_budget options None = None
+with_budget options (Some budget) =
+    if is_some options.budget then None else Some (record options { budget = Some budget })
+
+abbrev pub with_value : Options → List ℕ → Option (List ℕ) → Option Options
+with_value options word None = with_folder options (folder_in word)
+with_value options word (Some value) = with_budget options (budget_of value)
+
+-- options with this word, unless it is none or stands already
 abbrev pub with_option : Options → List ℕ → Option Options
 with_option options word =
-    if is_fromstart word
-    then (if options.fromstart then None else Some (record options { fromstart = true }))
-    else with_folder options (folder_in word)
+    if bytes_eq word (codes "--assume-fromstart")
+    then with_flag options.fromstart (record options { fromstart = true })
+    else if bytes_eq word (codes "--number")
+    then with_flag options.number (record options { number = true })
+    else if bytes_eq word (codes "--no-pre")
+    then with_flag options.no_pre (record options { no_pre = true })
+    else with_value options word (budget_value word)
 
--- what `check` with these options and names asks
-abbrev pub check_of : List (List ℕ) → Option (List (List ℕ)) → Option CheckWords
-check_of options (Some (syntax ∷ [])) =
-    if are_check_options options
-    then Some (record { syntax = syntax; folder = folder_of options; assume_fromstart = list_any is_fromstart options })
-    else None
-check_of options names = None
+-- options with all these words, one after the other
+abbrev pub with_options : Option Options → List (List ℕ) → Option Options
+with_options None words = None
+with_options (Some options) [] = Some options
+with_options (Some options) (word ∷ words) = with_options (with_option options word) words
 
--- what `spans` with these names asks; it has no options yet
-abbrev pub spans_of : Option (List (List ℕ)) → Option SpansWords
-spans_of (Some (syntax ∷ text ∷ [])) = Some (record { syntax = syntax; text = text })
-spans_of names = None
+-- what options say, if each is one and none stands twice
+abbrev pub options_said : List (List ℕ) → Option Options
+options_said words = with_options (Some no_options) words
+
+-- ---- commands
+
+-- those that `check` has, and those that `spans` has; `html` has them all
+abbrev pub are_for_spans : Options → Bool
+are_for_spans options = not options.number && not options.no_pre
+
+abbrev pub are_for_check : Options → Bool
+are_for_check options = are_for_spans options && is_none options.budget
+
+-- the folder is the one where the program runs unless one is named
+abbrev pub syntax_words : Options → List ℕ → CheckWords
+syntax_words options syntax = record {
+  syntax = syntax;
+  folder = unwrap_or options.folder (codes ".");
+  assume_fromstart = options.fromstart;
+}
+
+-- an attempt has 1,000,000 ticks unless others are given
+abbrev pub paint_words : Options → List ℕ → List ℕ → PaintWords
+paint_words options syntax text = record {
+  syntax = syntax_words options syntax;
+  text = text;
+  budget = unwrap_or options.budget 1000000;
+}
+
+abbrev pub page_words : Options → List ℕ → List ℕ → PageWords
+page_words options syntax text = record {
+  painting = paint_words options syntax text;
+  number = options.number;
+  pre = not options.no_pre;
+}
+
+-- exactly one name, or two
+abbrev pub one_name : Option (List (List ℕ)) → Option (List ℕ)
+one_name (Some (name ∷ [])) = Some name
+one_name names = None
+
+abbrev pub two_names : Option (List (List ℕ)) → Option (List ℕ × List ℕ)
+two_names (Some (first ∷ second ∷ [])) = Some (first, second)
+two_names names = None
+
+-- what a command with these options and names asks
+abbrev pub check_of : Option Options → Option (List ℕ) → Option CheckWords
+check_of None name = None
+check_of (Some options) None = None
+check_of (Some options) (Some syntax) =
+    if are_for_check options then Some (syntax_words options syntax) else None
+
+abbrev pub spans_of : Option Options → Option (List ℕ × List ℕ) → Option PaintWords
+spans_of None names = None
+spans_of (Some options) None = None
+spans_of (Some options) (Some names) =
+    if are_for_spans options then Some (paint_words options names.0 names.1) else None
+
+abbrev pub html_of : Option Options → Option (List ℕ × List ℕ) → Option PageWords
+html_of None names = None
+html_of (Some options) None = None
+html_of (Some options) (Some names) = Some (page_words options names.0 names.1)
 
 -- what the words ask, if they are in the table of words
+abbrev pub asked_with : List ℕ → Option Options → Option (List (List ℕ)) → Option Asked
+asked_with command options names =
+    if bytes_eq command (codes "check") then option_map Check (check_of options (one_name names))
+    else if bytes_eq command (codes "spans") then option_map Spans (spans_of options (two_names names))
+    else if bytes_eq command (codes "html") then option_map Html (html_of options (two_names names))
+    else None
+
 abbrev pub asked_of : List (List ℕ) → Option Asked
 asked_of [] = None
 asked_of (command ∷ words) =
-    if bytes_eq command (codes "spans") then option_map Spans (spans_of (names_in words))
-    else if bytes_eq command (codes "check") then option_map Check (check_of (options_of words) (names_in (behind_options words)))
-    else None
+    asked_with command (options_said (options_of words)) (names_in (behind_options words))

@@ -1,16 +1,15 @@
 //! The options of the program, which stand between its command and its names.
-ghost use Rattle.std.specs.Prelude.{◌≡◌, ◌≤◌, codes, false, length, unwrap_or, None, Some, MatchOption};
+ghost use Rattle.std.specs.Prelude.{◌≡◌, ◌≤◌, length, None, Some, true, IfSome, MatchOption};
 ghost use Rattle.std.specs.List.{prefix_len};
 ghost use Rattle.std.specs.String.{string_bytes};
-ghost use Rattle.program_words.specs.Words.{behind_options, is_option, options_of, texts_of};
-ghost use Rattle.program_words.specs.Words.{folder_in, not_empty, with_option};
-ghost use Rattle.program_words.specs.Words.{AreOptions, are_check_options};
+ghost use Rattle.program_words.specs.Given.{no_options};
+ghost use Rattle.program_words.specs.Words.{are_for_check, are_for_spans, behind_options, budget_of, budget_value, folder_in, is_option, not_empty, at_least_one, number_after, options_of, options_said, texts_of, with_budget, with_digit, with_flag, with_folder, with_option};
 
 use crate::words::{has_dash, is_dashes};
 use std::marker::Model;
 
-/// The folder where the program runs.
-const HERE: &str = ".";
+/// The most ticks that an attempt may be given.
+const MOST_BUDGET: u64 = 1_000_000_000;
 
 /// The options at the front, and the words behind them.
 #[tactic(auto, using(crate::proofs::WordLaws::options_in, crate::proofs::WordLaws::behind_in))]
@@ -39,12 +38,14 @@ fn is_option(word: &str) -> bool
     has_dash(word) && !is_dashes(word)
 }
 
-/// The options of `check`: whether sync methods other than `fromstart` are to be passed over, and the
-/// folder in which included files are looked for.
+/// What the options say.
 #[derive(Drop)]
 pub(crate) struct Options<'a> {
-    fromstart: bool,
-    folder: Option<&'a str>,
+    pub(crate) fromstart: bool,
+    pub(crate) folder: Option<&'a str>,
+    pub(crate) budget: Option<u64>,
+    pub(crate) number: bool,
+    pub(crate) no_pre: bool,
 }
 
 impl<'a> Model for Options<'a> {
@@ -53,60 +54,125 @@ impl<'a> Model for Options<'a> {
 
     ghost Value = { given.Options };
 
-    ghost view = { λ o. record { fromstart = o.fromstart; folder = option_map (λ folder. folder.now) o.folder } };
+    ghost view = { λ o. record {
+      fromstart = o.fromstart;
+      folder = option_map (λ folder. folder.now) o.folder;
+      budget = o.budget;
+      number = o.number;
+      no_pre = o.no_pre;
+    } };
+
+    ghost use Rattle.std.specs.Prelude.{◌≤◌, IfSome};
+
+    ghost invariant = { λ o. IfSome o.budget (λ budget. 1 ≤ budget) };
 }
 
 impl<'a> Options<'a> {
-    /// What the options say, if each is one of `check` and none stands twice.
-    pub(crate) fn read(words: &'a [String]) -> Option<Options<'a>>
-        ensures { MatchOption result (are_check_options (texts_of words.now) ≡ false)
-            (λ options. AreOptions options (texts_of words.now)) }
+    fn none() -> Options<'a>
+        ensures { result ≡ no_options }
     {
-        let mut options = Options {
+        Options {
             fromstart: false,
             folder: None,
-        };
+            budget: None,
+            number: false,
+            no_pre: false,
+        }
+    }
+
+    /// What the options say, if each is one and none stands twice.
+    pub(crate) fn read(words: &'a [String]) -> Option<Options<'a>>
+        ensures { result ≡ options_said (texts_of words.now) }
+    {
+        let mut options = Options::none();
         for word in words {
             options = options.with(word.as_str())?;
         }
         Some(options)
     }
 
-    /// With this option too, unless it is no option of `check` or stands already.
+    /// With this option too, unless it is none or stands already.
     fn with(self, word: &'a str) -> Option<Options<'a>>
         ensures { result ≡ with_option self.entry word.now }
     {
         if word == "--assume-fromstart" {
-            if self.fromstart {
-                return None;
-            }
-            return Some(Options {
-                fromstart: true,
-                folder: self.folder,
-            });
+            return self.with_fromstart();
         }
-        let folder = folder_in(word)?;
+        if word == "--number" {
+            return self.with_number();
+        }
+        if word == "--no-pre" {
+            return self.with_no_pre();
+        }
+        match budget_value(word) {
+            Some(value) => self.with_budget(budget_of(value)?),
+            None => self.with_folder(folder_in(word)?),
+        }
+    }
+
+    fn with_fromstart(mut self) -> Option<Options<'a>>
+        ensures { result ≡ with_flag self.entry.fromstart (record self.entry { fromstart = true }) }
+    {
+        if self.fromstart {
+            return None;
+        }
+        self.fromstart = true;
+        Some(self)
+    }
+
+    fn with_number(mut self) -> Option<Options<'a>>
+        ensures { result ≡ with_flag self.entry.number (record self.entry { number = true }) }
+    {
+        if self.number {
+            return None;
+        }
+        self.number = true;
+        Some(self)
+    }
+
+    fn with_no_pre(mut self) -> Option<Options<'a>>
+        ensures { result ≡ with_flag self.entry.no_pre (record self.entry { no_pre = true }) }
+    {
+        if self.no_pre {
+            return None;
+        }
+        self.no_pre = true;
+        Some(self)
+    }
+
+    fn with_budget(mut self, budget: u64) -> Option<Options<'a>>
+        requires { 1 ≤ budget }
+        ensures { result ≡ with_budget self.entry (Some budget) }
+    {
+        if self.budget.is_some() {
+            return None;
+        }
+        self.budget = Some(budget);
+        Some(self)
+    }
+
+    fn with_folder(mut self, folder: &'a str) -> Option<Options<'a>>
+        ensures { result ≡ with_folder self.entry (Some folder.now) }
+    {
         if self.folder.is_some() {
             return None;
         }
-        Some(Options {
-            fromstart: self.fromstart,
-            folder: Some(folder),
-        })
+        self.folder = Some(folder);
+        Some(self)
     }
 
-    /// Whether sync methods other than `fromstart` are to be passed over.
-    pub(crate) fn fromstart(&self) -> bool
-        ensures { result ≡ self.now.fromstart }
+    /// Whether `spans` has all of them.
+    pub(crate) fn are_for_spans(&self) -> bool
+        ensures { result ≡ are_for_spans self.now }
     {
-        self.fromstart
+        !self.number && !self.no_pre
     }
 
-    /// The folder that is named, or else the one where the program runs.
-    pub(crate) fn folder(&self) -> &'a str
-        ensures { result.now ≡ unwrap_or self.now.folder (codes ".") }
+    /// Whether `check` has all of them.
+    pub(crate) fn are_for_check(&self) -> bool
+        ensures { result ≡ are_for_check self.now }
     {
-        self.folder.unwrap_or(HERE)
+        self.are_for_spans() && self.budget.is_none()
     }
 }
 
@@ -125,5 +191,54 @@ fn not_empty(word: &str) -> Option<&str>
     match word.as_bytes() {
         [] => None,
         _ => Some(word),
+    }
+}
+
+/// The value of the budget's option, if the word is this one.
+fn budget_value(word: &str) -> Option<&str>
+    ensures { MatchOption result (budget_value word.now ≡ None)
+        (λ value. budget_value word.now ≡ Some value.now) }
+{
+    word.strip_prefix("--budget=")
+}
+
+/// The number of a budget: decimal digits without a leading zero, at most 1,000,000,000.
+fn budget_of(value: &str) -> Option<u64>
+    ensures is { result ≡ budget_of value.now }
+    ensures some { IfSome result (λ budget. 1 ≤ budget) }
+{
+    match value.as_bytes() {
+        [] => None,
+        [b'0', ..] => None,
+        digits => {
+            let number = number_of(digits)?;
+            if number >= 1 { Some(number) } else { None }
+        }
+    }
+}
+
+fn number_of(digits: &[u8]) -> Option<u64>
+    ensures { result ≡ number_after (Some 0) digits.now }
+{
+    let mut number: u64 = 0;
+    for byte in digits {
+        number = with_digit(number, *byte)?;
+    }
+    Some(number)
+}
+
+/// A number with one more digit behind it.
+fn with_digit(number: u64, byte: u8) -> Option<u64>
+    requires { number ≤ 1000000000 }
+    ensures { result ≡ with_digit number byte }
+{
+    if byte < b'0' || b'9' < byte {
+        return None;
+    }
+    let more = number * 10 + u64::from(byte - b'0');
+    if more <= MOST_BUDGET {
+        Some(more)
+    } else {
+        None
     }
 }

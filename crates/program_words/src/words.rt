@@ -1,36 +1,29 @@
 //! Commands and names.
-ghost use Rattle.std.specs.Prelude.{◌≡◌, None, Some, MatchOption};
+ghost use Rattle.std.specs.Prelude.{◌≡◌, ◌≤◌, None, Some, MatchOption};
 ghost use Rattle.std.specs.List.{list_all};
 ghost use Rattle.std.specs.String.{string_bytes};
-ghost use Rattle.program_words.specs.Words.{asked_of, behind_options, check_of, has_dash, is_dashes, is_full, is_name, names_in, options_of, spans_of, texts_of};
+ghost use Rattle.program_words.specs.Words.{asked_of, check_of, has_dash, html_of, is_dashes, is_full, is_name, names_in, one_name, options_said, paint_words, spans_of, syntax_words, texts_of, two_names};
+ghost use Rattle.std.specs.Prelude.{option_map};
 
 use crate::options::{Options, split_options};
 use std::marker::Model;
 
+/// The folder where the program runs.
+const HERE: &str = ".";
+
+/// The most ticks of an attempt, where the words give no other number.
+const USUAL_BUDGET: u64 = 1_000_000;
+
 /// What the words ask.
 #[derive(Drop)]
 pub enum Asked<'a> {
-    Spans(SpansWords<'a>),
     Check(CheckWords<'a>),
+    Spans(PaintWords<'a>),
+    Html(PageWords<'a>),
 }
 
-/// What `spans` is asked: the names of the syntax file and of the text file.
-#[derive(Drop)]
-pub struct SpansWords<'a> {
-    syntax: &'a str,
-    text: &'a str,
-}
-
-impl<'a> Model for SpansWords<'a> {
-    ghost use Rattle.program_words.specs.Given as given;
-
-    ghost Value = { given.SpansWords };
-
-    ghost view = { λ w. record { syntax = w.syntax.now; text = w.text.now } };
-}
-
-/// What `check` is asked: the name of the syntax file, the folder in which included files are looked
-/// for, and whether sync methods other than `fromstart` are passed over.
+/// Which syntax is read: the name of its file, the folder in which included files are looked for (`.`
+/// where the words name none), and whether sync methods other than `fromstart` are passed over.
 #[derive(Drop)]
 pub struct CheckWords<'a> {
     syntax: &'a str,
@@ -46,6 +39,44 @@ impl<'a> Model for CheckWords<'a> {
     ghost view = { λ w. record { syntax = w.syntax.now; folder = w.folder.now; assume_fromstart = w.assume_fromstart } };
 }
 
+/// What is painted: the syntax, the name of the text file, and the most ticks of one attempt, which are
+/// 1 at least.
+#[derive(Drop)]
+pub struct PaintWords<'a> {
+    syntax: CheckWords<'a>,
+    text: &'a str,
+    budget: u64,
+}
+
+impl<'a> Model for PaintWords<'a> {
+    ghost use Rattle.program_words.specs.Given as given;
+
+    ghost Value = { given.PaintWords };
+
+    ghost use Rattle.std.specs.Prelude.{◌≤◌};
+
+    ghost view = { λ w. record { syntax = w.syntax; text = w.text.now; budget = w.budget } };
+
+    ghost invariant = { λ w. 1 ≤ w.budget };
+}
+
+/// The page that is made: what is painted, whether lines begin with their numbers, and whether they
+/// stand in a `<pre>` element.
+#[derive(Drop)]
+pub struct PageWords<'a> {
+    painting: PaintWords<'a>,
+    number: bool,
+    pre: bool,
+}
+
+impl<'a> Model for PageWords<'a> {
+    ghost use Rattle.program_words.specs.Given as given;
+
+    ghost Value = { given.PageWords };
+
+    ghost view = { λ w. record { painting = w.painting; number = w.number; pre = w.pre } };
+}
+
 impl<'a> Asked<'a> {
     /// What the words ask, if they are in the table of words (this profile). `words` are those behind
     /// the program's name.
@@ -55,60 +86,42 @@ impl<'a> Asked<'a> {
         let [command, behind @ ..] = words else {
             return None;
         };
-        if command.as_str() == "spans" {
-            return Some(Asked::Spans(SpansWords::read(behind)?));
-        }
+        let (front, rest) = split_options(behind);
         if command.as_str() == "check" {
-            return Some(Asked::Check(CheckWords::read(behind)?));
+            return Some(Asked::Check(CheckWords::read(front, rest)?));
+        }
+        if command.as_str() == "spans" {
+            return Some(Asked::Spans(PaintWords::read(front, rest)?));
+        }
+        if command.as_str() == "html" {
+            return Some(Asked::Html(PageWords::read(front, rest)?));
         }
         None
     }
 }
 
-impl<'a> SpansWords<'a> {
-    /// What the words behind `spans` ask.
-    fn read(words: &'a [String]) -> Option<SpansWords<'a>>
-        ensures { result ≡ spans_of (names_in (texts_of words.now)) }
-    {
-        let Some([syntax, text]) = names_in(words) else {
-            return None;
-        };
-        Some(SpansWords {
-            syntax: syntax.as_str(),
-            text: text.as_str(),
-        })
-    }
-
-    /// The name of the syntax file. It isn't empty.
-    pub fn syntax(&self) -> &'a str
-        ensures { result.now ≡ self.now.syntax }
-    {
-        self.syntax
-    }
-
-    /// The name of the text file. It isn't empty.
-    pub fn text(&self) -> &'a str
-        ensures { result.now ≡ self.now.text }
-    {
-        self.text
-    }
-}
-
 impl<'a> CheckWords<'a> {
     /// What the words behind `check` ask.
-    fn read(words: &'a [String]) -> Option<CheckWords<'a>>
-        ensures { result ≡ check_of (options_of (texts_of words.now)) (names_in (behind_options (texts_of words.now))) }
+    fn read(front: &'a [String], rest: &'a [String]) -> Option<CheckWords<'a>>
+        ensures { result ≡ check_of (options_said (texts_of front.now)) (one_name (names_in (texts_of rest.now))) }
     {
-        let (front, rest) = split_options(words);
-        let Some([syntax]) = names_in(rest) else {
-            return None;
-        };
         let options = Options::read(front)?;
-        Some(CheckWords {
-            syntax: syntax.as_str(),
-            folder: options.folder(),
-            assume_fromstart: options.fromstart(),
-        })
+        let syntax = one_name(rest)?;
+        if !options.are_for_check() {
+            return None;
+        }
+        Some(CheckWords::of(&options, syntax))
+    }
+
+    /// The syntax of this file.
+    fn of(options: &Options<'a>, syntax: &'a str) -> CheckWords<'a>
+        ensures { result ≡ syntax_words options.now syntax.now }
+    {
+        CheckWords {
+            syntax,
+            folder: options.folder.unwrap_or(HERE),
+            assume_fromstart: options.fromstart,
+        }
     }
 
     /// The name of the syntax file. It isn't empty.
@@ -131,6 +144,111 @@ impl<'a> CheckWords<'a> {
     {
         self.assume_fromstart
     }
+}
+
+impl<'a> PaintWords<'a> {
+    /// What the words behind `spans` ask.
+    fn read(front: &'a [String], rest: &'a [String]) -> Option<PaintWords<'a>>
+        ensures { result ≡ spans_of (options_said (texts_of front.now)) (two_names (names_in (texts_of rest.now))) }
+    {
+        let options = Options::read(front)?;
+        let (syntax, text) = two_names(rest)?;
+        if !options.are_for_spans() {
+            return None;
+        }
+        Some(PaintWords::of(&options, syntax, text))
+    }
+
+    /// The painting of this text.
+    fn of(options: &Options<'a>, syntax: &'a str, text: &'a str) -> PaintWords<'a>
+        ensures { result ≡ paint_words options.now syntax.now text.now }
+    {
+        PaintWords {
+            syntax: CheckWords::of(options, syntax),
+            text,
+            budget: options.budget.unwrap_or(USUAL_BUDGET),
+        }
+    }
+
+    /// The syntax by which the text is painted.
+    pub fn syntax(&self) -> &CheckWords<'a>
+        ensures { result.now ≡ self.now.syntax }
+    {
+        &self.syntax
+    }
+
+    /// The name of the text file. It isn't empty.
+    pub fn text(&self) -> &'a str
+        ensures { result.now ≡ self.now.text }
+    {
+        self.text
+    }
+
+    /// The most ticks of one attempt.
+    pub fn budget(&self) -> u64
+        ensures is { result ≡ self.now.budget }
+        ensures some { 1 ≤ result }
+    {
+        self.budget
+    }
+}
+
+impl<'a> PageWords<'a> {
+    /// What the words behind `html` ask.
+    fn read(front: &'a [String], rest: &'a [String]) -> Option<PageWords<'a>>
+        ensures { result ≡ html_of (options_said (texts_of front.now)) (two_names (names_in (texts_of rest.now))) }
+    {
+        let options = Options::read(front)?;
+        let (syntax, text) = two_names(rest)?;
+        Some(PageWords {
+            painting: PaintWords::of(&options, syntax, text),
+            number: options.number,
+            pre: !options.no_pre,
+        })
+    }
+
+    /// What is painted.
+    pub fn painting(&self) -> &PaintWords<'a>
+        ensures { result.now ≡ self.now.painting }
+    {
+        &self.painting
+    }
+
+    /// Whether lines begin with their numbers.
+    pub fn number(&self) -> bool
+        ensures { result ≡ self.now.number }
+    {
+        self.number
+    }
+
+    /// Whether the lines stand in a `<pre>` element.
+    pub fn pre(&self) -> bool
+        ensures { result ≡ self.now.pre }
+    {
+        self.pre
+    }
+}
+
+/// The one name behind the options.
+fn one_name(words: &[String]) -> Option<&str>
+    ensures { MatchOption result (one_name (names_in (texts_of words.now)) ≡ None)
+        (λ name. one_name (names_in (texts_of words.now)) ≡ Some name.now) }
+{
+    let Some([name]) = names_in(words) else {
+        return None;
+    };
+    Some(name.as_str())
+}
+
+/// The two names behind the options.
+fn two_names(words: &[String]) -> Option<(&str, &str)>
+    ensures { MatchOption result (two_names (names_in (texts_of words.now)) ≡ None)
+        (λ names. two_names (names_in (texts_of words.now)) ≡ Some (names.0.now, names.1.now)) }
+{
+    let Some([first, second]) = names_in(words) else {
+        return None;
+    };
+    Some((first.as_str(), second.as_str()))
 }
 
 /// The names behind the options, if each word may be one.

@@ -1,7 +1,6 @@
-mod CheckLaws
 mod PaintLaws
+mod PlanLaws
 mod PrintLaws
+mod ReadingLaws
 mod RunLaws
 mod SessionLaws
-mod SpanLaws
-mod SyntaxLaws

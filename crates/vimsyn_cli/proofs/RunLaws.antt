@@ -17,7 +17,8 @@ use Rattle.vimsyn_cli.specs.declared.status.Status.TheVariants.{Done, Usage, Rea
 use Rattle.vimsyn_cli.specs.Answers.{Delivers, GivesSession, IsFaultOfAsked, IsUnreadLine, IsUntouched, SinkChange, TellsAllUnread, TellsFault, TellsUnread, Writes, WroteAll}
 use Rattle.vimsyn_cli.specs.Report.{cause_status, usage_line}
 use Rattle.vimsyn_cli.specs.Session.{asked_session, session}
-use Rattle.vimsyn_cli.specs.Stop.{RaisesItsCount, IfFault, OrUnread, Plans, is_too_long, is_unread}
+use Rattle.vimsyn_cli.specs.Plans.{RaisesItsCount, IfFault, OrUnread, is_too_long, is_unread}
+use Rattle.vimsyn_cli.proofs.PlanLaws.{Plans}
 use Rattle.vimsyn_cli.specs.Written.{Session, ends}
 
 nothing : (written : Option (List ℕ)) → written ≡ appended written []

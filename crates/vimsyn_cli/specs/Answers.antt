@@ -1,7 +1,7 @@
 -- What a run's clauses say of the bytes that the sinks got and of the status.
 use Rattle.std.specs.Prelude.{◌≡◌, ◌⊎◌, ℕ, Bool, true, false, List, Option, Result, Ok, Err}
 use Rattle.program_words.specs.declared.words.Asked.{Asked}
-use Rattle.program_words.specs.declared.words.Asked.TheVariants.{Spans, Check}
+use Rattle.program_words.specs.declared.words.Asked.TheVariants.{Check, Html, Spans}
 use Rattle.syn_base.specs.Causes.{Rose}
 use Rattle.syn_base.specs.Outside.{appended, AppendsPrefix, FileMap}
 use Rattle.vimsyn_cli.specs.declared.fault.FaultKind.TheVariants.{TooLong}
@@ -11,9 +11,9 @@ use Rattle.vimsyn_cli.specs.declared.fault.Stop.TheVariants.{Fault}
 use Rattle.vimsyn_cli.specs.declared.fault.Stop.TheVariants as stop
 use Rattle.vimsyn_cli.specs.declared.status.Status.{Status}
 use Rattle.vimsyn_cli.specs.declared.status.Status.TheVariants.{Done, Refused, Usage, ReadFault, WriteFault, Memory}
-use Rattle.vimsyn_cli.specs.Check.{IsReadFault, IsUnreadAsked}
+use Rattle.vimsyn_cli.specs.Painting.{IsPaintFault, IsUnreadPaint}
+use Rattle.vimsyn_cli.specs.Reading.{IsReadFault, IsUnreadAsked}
 use Rattle.vimsyn_cli.specs.Report.{cause_status}
-use Rattle.vimsyn_cli.specs.Spans.{IsFileFault, IsUnreadFile}
 use Rattle.vimsyn_cli.specs.Written.{Session}
 
 -- both sinks got the bytes of the session, and the status is its
@@ -31,16 +31,18 @@ is_unfailed ReadFault = false
 is_unfailed WriteFault = false
 is_unfailed Memory = false
 
--- a fault that this command tells, whatever the files say: of a file that the words name, or of reading
+-- a fault that this command tells, whatever the files say: of reading, of the text, or of its painting
 abbrev pub IsFaultOfAsked : Asked → FaultOf → Type 0
-IsFaultOfAsked (Spans names) fault = IsFileFault names fault
 IsFaultOfAsked (Check words) fault = IsReadFault fault
+IsFaultOfAsked (Spans words) fault = IsPaintFault words fault
+IsFaultOfAsked (Html words) fault = IsPaintFault words.painting fault
 
 -- the line for a file of this command that can't be read: one that the words name, or that the rules of
 -- reading ask for
 abbrev pub IsUnreadLine : Asked → FileMap → List ℕ → Type 0
-IsUnreadLine (Spans names) files line = IsUnreadFile names files line
 IsUnreadLine (Check words) files line = IsUnreadAsked words files line
+IsUnreadLine (Spans words) files line = IsUnreadPaint words files line
+IsUnreadLine (Html words) files line = IsUnreadPaint words.painting files line
 
 -- `err` got the whole line of a fault, and the answer is the status of that fault; it is of a file too
 -- long only where the count of such files rose

@@ -2,15 +2,15 @@
 pub mod Answers
 pub mod Check
 pub mod Laws
-pub mod LiteralSyntax
 pub mod Painting
+pub mod Plans
+pub mod Printing
+pub mod Reading
 pub mod Report
 pub mod Session
-pub mod SpanText
-pub mod Spans
 pub mod Statuses
 pub mod TextFault
 pub mod Written
 -- what only code and proofs cite
 pub mod FileStop
-pub mod Stop
+pub mod Refusal

@@ -1,48 +1,110 @@
--- What a literal paints in a line. It is matched at a column exactly where it stands there and no
--- match before reaches over that column. The characters of a match are shown, and the spans of the
--- line are its maximal runs of shown characters.
-use Rattle.std.specs.Prelude.{ℕ, zero, suc, ◌-◌, ◌+◌, ◌==◌, nat_eq, Bool, true, false, not, ◌&&◌, List, [], ◌∷◌, length, take, drop, map, if◌then◌else◌}
-use Rattle.std.specs.List.{list_any, starts_with, range_with_len}
-use Rattle.vimsyn_cli.specs.declared.paint.Run.{Run}
+-- The painting of a text file by a syntax file. The syntax comes first, then the text, then its painting,
+-- and the first of them that has a fault ends the run.
+use Rattle.std.specs.Prelude.{◌≡◌, ◌⊎◌, ℕ, ◌+◌, nat_lt, List, [], ◌++◌, length, codes, decimal, Option, Some, None, Result, Ok, Err, if◌then◌else◌}
+use Rattle.program_words.specs.Given.{PaintWords}
+use Rattle.syn_base.specs.declared.places.ItemId.{ItemId}
+use Rattle.syn_base.specs.declared.places.Span.{Span}
+use Rattle.syn_base.specs.Outside.{FileMap, file_named}
+use Rattle.syn_reader.specs.declared.syntax.Syntax.{Syntax}
+use Rattle.syntax_set.specs.Groups.{name_of}
+use Rattle.paint_rules.specs.Rules.{item_of}
+use Rattle.state_cache.specs.declared.refusal.EditError.{EditError}
+use Rattle.state_cache.specs.declared.refusal.EditError.TheVariants as refusal
+use Rattle.state_cache.specs.PaintedText.{PaintedText}
+use Rattle.state_cache.specs.Spans.{text_spans}
+use Rattle.text_buffer.specs.TextOfBytes.{text_of}
+use Rattle.vimsyn_cli.specs.declared.fault.Fault.{Fault}
+use Rattle.vimsyn_cli.specs.declared.fault.FaultKind.TheVariants.{Content}
+use Rattle.vimsyn_cli.specs.declared.file_fault.NamedFault.{NamedFault}
+use Rattle.vimsyn_cli.specs.declared.file_fault.NamedFault.TheVariants.{Missing, Unread, TooLong}
+use Rattle.vimsyn_cli.specs.Plans.{and_then}
+use Rattle.vimsyn_cli.specs.Reading.{IsReadFault, IsUnreadAsked, syntax_told}
+use Rattle.vimsyn_cli.specs.Report.{IsFaultOf, fault_line, fault_of}
+use Rattle.vimsyn_cli.specs.TextFault.{text_fault}
 
--- the literal stands at this column of the line
-abbrev pub stands_at : List ℕ → List ℕ → ℕ → Bool
-stands_at literal line column = starts_with nat_eq (drop column line) literal
+-- ---- the text
 
--- one of these columns is a start
-abbrev pub any_start : List Bool → Bool
-any_start columns = list_any (λ start. start) columns
+-- the most bytes of a text file, 64 MiB
+abbrev pub text_limit : ℕ
+text_limit = 67108864
 
--- for each column below this one, the nearest first, whether it is a start: the literal stands at it,
--- and none of the columns before it, as far as the literal's length less one, is a start
-abbrev pub starts_before : List ℕ → List ℕ → ℕ → List Bool
-starts_before literal line zero = []
-starts_before literal line (suc column) =
-    let before = starts_before literal line column in
-    (stands_at literal line column && not (any_start (take (length literal - 1) before))) ∷ before
+-- what is at the file of this name: its bytes, or why there are none
+abbrev pub bytes_within : ℕ → Option (List ℕ) → Result (List ℕ) NamedFault
+bytes_within limit None = Err Missing
+bytes_within limit (Some bytes) = if nat_lt limit (length bytes) then Err TooLong else Ok bytes
 
--- whether the character at this column is shown: it lies in the literal of a start
-abbrev pub is_shown : List ℕ → List ℕ → ℕ → Bool
-is_shown literal line column = any_start (take (length literal) (starts_before literal line (suc column)))
+abbrev pub file_bytes : FileMap → List ℕ → ℕ → Result (List ℕ) NamedFault
+file_bytes files name limit = bytes_within limit (file_named files name)
 
--- whether each character of the line is shown
-abbrev pub shown : List ℕ → List ℕ → List Bool
-shown literal line = map (is_shown literal line) (range_with_len 0 (length line))
+abbrev pub bytes_told : List ℕ → ℕ → FileMap → Result (List ℕ) Fault
+bytes_told name limit files = elim (file_bytes files name limit) [ Ok bytes ↦ Ok bytes | Err fault ↦ Err (fault_of name fault) ]
 
--- a run from this column on, which the first of these runs goes on if it begins at the next column
-abbrev pub joined : ℕ → List Run → List Run
-joined column [] = record { first = column; last = column } ∷ []
-joined column (run ∷ runs) =
-    if run.first == column + 1
-    then record { first = column; last = run.last } ∷ runs
-    else record { first = column; last = column } ∷ run ∷ runs
+-- the lines of a text file's bytes, or the fault of the text
+abbrev pub lines_told : List ℕ → List ℕ → Result (List (List ℕ)) Fault
+lines_told name bytes = elim (text_of bytes) [ Ok lines ↦ Ok lines | Err fault ↦ Err (fault_of name (text_fault fault)) ]
 
--- the maximal runs of shown characters, the first of which is at this column
-abbrev pub runs_from : ℕ → List Bool → List Run
-runs_from column [] = []
-runs_from column (false ∷ characters) = runs_from (column + 1) characters
-runs_from column (true ∷ characters) = joined column (runs_from (column + 1) characters)
+abbrev pub text_told : List ℕ → FileMap → Result (List (List ℕ)) Fault
+text_told name files = and_then (bytes_told name text_limit files) (lines_told name)
 
--- the spans that the literal paints in the line
-abbrev pub spans_of : List ℕ → List ℕ → List Run
-spans_of literal line = runs_from 0 (shown literal line)
+-- ---- its painting
+
+-- a line and a column, from 1
+abbrev pub place_text : ℕ → ℕ → List ℕ
+place_text line col = codes ":" ++ decimal (line + 1) ++ codes ":" ++ decimal (col + 1)
+
+-- the name of an item's group
+abbrev pub group_name : Syntax → ItemId → List ℕ
+group_name syntax item = name_of syntax.groups (item_of syntax.items item).group
+
+-- what is told of a painting that is refused, behind the name of the text; the rules of painting know no
+-- want of memory, so nothing is told of it
+abbrev pub refusal_text : Syntax → EditError → List ℕ
+refusal_text syntax (refusal.TooCostly line col item) =
+    place_text line col ++ codes ": too costly: " ++ group_name syntax item ++ codes "\n"
+refusal_text syntax (refusal.TooDeep line col) = place_text line col ++ codes ": too deep\n"
+refusal_text syntax refusal.Memory = []
+
+-- the line for a painting that is refused at a place of the text of this name
+abbrev pub refused_line : List ℕ → Syntax → EditError → List ℕ
+refused_line name syntax error = name ++ refusal_text syntax error
+
+abbrev pub refused_fault : List ℕ → Syntax → EditError → Fault
+refused_fault name syntax error = record { line = refused_line name syntax error; cause = Content }
+
+-- the spans of the lines, or the refusal of their painting
+abbrev pub with_spans : PaintWords → Syntax → List (List ℕ) → Result (List (List Span)) EditError → Result PaintedText Fault
+with_spans words syntax lines (Ok spans) =
+    Ok (record { syntax = syntax; text = lines; budget = words.budget; spans = spans })
+with_spans words syntax lines (Err error) = Err (refused_fault words.text syntax error)
+
+abbrev pub painted_told : PaintWords → Syntax → List (List ℕ) → Result PaintedText Fault
+painted_told words syntax lines = with_spans words syntax lines (text_spans syntax words.budget lines)
+
+-- the painted text, or the first fault
+abbrev pub painting_told : PaintWords → FileMap → Result PaintedText Fault
+painting_told words files =
+    and_then (syntax_told words.syntax files) (λ syntax.
+    and_then (text_told words.text files) (painted_told words syntax))
+
+-- ---- faults, whatever the files say
+
+-- a fault of the painting of some text
+pub record IsRefusedPainting (name : List ℕ) (fault : Fault) : Type 0 where
+  pub syntax : Syntax
+  pub refusal : EditError
+  pub told : fault ≡ refused_fault name syntax refusal
+
+-- a fault that the painting of a file can have: of reading the syntax, of the text, or of the painting
+abbrev pub IsPaintFault : PaintWords → Fault → Type 0
+IsPaintFault words fault = IsReadFault fault ⊎ IsFaultOf words.text fault ⊎ IsRefusedPainting words.text fault
+
+-- the text's file is asked for: there is a syntax
+pub record AsksForText (words : PaintWords) (files : FileMap) : Type 0 where
+  pub syntax : Syntax
+  pub accepted : syntax_told words.syntax files ≡ Ok syntax
+
+-- the line for a file that is asked for and can't be read
+abbrev pub IsUnreadPaint : PaintWords → FileMap → List ℕ → Type 0
+IsUnreadPaint words files line =
+    IsUnreadAsked words.syntax files line
+    ⊎ (AsksForText words files × (line ≡ fault_line words.text Unread))

@@ -6,7 +6,7 @@ use Rattle.vimsyn_cli.specs.declared.fault.FaultKind.{FaultKind}
 use Rattle.vimsyn_cli.specs.declared.fault.FaultKind.TheVariants as cause
 use Rattle.vimsyn_cli.specs.declared.fault.Fault.{Fault}
 use Rattle.vimsyn_cli.specs.declared.file_fault.NamedFault.{NamedFault}
-use Rattle.vimsyn_cli.specs.declared.file_fault.NamedFault.TheVariants.{Missing, Unread, TooLong, NotBuilt, BadUtf8, LineTooLong, TooManyLines}
+use Rattle.vimsyn_cli.specs.declared.file_fault.NamedFault.TheVariants.{Missing, Unread, TooLong, BadUtf8, LineTooLong, TooManyLines}
 
 -- the line for words that aren't in the table
 abbrev pub usage_line : List ℕ
@@ -24,7 +24,6 @@ abbrev pub fault_text : NamedFault → List ℕ
 fault_text Missing = codes ": no such file\n"
 fault_text Unread = codes ": read failed\n"
 fault_text TooLong = codes ": file too long\n"
-fault_text NotBuilt = codes ": not built yet\n"
 fault_text (BadUtf8 number) = codes ":" ++ decimal number ++ codes ": bad utf-8\n"
 fault_text (LineTooLong number) = codes ":" ++ decimal number ++ codes ": line too long\n"
 fault_text TooManyLines = codes ": too many lines\n"
@@ -37,7 +36,6 @@ abbrev pub cause_of : NamedFault → FaultKind
 cause_of Missing = cause.Missing
 cause_of Unread = cause.Unread
 cause_of TooLong = cause.TooLong
-cause_of NotBuilt = cause.Content
 cause_of (BadUtf8 number) = cause.Content
 cause_of (LineTooLong number) = cause.Content
 cause_of TooManyLines = cause.Content

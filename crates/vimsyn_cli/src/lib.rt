@@ -1,21 +1,23 @@
 //! The run of the program, as one call over files, a script and two sinks.
 //!
-//! What a run is to write, and its status, are a function of its words and files: the session, which
-//! reads the syntax and paints the whole text anew. `run` is proved against it, and says the cause of
-//! each of its answers. A command comes to the bytes that it prints, or to the line of a fault and its
-//! cause; one call delivers either.
+//! What a run is to write, and its status, are a function of its words and files: the session,
+//! which reads the syntax and paints the whole text anew. `run` is proved against it, and says the
+//! cause of each of its answers. A command comes to the bytes that it prints, or to the line of a
+//! fault and its cause; one call delivers either.
 #![tactic(auto)]
 
 mod check;
 mod fault;
 mod file_fault;
+mod html;
 pub mod laws;
-mod literal_syntax;
-mod paint;
 mod painting;
-mod print;
+mod reading;
+mod refusal;
 mod session;
+mod spans;
 mod status;
+mod text_file;
 
 pub use session::run;
 pub use status::Status;

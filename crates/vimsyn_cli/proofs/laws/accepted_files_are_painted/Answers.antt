@@ -1,5 +1,8 @@
-use Rattle.vimsyn_cli.proofs.SessionLaws.{accepted_painted}
+use Rattle.vimsyn_cli.proofs.SessionLaws.{accepted_pages, accepted_painted}
 use Rattle.vimsyn_cli.proofs.laws.accepted_files_are_painted.Goals as goal
 
-pub returns : goal.returns
-returns c = accepted_painted
+pub returns-clause-spans : goal.returns-clause-spans
+returns-clause-spans c = accepted_painted
+
+pub returns-clause-page : goal.returns-clause-page
+returns-clause-page c = accepted_pages

@@ -1,0 +1,12 @@
+pub mod FoundLaws
+pub mod ListLaws
+pub mod MatchLaws
+pub mod OwnLaws
+pub mod PickLaws
+pub mod QuietLaws
+pub mod QuietPlaceLaws
+pub mod ScreenLaws
+pub mod StackLaws
+pub mod TableLaws
+pub mod ToldLaws
+pub mod WordLaws

@@ -1,0 +1,15 @@
+-- Lists that are read from their end.
+use Rattle.std.proofs.Common.{◌≡◌, ◌∙◌, ap, arith, ℕ, zero, suc, ◌+◌, ◌<◌, ◌≤◌, List, [], ◌∷◌, length, take, reverse, get_or}
+use Rattle.std.specs.Prelude.{Some, slice_get}
+use Rattle.std.proofs.lemmas.List.{take_more, reverse-append}
+
+pub read : {A : Type 0} (xs : List A) (i : ℕ) (x d : A) → Some x ≡ slice_get xs i → get_or xs i d ≡ x
+read [] i x d e = absurd (cc)
+read (y ∷ ys) zero x d e = cc
+read (y ∷ ys) (suc i) x d e = read ys i x d e
+
+pub last_first : {A : Type 0} (xs : List A) (n m : ℕ) (x : A) → n ≡ suc m → n ≤ length xs → Some x ≡ slice_get xs m → reverse (take n xs) ≡ x ∷ reverse (take m xs)
+last_first {A = A} xs n m x h g e =
+    let f : n ≡ m + 1 = omega arith in
+    let less : m < length xs = omega arith in
+    ap (λ k. reverse (take k xs)) f ∙ (ap reverse (take_more xs m x less) ∙ (reverse-append (take m xs) (get_or xs m x ∷ []) ∙ ap (λ y. y ∷ reverse (take m xs)) (read xs m x x e)))

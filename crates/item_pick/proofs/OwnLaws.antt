@@ -1,0 +1,44 @@
+-- What the matcher answers of the patterns of items.
+use Rattle.std.proofs.Common.{◌≡◌, sym, subst, arith, ℕ, ◌+◌, ◌<◌, List, length}
+use Rattle.std.specs.Prelude.{Some, Result, Ok, Err, IfOk, slice_get}
+use Rattle.std.specs.List.{All}
+use Rattle.std.proofs.lemmas.Option.{get_or_from_slice_get, slice_get_within}
+use Rattle.syn_base.specs.declared.places.ItemId.{ItemId}
+use Rattle.syn_base.specs.declared.places.Place.{Place}
+use Rattle.syn_base.specs.declared.want_of_memory.Memory.{Memory}
+use Rattle.vim_pattern.specs.Tree.{PatternTree}
+use Rattle.match_rules.specs.Ways.{Text}
+use Rattle.pattern_match.specs.OnText.{IsToldOn}
+use Rattle.pattern_match.specs.declared.answer.Attempt.{Attempt}
+use Rattle.pattern_match.specs.declared.answer.Attempt.TheVariants.{Found, Absent, TooCostly}
+use Rattle.syntax_set.specs.Soundness.{AreKindAdded, AreSound, IsAdded}
+use Rattle.syntax_set.specs.declared.added_item.AddedItem.{AddedItem}
+use Rattle.syntax_set.specs.declared.item.ItemKind.{ItemKind}
+use Rattle.syntax_set.specs.declared.item.ItemKind.TheVariants.{Keyword, Match, Region}
+use Rattle.syntax_set.specs.declared.item.Pattern.{Pattern}
+use Rattle.paint_rules.specs.Rules.{item_of, no_added}
+use Rattle.item_pick.specs.Attempts.{EndsBelow}
+use Rattle.item_pick.specs.Standing.{IsPatternOf}
+
+at_of_all : {A : Type 0} (P : A → Type 0) (xs : List A) (n : ℕ) (x : A) → All P xs → Some x ≡ slice_get xs n → P x
+at_of_all P xs n x all e = subst P (get_or_from_slice_get xs n x x (sym e)) (all n x (slice_get_within xs n x (sym e)))
+
+own_of : (trees : List PatternTree) (kind : ItemKind) (pattern : Pattern) → AreKindAdded trees kind → IsPatternOf kind pattern → IsAdded trees pattern
+own_of trees Keyword pattern added own = absurd own
+own_of trees (Match p) pattern added own = subst (IsAdded trees) own added
+own_of trees (Region starts skip ends) pattern added own = at_of_all (IsAdded trees) starts own.0 pattern added.starts_added own.1
+
+-- a pattern by which an item starts was added
+pub own_added : (items : List AddedItem) (trees : List PatternTree) (i : ItemId) (pattern : Pattern) → AreSound items trees →
+    i.0 < length items → IsPatternOf (item_of items i).kind pattern → IsAdded trees pattern
+own_added items trees i pattern sound item own = own_of trees (item_of items i).kind pattern (sound i.0 no_added item) own
+
+below_by : (text : Text) (start : Place) (a : Attempt) → IsToldOn text start a → EndsBelow a (length text + 1)
+below_by text start (Found m k) h = omega (arith, h.0.whole.ends.line)
+below_by text start (Absent k) h = tt
+below_by text start TooCostly h = tt
+
+-- a match ends in the text
+pub told_below : (text : Text) (start : Place) (told : Result Attempt Memory) → IfOk told (IsToldOn text start) → IfOk told (λ a. EndsBelow a (length text + 1))
+told_below text start (Ok a) h = below_by text start a h
+told_below text start (Err memory) h = tt

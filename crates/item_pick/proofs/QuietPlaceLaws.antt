@@ -1,0 +1,90 @@
+-- Places at which nothing starts.
+use Rattle.std.proofs.Common.{◌≡◌, ◌∙◌, refl, ap, arith, ℕ, inl, Bool, false, List, [], ◌∷◌, length}
+use Rattle.std.specs.Prelude.{Option, Some, None, ℤ, pos, option_map, take, drop, ◌-◌}
+use Rattle.std.specs.List.{find, list_any}
+use Rattle.std.proofs.lemmas.Int.{ints}
+use Rattle.syn_base.specs.declared.places.Place.{Place}
+use Rattle.syn_base.specs.declared.places.ItemId.{ItemId}
+use Rattle.syn_base.specs.Looked.{one_line, lesser, greater}
+use Rattle.match_rules.specs.Ways.{Text, line_at}
+use Rattle.keyword_table.specs.Candidates.{candidates}
+use Rattle.keyword_table.specs.Words.{begins_word, word_end}
+use Rattle.paint_rules.specs.Frames.{Frame}
+use Rattle.paint_rules.specs.Painted.{Done, looked_first, done}
+use Rattle.paint_rules.specs.Rules.{Rules, place_at, same_item}
+use Rattle.paint_rules.specs.Pick.{Nothing, is_allowed, keyword_at, keyword_to, or_nothing, picked}
+use Rattle.paint_rules.proofs.PaintedLaws.{goes_on}
+use Rattle.item_pick.specs.declared.choice.Choice.{Choice}
+use Rattle.item_pick.specs.declared.choice.Choice.TheVariants.{NoItem}
+use Rattle.item_pick.specs.Quiet.{IsNextItem, item_numbered}
+use Rattle.item_pick.specs.QuietPlaces.{IsQuietAt}
+use Rattle.item_pick.specs.Screens.{HoldsLine}
+use Rattle.item_pick.specs.Started.{admits, here_at, is_free, start_if_free}
+use Rattle.item_pick.specs.Tables.{IsNextIn, IsNumberAt, passes}
+use Rattle.item_pick.proofs.FoundLaws.{items_skip}
+use Rattle.item_pick.proofs.PickLaws.{allowed_as, among, no_word}
+use Rattle.item_pick.proofs.QuietLaws.{IsLaw, earlier}
+use Rattle.item_pick.proofs.TableLaws.{next_items, not_free}
+
+same_least : (a : ℤ) → lesser a a ≡ a
+same_least a = grind (arith, ints)
+
+same_greatest : (a : ℤ) → greater a a ≡ a
+same_greatest a = grind (arith, ints)
+
+holds_itself : (l : ℕ) → HoldsLine (one_line (pos l)) l
+holds_itself l = λ i. record { low = same_least (pos l) i; high = same_greatest (pos l) i }
+
+no_end : (line : List ℕ) (c : ℕ) (set : List ℕ) → begins_word set line c ≡ false → word_end line c set ≡ None
+unfolding word_end
+no_end line c set e = rw e refl
+
+-- where no word begins there is no keyword
+no_keyword : (r : Rules) (test : ItemId → Bool) (line : List ℕ) (c : ℕ) → begins_word r.sets.keyword line c ≡ false → keyword_at r test line c ≡ None
+no_keyword r test line c e = ap (keyword_to r test line c) (no_end line c r.sets.keyword e)
+
+find_none : (test : ItemId → Bool) → ((i : ItemId) → test i ≡ false) → (xs : List ItemId) → find test xs ≡ None
+find_none test none [] = refl
+find_none test none (x ∷ xs) = rw (none x) (find_none test none xs)
+
+-- where nothing is admitted there is none either
+none_admitted : (r : Rules) (test : ItemId → Bool) → ((i : ItemId) → test i ≡ false) → (line : List ℕ) (c : ℕ) (end : Option ℕ) → keyword_to r test line c end ≡ None
+none_admitted r test none line c None = refl
+none_admitted r test none line c (Some end) = ap (option_map (λ (i : ItemId). record { item = i; end = end })) (find_none test none (candidates r.keywords (take (end - c) (drop c line))))
+
+module _ (r : Rules) (t : Text) (p : Place) (choice : Choice) (cost : ℕ) (law : IsLaw r (passes r.sets r.budget) (λ _. cost)) where
+  -- without a keyword, where all items may be passed over
+  quiet_by : (floor : ℕ) → keyword_at r (is_free r [] choice) (line_at t p.line) p.col ≡ None →
+      IsNextItem (passes r.sets r.budget) (λ _. cost) r [] choice (line_at t p.line) p.col floor (length r.items) 0 →
+      looked_first (Some (one_line (pos p.line))) (among r t p floor [] choice) ≡ Done None (Some (one_line (pos p.line)))
+  quiet_by floor word next =
+      let k = one_line (pos p.line) in
+      let e = earlier r t p floor (passes r.sets r.budget) (λ _. cost) law [] choice (line_at t p.line) refl (length r.items) 0 next in
+      ap (looked_first (Some k)) (no_word r t p floor [] choice word)
+      ∙ items_skip (start_if_free r t p floor [] choice) k (length r.items) 0 (length r.items) (omega arith) (e.idle k (holds_itself p.line))
+
+never_free : (r : Rules) (i : ItemId) → is_free r [] NoItem i ≡ false
+never_free r i = not_free (list_any (same_item i) []) false refl
+
+-- nothing starts where nothing is allowed
+pub none_starts : (r : Rules) (t : Text) (p : Place) (cost : ℕ) → IsLaw r (passes r.sets r.budget) (λ _. cost) → IsQuietAt r t NoItem p
+none_starts r t p cost law floor =
+    quiet_by r t p NoItem cost law floor (none_admitted r (is_free r [] NoItem) (never_free r) (line_at t p.line) p.col (word_end (line_at t p.line) p.col r.sets.keyword))
+    (omega arith, λ j a b. inl (never_free r (item_numbered j)))
+
+-- nothing starts where no word begins and the row is empty
+pub row_empty : (r : Rules) (t : Text) (p : Place) (choice : Choice) (number : ℕ) → IsLaw r (passes r.sets r.budget) (λ _. r.budget) →
+    begins_word r.sets.keyword (line_at t p.line) p.col ≡ false → IsNumberAt r (line_at t p.line) p.col number → IsNextIn r choice number (length r.items) 0 → IsQuietAt r t choice p
+row_empty r t p choice number law word key next floor =
+    quiet_by r t p choice r.budget law floor (no_keyword r (is_free r [] choice) (line_at t p.line) p.col word)
+    (next_items r (line_at t p.line) p.col number floor [] choice (length r.items) 0 key next)
+
+-- so nothing is picked
+pub nothing_picked : (r : Rules) (t : Text) (at : Place) (c : ℕ) (stack : List Frame) (choice : Choice) →
+    ((i : ItemId) → is_allowed r stack i ≡ admits r choice i) → IsQuietAt r t choice (place_at at.line c) → (floor : ℕ) (over : Bool) →
+    looked_first (Some (one_line (pos at.line))) (picked (here_at r t at) c (record { stack = stack; waiting = None; floor = floor; tried = []; is_over = over })) ≡ Done Nothing (Some (one_line (pos at.line)))
+nothing_picked r t at c stack choice same quiet floor over =
+    let k = one_line (pos at.line) in
+    let p = place_at at.line c in
+    ap (looked_first (Some k)) (allowed_as r t p floor [] choice stack same)
+    ∙ goes_on k k (among r t p floor [] choice) None (λ found. done (or_nothing found)) (quiet floor)

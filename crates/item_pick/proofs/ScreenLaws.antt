@@ -1,0 +1,80 @@
+-- Where the screen fails, an attempt tells nothing that isn't known.
+use Rattle.std.proofs.Common.{◌≡◌, ◌∙◌, refl, sym, ap, subst, arith, ℕ, ◌<◌, ◌≤◌, Bool, true, false, List, length}
+use Rattle.std.specs.Prelude.{Some, None, ℤ, pos, int_lt, cond, nat_lt}
+use Rattle.std.proofs.lemmas.Int.{ints}
+use Rattle.std.proofs.lemmas.Bool.Decides.{nat_tests}
+use Rattle.syn_base.specs.declared.looked.Looked.{Looked}
+use Rattle.syn_base.specs.declared.places.Place.{Place}
+use Rattle.syn_base.specs.Looked.{hull_of, one_line}
+use Rattle.match_rules.specs.Ways.{Text}
+use Rattle.match_rules.specs.Ways.{line_at}
+use Rattle.syn_base.specs.declared.places.ItemId.{ItemId}
+use Rattle.syntax_set.specs.declared.item.Pattern.{Pattern}
+use Rattle.paint_rules.specs.Painted.{Painted, Done, Refused, looked_first}
+use Rattle.paint_rules.specs.Rules.{Rules, Attempt, item_of, no_externals, place_at, within_budget}
+use Rattle.paint_rules.specs.ItemMatch.{match_from}
+use Rattle.item_pick.specs.Attempts.{IsFutile}
+use Rattle.item_pick.specs.Columns.{may_start_at}
+use Rattle.item_pick.specs.Screens.{HoldsLine, IsIdle, IsLater}
+use Rattle.paint_rules.proofs.PaintedLaws.{hull_assoc}
+use Rattle.item_pick.proofs.MatchLaws.{match_absent, no_start}
+
+min_comm : (a b : ℤ) → cond (int_lt b a) b a ≡ cond (int_lt a b) a b
+min_comm a b = grind (arith, ints)
+
+max_comm : (a b : ℤ) → cond (int_lt a b) b a ≡ cond (int_lt b a) a b
+max_comm a b = grind (arith, ints)
+
+hull_comm : (a b : Looked) → hull_of a b ≡ hull_of b a
+hull_comm a b = λ i. record { low = min_comm a.low b.low i; high = max_comm a.high b.high i }
+
+-- lines looked at stay among those looked at
+wider : (j n : Looked) (l : ℕ) → HoldsLine j l → HoldsLine (hull_of j n) l
+wider j n l h =
+    hull_assoc j n (one_line (pos l))
+    ∙ (ap (hull_of j) (hull_comm n (one_line (pos l)))
+    ∙ (sym (hull_assoc j (one_line (pos l)) n) ∙ ap (λ (k : Looked). hull_of k n) h))
+
+abbrev looked_then : {E A : Type 0} → Looked → Painted E A → Looked
+looked_then j (Done a None) = j
+looked_then j (Done a (Some k)) = k
+looked_then j (Refused c k) = j
+
+held_by : {E A : Type 0} (j : Looked) (l : ℕ) (p : Painted E A) → HoldsLine j l → HoldsLine (looked_then j (looked_first (Some j) p)) l
+held_by j l (Done a None) h = h
+held_by j l (Done a (Some n)) h = wider j n l h
+held_by j l (Refused c k) h = h
+
+pub still_held : {E A : Type 0} (j k : Looked) (l : ℕ) (p : Painted E A) (a : A) → HoldsLine j l → looked_first (Some j) p ≡ Done a (Some k) → HoldsLine k l
+still_held {E = E} {A = A} j k l p a h e =
+    subst (λ (q : Painted E A). HoldsLine (looked_then j q) l) e (held_by j l p h)
+
+module _ (budget cost : ℕ) (i : ItemId) (a : Attempt) (k : Looked) (l : ℕ) where
+  futile_told : HoldsLine k l → IsFutile a cost l → cost ≤ budget → looked_first (Some k) (within_budget i budget a) ≡ Done None (Some k)
+  futile_told held futile enough =
+      let e : nat_lt budget a.cost ≡ false = grind (arith, nat_tests, futile.1, enough) in
+      rw (within_budget, e, futile.0, futile.2) (ap (λ (x : Looked). Done None (Some x)) held)
+
+module _ (r : Rules) (t : Text) (i : ItemId) (pattern : Pattern) (p : Place) (c cost : ℕ) (k : Looked) (held : HoldsLine k p.line)
+    (futile : IsFutile (r.attempt t pattern.tree (item_of r.items i).ignore no_externals (place_at p.line c)) cost p.line) (enough : cost ≤ r.budget) where
+  by_start : (b : Bool) → b ≡ may_start_at pattern (length (line_at t p.line)) p.col c → IsIdle (match_from r t i pattern p) k c
+  by_start false e = ap (looked_first (Some k)) (no_start r t i pattern p c (sym e))
+  by_start true e =
+      match_absent r t i pattern p c k k (sym e) (futile_told r.budget cost i (r.attempt t pattern.tree (item_of r.items i).ignore no_externals (place_at p.line c)) k p.line held futile enough)
+
+  pub futile_idle : IsIdle (match_from r t i pattern p) k c
+  futile_idle = by_start (may_start_at pattern (length (line_at t p.line)) p.col c) refl
+
+-- the columns up to the next one where the screen passes are idle
+module _ (r : Rules) (t : Text) (i : ItemId) (pattern : Pattern) (p : Place) (screen : Bool → List ℕ → ℕ → Bool) (cost : ℕ)
+    (law : (t : Text) (ignore : Bool) (l c : ℕ) → c ≤ length (line_at t l) → screen ignore (line_at t l) c ≡ false → IsFutile (r.attempt t pattern.tree ignore no_externals (place_at l c)) cost l)
+    (enough : cost ≤ r.budget) (line : List ℕ) (is_line : line ≡ line_at t p.line) where
+  fails_here : (c : ℕ) → screen (item_of r.items i).ignore line c ≡ false → screen (item_of r.items i).ignore (line_at t p.line) c ≡ false
+  fails_here c e = (λ x. screen (item_of r.items i).ignore (sym is_line x) c) ∙ e
+
+  pub later : (col next : ℕ) → col ≤ next → ((c : ℕ) → col ≤ c → c < next → c ≤ length line → screen (item_of r.items i).ignore line c ≡ false) → IsLater r t i pattern p col next
+  later col next ahead fails = record {
+    ahead = ahead;
+    idle = λ k held c a b h. futile_idle r t i pattern p c cost k held
+        (law t (item_of r.items i).ignore p.line c h (fails_here c (fails c a b (omega (arith, h, ap length is_line))))) enough;
+  }

@@ -1,0 +1,10 @@
+use Rattle.std.proofs.Common.{◌≡◌, ◌<◌, ℕ, true}
+use Rattle.std.specs.Prelude.{Some, slice_get}
+use Rattle.syntax_set.specs.declared.item.Pattern.{Pattern}
+use Rattle.item_pick.specs.Tables.{is_vain}
+use Rattle.item_pick.proofs.asked.Asked.are_vain.Given as goal
+
+-- the patterns before are vain
+abbrev pub invariant-loop-pattern : goal.invariant-loop-pattern
+invariant-loop-pattern l =
+    (n : ℕ) → n < l.pattern-index → (p : Pattern) → Some p ≡ slice_get l.patterns n → is_vain l.self.parts.now.sets.now l.self.budget l.ignore l.number p ≡ true

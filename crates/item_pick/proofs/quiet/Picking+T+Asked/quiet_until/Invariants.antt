@@ -1,0 +1,18 @@
+use Rattle.std.proofs.Common.{◌≤◌, ◌<◌, ℕ}
+use Rattle.match_rules.specs.Ways.{line_at}
+use Rattle.paint_rules.specs.Rules.{place_at}
+use Rattle.item_pick.specs.PartsSeen.{rules_in}
+use Rattle.item_pick.specs.QuietPlaces.{IsQuietAt}
+use Rattle.item_pick.specs.Tables.{MemoryStands}
+use Rattle.item_pick.proofs.quiet.Picking+T+Asked.quiet_until.Given as goal
+
+-- the columns before are quiet
+abbrev pub invariant-loop-col : goal.invariant-loop-col
+invariant-loop-col g l =
+    let r = rules_in l.self.syntax.now.parts.now l.self.syntax.now.budget in
+    let t = g.T.Lines.lines l.self.lines.now in
+    record {
+      from : l.self.at.col ≤ l.col;
+      quiet : (c : ℕ) → l.self.at.col ≤ c → c < l.col → IsQuietAt r t l.choice (place_at l.self.at.line c);
+      memory : MemoryStands r (line_at t l.self.at.line) l.memory;
+    }

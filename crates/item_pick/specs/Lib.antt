@@ -1,0 +1,17 @@
+-- what a reader must believe: a syntax by its parts, and what is picked
+pub mod PartsSeen
+pub mod Starts
+pub mod Picks
+pub mod QuietUntil
+-- what the code and proofs alone cite
+pub mod Attempts
+pub mod Columns
+pub mod Screens
+pub mod Standing
+pub mod Started
+pub mod Told
+pub mod Tables
+pub mod Screened
+pub mod Quiet
+pub mod QuietPlaces
+pub mod Valid

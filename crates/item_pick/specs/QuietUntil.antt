@@ -1,0 +1,24 @@
+-- Columns at which nothing starts.
+use Rattle.std.specs.Prelude.{◌≡◌, ◌<◌, ◌≤◌, ℕ, Bool, List, [], length, pos, Some, None}
+use Rattle.syn_base.specs.declared.places.Place.{Place}
+use Rattle.syn_base.specs.Looked.{one_line}
+use Rattle.match_rules.specs.Ways.{Text, line_at}
+use Rattle.paint_rules.specs.Frames.{Frame}
+use Rattle.paint_rules.specs.Painted.{Done, looked_first}
+use Rattle.paint_rules.specs.Pick.{Nothing, picked}
+use Rattle.paint_rules.specs.Rules.{Rules}
+use Rattle.item_pick.specs.Started.{here_at}
+
+-- up to, and without, a column nothing starts on a stack, and no other line is looked at: with nothing
+-- that waits, and nothing that has started at the column before
+pub record IsQuietUntil (r : Rules) (t : Text) (at : Place) (stack : List Frame) (end : ℕ) : Type 0 where
+  pub from : at.col ≤ end
+  pub within : end ≤ length (line_at t at.line)
+  pub quiet : (c : ℕ) → at.col ≤ c → c < end → (floor : ℕ) (over : Bool) →
+      looked_first (Some (one_line (pos at.line))) (picked (here_at r t at) c (record {
+        stack = stack;
+        waiting = None;
+        floor = floor;
+        tried = [];
+        is_over = over;
+      })) ≡ Done Nothing (Some (one_line (pos at.line)))

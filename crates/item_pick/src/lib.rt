@@ -1,0 +1,31 @@
+//! What starts at a place: a keyword, a match or a region.
+//!
+//! Each step is handed the lines looked at so far and adds its own, and stops at the first attempt
+//! that costs too much. So a step's contract is one equation: what the rule says after these looks.
+#![tactic(auto)]
+
+mod allowed;
+mod answer;
+mod asked;
+mod asking;
+mod choice;
+mod columns;
+mod memo;
+mod memory;
+mod misses;
+mod parts;
+mod picking;
+mod quiet;
+mod starting;
+mod starts;
+mod stop;
+mod syntax;
+mod tables;
+mod tries;
+mod words;
+
+pub use asking::{pick, pick_with};
+pub use memory::PickMemory;
+pub use parts::Parts;
+pub use quiet::quiet_until;
+pub use starting::{Picked, Starting};

@@ -1,0 +1,188 @@
+//! Columns at which nothing starts, by what stands there.
+ghost use Rattle.std.specs.Prelude.{◌≡◌, ◌<◌, ◌≤◌, length, reverse, IfOk, IsTrue};
+ghost use Rattle.match_rules.specs.Ways.{line_at};
+ghost use Rattle.keyword_table.specs.ItemNumbers.{AreItemsBelow};
+ghost use Rattle.keyword_table.specs.Words.{begins_word};
+ghost use Rattle.paint_rules.specs.Rules.{place_at};
+ghost use Rattle.paint_rules.specs.States.{Fits, StateFits};
+ghost use Rattle.state_stack.specs.TopFirst.{top_first};
+ghost use Rattle.syntax_set.specs.Soundness.{AreSound};
+ghost use Rattle.item_pick.specs.PartsSeen.{rules_in};
+ghost use Rattle.item_pick.specs.QuietPlaces.{IsQuietAt};
+ghost use Rattle.item_pick.specs.QuietUntil.{IsQuietUntil};
+ghost use Rattle.item_pick.specs.Standing.{ChoiceFits, IsPlace};
+ghost use Rattle.item_pick.specs.Tables.{MemoryStands};
+ghost use Rattle.item_pick.specs.Valid.{IsSound};
+
+use crate::asked::Asked;
+use crate::choice::Choice;
+use crate::memory::PickMemory;
+use crate::parts::Parts;
+use crate::picking::Picking;
+use char_class::CharSet;
+use state_stack::{Stack, State};
+use std::alloc::Global;
+use syn_base::{Externals, ItemId, Lines, List, Memory, Place};
+
+/// The first column from a place of a present line on at which something may start on the stack of a
+/// state, at most the line's length: it stops where a word begins, and where what stands there may
+/// begin an item. The line has to be entered (`PickMemory::enter_line`). An attempt costs at most
+/// `budget`.
+pub fn quiet_until<T: Lines>(
+    alloc: Global,
+    parts: &Parts,
+    lines: &T,
+    at: Place,
+    state: &State,
+    memory: &mut PickMemory,
+    budget: u64,
+) -> Result<usize, Memory>
+    requires patterns { AreSound parts.now.items.now parts.now.programs.now }
+    requires words { AreItemsBelow (length parts.now.items.now) parts.now.keywords.now }
+    requires present { at.line < length (T.lines lines.now) }
+    requires within { at.col ≤ length (line_at (T.lines lines.now) at.line) }
+    requires fits { StateFits (length parts.now.items.now) (top_first state.now) }
+    requires budget { 1 ≤ budget }
+    requires memory { MemoryStands (rules_in parts.now budget)
+        (line_at (T.lines lines.now) at.line) memory.old }
+    ensures quiet { IfOk result (IsQuietUntil (rules_in parts.now budget) (T.lines lines.now) at
+        (reverse state.now.stack)) }
+    ensures memory { MemoryStands (rules_in parts.now budget)
+        (line_at (T.lines lines.now) at.line) memory.new }
+{
+    let externals = Externals::none(alloc)?;
+    let tried = List::new(alloc);
+    let asked = Asked {
+        parts,
+        budget,
+        no_externals: &externals,
+    };
+    quiet_by(alloc, &asked, lines, at, &state.stack, &tried, memory)
+}
+
+/// The first column from a place on at which something may start on a stack.
+fn quiet_by<T: Lines>(
+    alloc: Global,
+    syntax: &Asked,
+    lines: &T,
+    at: Place,
+    stack: &Stack,
+    tried: &List<ItemId>,
+    memory: &mut PickMemory,
+) -> Result<usize, Memory>
+    requires valid { IsSound syntax.now }
+    requires present { at.line < length (T.lines lines.now) }
+    requires within { at.col ≤ length (line_at (T.lines lines.now) at.line) }
+    requires frames { Fits (length syntax.now.parts.now.items.now) (reverse stack.now) }
+    requires memory { MemoryStands (rules_in syntax.now.parts.now syntax.now.budget)
+        (line_at (T.lines lines.now) at.line) memory.old }
+    ensures quiet { IfOk result (IsQuietUntil (rules_in syntax.now.parts.now syntax.now.budget)
+        (T.lines lines.now) at (reverse stack.now)) }
+    ensures memory { MemoryStands (rules_in syntax.now.parts.now syntax.now.budget)
+        (line_at (T.lines lines.now) at.line) memory.new }
+{
+    let _count = lines.len();
+    let picking = Picking {
+        alloc,
+        syntax,
+        lines,
+        at,
+        floor: 0,
+        tried,
+    };
+    picking.quiet_until(stack, memory)
+}
+
+impl<T: Lines> Picking<'_, T, Asked<'_>> {
+    /// Whether it is known that no item of a choice starts at a column.
+    fn is_quiet(&self, choice: Choice, col: usize, memory: &mut PickMemory) -> Result<bool, Memory>
+        requires valid { IsSound self.now.syntax.now }
+        requires place { IsPlace (T.lines self.now.lines.now) self.now.at }
+        requires column { col < length (line_at (T.lines self.now.lines.now) self.now.at.line) }
+        requires choice { ChoiceFits
+            (rules_in self.now.syntax.now.parts.now self.now.syntax.now.budget) choice }
+        requires memory { MemoryStands
+            (rules_in self.now.syntax.now.parts.now self.now.syntax.now.budget)
+            (line_at (T.lines self.now.lines.now) self.now.at.line) memory.old }
+        ensures quiet { IfOk result (λ quiet. IsTrue quiet → IsQuietAt
+            (rules_in self.now.syntax.now.parts.now self.now.syntax.now.budget)
+            (T.lines self.now.lines.now) choice (place_at self.now.at.line col)) }
+        ensures memory { MemoryStands
+            (rules_in self.now.syntax.now.parts.now self.now.syntax.now.budget)
+            (line_at (T.lines self.now.lines.now) self.now.at.line) memory.new }
+    {
+        match choice {
+            Choice::NoItem => Ok(true),
+            _ => self.is_row_empty(choice, col, memory),
+        }
+    }
+
+    /// The same: no word begins there, and the row of the choice has no item.
+    fn is_row_empty(
+        &self,
+        choice: Choice,
+        col: usize,
+        memory: &mut PickMemory,
+    ) -> Result<bool, Memory>
+        requires valid { IsSound self.now.syntax.now }
+        requires place { IsPlace (T.lines self.now.lines.now) self.now.at }
+        requires column { col < length (line_at (T.lines self.now.lines.now) self.now.at.line) }
+        requires choice { ChoiceFits
+            (rules_in self.now.syntax.now.parts.now self.now.syntax.now.budget) choice }
+        requires memory { MemoryStands
+            (rules_in self.now.syntax.now.parts.now self.now.syntax.now.budget)
+            (line_at (T.lines self.now.lines.now) self.now.at.line) memory.old }
+        ensures quiet { IfOk result (λ quiet. IsTrue quiet → IsQuietAt
+            (rules_in self.now.syntax.now.parts.now self.now.syntax.now.budget)
+            (T.lines self.now.lines.now) choice (place_at self.now.at.line col)) }
+        ensures memory { MemoryStands
+            (rules_in self.now.syntax.now.parts.now self.now.syntax.now.budget)
+            (line_at (T.lines self.now.lines.now) self.now.at.line) memory.new }
+    {
+        if begins_word(self.line(), col, &self.syntax.parts.sets.keyword) {
+            return Ok(false);
+        }
+        match memory.number_at(col) {
+            Some(number) => {
+                let count = self.syntax.parts.items.added();
+                let left = memory.left_in(self.syntax, choice, number, count)?;
+                Ok(left == 0)
+            }
+            None => Ok(false),
+        }
+    }
+
+    /// The first column at which something may start on a stack.
+    fn quiet_until(&self, stack: &Stack, memory: &mut PickMemory) -> Result<usize, Memory>
+        requires valid { IsSound self.now.syntax.now }
+        requires place { IsPlace (T.lines self.now.lines.now) self.now.at }
+        requires frames { Fits (length self.now.syntax.now.parts.now.items.now) (reverse stack.now) }
+        requires memory { MemoryStands
+            (rules_in self.now.syntax.now.parts.now self.now.syntax.now.budget)
+            (line_at (T.lines self.now.lines.now) self.now.at.line) memory.old }
+        ensures quiet { IfOk result (IsQuietUntil
+            (rules_in self.now.syntax.now.parts.now self.now.syntax.now.budget)
+            (T.lines self.now.lines.now) self.now.at (reverse stack.now)) }
+        ensures memory { MemoryStands
+            (rules_in self.now.syntax.now.parts.now self.now.syntax.now.budget)
+            (line_at (T.lines self.now.lines.now) self.now.at.line) memory.new }
+    {
+        let choice = self.allowed(stack);
+        let last = self.last();
+        for col in self.at.col..last {
+            let quiet = self.is_quiet(choice, col, memory)?;
+            if !quiet {
+                return Ok(col);
+            }
+        }
+        Ok(last)
+    }
+}
+
+/// Whether a word begins at a column.
+fn begins_word(line: &[char], col: usize, set: &CharSet) -> bool
+    requires { col < length line.now }
+    ensures { result ≡ begins_word set.now line.now col }
+{
+    set.has(line[col]) && (col == 0 || !set.has(line[col - 1]))
+}

@@ -1,0 +1,213 @@
+//! Which items of a choice may start at a column, by the key of the column.
+ghost use Rattle.std.specs.Prelude.{◌≡◌, ◌<◌, ◌≤◌, ℕ, length, slice_get, slice_index, Some, IfOk, IfSome, IsTrue, true};
+ghost use Rattle.syntax_set.specs.declared.item.Pattern.{Pattern as PatternOf};
+ghost use Rattle.paint_rules.specs.Rules.{item_of};
+ghost use Rattle.item_pick.specs.PartsSeen.{rules_in};
+ghost use Rattle.item_pick.specs.Quiet.{item_numbered};
+ghost use Rattle.item_pick.specs.Standing.{ChoiceFits, IsItem};
+ghost use Rattle.item_pick.specs.Started.{admits};
+ghost use Rattle.item_pick.specs.Tables.{fails, is_screened, Lacks, ListStands, RowStands, StaysOut};
+
+use crate::asked::Asked;
+use crate::choice::{Choice, admits};
+use pattern_screens::{KEYS, Key, failing_cost, screen};
+use region_ends::item_of;
+use std::alloc::Global;
+use syn_base::{ItemId, Memory};
+use syntax_set::{ItemKind, Pattern};
+use vim_pattern::Tree;
+
+/// In place of the number of a key: the row has all items that start by a pattern.
+pub(crate) const ANY: u16 = KEYS;
+
+/// The admitted items of a choice that may start at a column whose key has a number.
+#[derive(Drop)]
+pub(crate) struct Row {
+    pub(crate) choice: Choice,
+    pub(crate) number: u16,
+    pub(crate) items: Vec<u32>,
+}
+
+impl Asked<'_> {
+    /// Whether an attempt at a column with a key is known to fail within the budget.
+    pub(crate) fn fails(&self, ignore: bool, tree: &Tree, key: Key) -> bool
+        ensures { IsTrue result →
+            fails self.now.parts.now.sets.now self.now.budget ignore key tree.now ≡ true }
+    {
+        match failing_cost(tree) {
+            Some(cost) => {
+                cost <= self.budget && screen(tree, self.parts.sets, ignore, key).is_futile()
+            }
+            None => false,
+        }
+    }
+
+    /// Whether an item can't start by a pattern at a column whose key has a number.
+    fn is_screened(&self, ignore: bool, pattern: &Pattern, number: u16) -> bool
+        ensures { IsTrue result → is_screened self.now.parts.now.sets.now self.now.budget ignore
+            number pattern.now ≡ true }
+    {
+        number < KEYS
+            && !pattern.tree.moves_start
+            && pattern.ms.is_none()
+            && self.fails(ignore, &pattern.tree, Key::numbered(number))
+    }
+
+    /// Whether it can't start by any of some patterns.
+    fn are_screened(&self, ignore: bool, patterns: &[Pattern], number: u16) -> bool
+        ensures { IsTrue result → (n : ℕ) (p : PatternOf) → Some p ≡ slice_get patterns.now n →
+            is_screened self.now.parts.now.sets.now self.now.budget ignore number p ≡ true }
+    {
+        for pattern in patterns {
+            if !self.is_screened(ignore, pattern, number) {
+                return false;
+            }
+        }
+        true
+    }
+
+    /// Whether an item can't start at a column whose key has a number.
+    fn stays_out(&self, id: ItemId, number: u16) -> bool
+        requires { IsItem (rules_in self.now.parts.now self.now.budget) id }
+        ensures { IsTrue result →
+            StaysOut (rules_in self.now.parts.now self.now.budget) number id }
+    {
+        let item = item_of(self.parts.items, id);
+        match &item.kind {
+            ItemKind::Keyword => true,
+            ItemKind::Match(pattern) => self.is_screened(item.ignore, pattern, number),
+            ItemKind::Region {
+                starts,
+                skip: _,
+                ends: _,
+            } => self.are_screened(item.ignore, starts.as_slice(), number),
+        }
+    }
+
+    /// Puts an item on a list, unless it can't start.
+    fn put(&self, id: u32, number: u16, items: &mut Vec<u32>) -> Result<(), Memory>
+        requires { id < length (rules_in self.now.parts.now self.now.budget).items }
+        ensures kept { (j : ℕ) → Lacks items.new.items j → Lacks items.old.items j }
+        ensures here { IfOk result (λ _. Lacks items.new.items id →
+            StaysOut (rules_in self.now.parts.now self.now.budget) number (item_numbered id)) }
+    {
+        if !self.stays_out(ItemId(id), number) {
+            items.push(id)?;
+        }
+        Ok(())
+    }
+
+    /// The same of an item of a choice.
+    fn put_admitted(
+        &self,
+        choice: Choice,
+        id: u32,
+        number: u16,
+        items: &mut Vec<u32>,
+    ) -> Result<(), Memory>
+        requires item { id < length (rules_in self.now.parts.now self.now.budget).items }
+        requires choice { ChoiceFits (rules_in self.now.parts.now self.now.budget) choice }
+        ensures kept { (j : ℕ) → Lacks items.new.items j → Lacks items.old.items j }
+        ensures here { IfOk result (λ _.
+            admits (rules_in self.now.parts.now self.now.budget) choice (item_numbered id) ≡ true →
+            Lacks items.new.items id →
+            StaysOut (rules_in self.now.parts.now self.now.budget) number (item_numbered id)) }
+    {
+        if admits(self, choice, ItemId(id)) {
+            self.put(id, number, items)?;
+        }
+        Ok(())
+    }
+
+    /// The same of an item that may not be there.
+    fn put_known(
+        &self,
+        id: u32,
+        number: u16,
+        count: usize,
+        items: &mut Vec<u32>,
+    ) -> Result<(), Memory>
+        requires { count ≡ length (rules_in self.now.parts.now self.now.budget).items }
+        ensures kept { (j : ℕ) → Lacks items.new.items j → Lacks items.old.items j }
+        ensures here { IfOk result (λ _.
+            id < length (rules_in self.now.parts.now self.now.budget).items →
+            Lacks items.new.items id →
+            StaysOut (rules_in self.now.parts.now self.now.budget) number (item_numbered id)) }
+    {
+        if (id as usize) < count {
+            self.put(id, number, items)?;
+        }
+        Ok(())
+    }
+
+    /// The items of a choice that may start.
+    fn listed(&self, alloc: Global, choice: Choice, number: u16) -> Result<Vec<u32>, Memory>
+        requires { ChoiceFits (rules_in self.now.parts.now self.now.budget) choice }
+        ensures { IfOk result (λ list.
+            ListStands (rules_in self.now.parts.now self.now.budget) choice number list.items) }
+    {
+        let count = self.parts.items.added() as u32;
+        let mut items = Vec::new(alloc);
+        for id in 0..count {
+            self.put_admitted(choice, id, number, &mut items)?;
+        }
+        Ok(items)
+    }
+
+    /// Those of all items of a choice that may start at a column whose key has a number.
+    fn narrowed(&self, alloc: Global, all: &Row, number: u16) -> Result<Vec<u32>, Memory>
+        requires number { all.now.number ≡ 777 }
+        requires stands { RowStands (rules_in self.now.parts.now self.now.budget) all.now }
+        ensures { IfOk result (λ list. ListStands (rules_in self.now.parts.now self.now.budget)
+            all.now.choice number list.items) }
+    {
+        let count = self.parts.items.added();
+        let mut items = Vec::new(alloc);
+        for id in all.items.as_slice() {
+            self.put_known(*id, number, count, &mut items)?;
+        }
+        Ok(items)
+    }
+
+    /// The row of all items of a choice that start by a pattern.
+    pub(crate) fn whole_row(&self, alloc: Global, choice: Choice) -> Result<Row, Memory>
+        requires { ChoiceFits (rules_in self.now.parts.now self.now.budget) choice }
+        ensures { IfOk result (RowStands (rules_in self.now.parts.now self.now.budget)) }
+    {
+        let items = self.listed(alloc, choice, ANY)?;
+        Ok(Row {
+            choice,
+            number: ANY,
+            items,
+        })
+    }
+
+    /// The row of a key, from that of all items of its choice.
+    pub(crate) fn row_of(&self, alloc: Global, all: &Row, number: u16) -> Result<Row, Memory>
+        requires number { all.now.number ≡ 777 }
+        requires stands { RowStands (rules_in self.now.parts.now self.now.budget) all.now }
+        ensures { IfOk result (RowStands (rules_in self.now.parts.now self.now.budget)) }
+    {
+        let items = self.narrowed(alloc, all, number)?;
+        Ok(Row {
+            choice: all.choice,
+            number,
+            items,
+        })
+    }
+}
+
+/// The number behind the greatest of a list that is below another one; 0 where there is none.
+pub(crate) fn next_below(list: &[u32], left: usize) -> usize
+    ensures within { result ≤ left }
+    ensures passed { (j : ℕ) → result ≤ j → j < left → Lacks list.now j }
+{
+    let mut next = 0;
+    for id in list {
+        let id = *id as usize;
+        if next <= id && id < left {
+            next = id + 1;
+        }
+    }
+    next
+}

@@ -1,0 +1,9 @@
+pub mod ComesLaws
+pub mod LineStartLaws
+pub mod ClosingLaws
+pub mod StandingLaws
+pub mod TurnLaws
+pub mod LineLaws
+pub mod QuietLaws
+pub mod RememberedLaws
+pub mod SpansLaws

@@ -1,0 +1,139 @@
+-- The columns of a line: what is left of it, where some spans stand to the left.
+use Rattle.std.proofs.Common.{◌≡◌, ℕ, zero, suc, ◌≤◌, List, [], ◌∷◌, length, drop, refl, sym, ap, ◌∙◌, arith}
+use Rattle.std.specs.Prelude.{Option, Some, None, Result, Ok, Err}
+use Rattle.syn_base.specs.declared.looked.Looked.{Looked}
+use Rattle.syn_base.specs.declared.places.Span.{Span}
+use Rattle.paint_rules.specs.declared.Spot.TheVariants.{At}
+use Rattle.paint_rules.specs.Painted.{Painted, Done, Refused, looked_both, looked_first, done, ◌>>=◌}
+use Rattle.paint_rules.specs.Rules.{Here, Cause}
+use Rattle.paint_rules.specs.States.{Standing}
+use Rattle.paint_rules.specs.Line.{Refusal, PaintedLine, at_col, column, shown, joined, painted_from, state_of}
+use Rattle.line_paint.specs.declared.answers.Stop.{Stop}
+use Rattle.line_paint.specs.declared.answers.Stop.TheVariants as stop
+use Rattle.line_paint.specs.declared.paint.PaintError.{PaintError}
+use Rattle.line_paint.specs.declared.paint.PaintError.TheVariants as error
+use Rattle.line_paint.specs.declared.spans.Spans.{Spans}
+use Rattle.line_paint.specs.declared.standing.Standing.{Standing as StandingCode}
+use Rattle.paint_rules.specs.Frames.{Frame}
+use Rattle.paint_rules.specs.Painted.{refusal_of}
+use Rattle.line_paint.specs.Answers.{Stops}
+use Rattle.line_paint.specs.Line.{at_of, FailsAs, Paints, Begins, painted_rest}
+use Rattle.line_paint.specs.Spans.{chained}
+use Rattle.paint_rules.proofs.PaintedLaws.{goes_on, bind_assoc, refusal_first, refusal_bind}
+
+pub bind_done : {E A : Type 0} (p : Painted E A) → p >>= (λ a. done a) ≡ p
+bind_done (Done a None) = refl
+bind_done (Done a (Some k)) = refl
+bind_done (Refused c k) = refl
+
+pub at_leads : {A : Type 0} (c : ℕ) (j k : Looked) (m : Painted Cause A) (a : A) →
+    looked_first (Some j) m ≡ Done a (Some k) → looked_first (Some j) (at_col c m) ≡ Done a (Some k)
+at_leads c j k (Done b l) a e =
+    let x : b ≡ a = cc in
+    let y : looked_both (Some j) l ≡ Some k = cc in
+    λ i. Done (x i) (y i)
+at_leads c j k (Refused d l) a e = absurd (cc)
+
+pub at_fails : {A : Type 0} (e : Stop) (c : ℕ) (m : Painted Cause A) → Stops e m →
+    FailsAs (at_of e c) (at_col c m)
+at_fails (stop.TooCostly i) c (Done a l) s = absurd (cc)
+at_fails (stop.TooCostly i) c (Refused d l) s =
+    ap (λ (x : Option Cause). elim x as (λ _. Option Refusal) [
+      | None ↦ None
+      | Some d ↦ Some (record { col = c; cause = d })
+    ]) s
+at_fails stop.TooDeep c (Done a l) s = absurd (cc)
+at_fails stop.TooDeep c (Refused d l) s =
+    ap (λ (x : Option Cause). elim x as (λ _. Option Refusal) [
+      | None ↦ None
+      | Some d ↦ Some (record { col = c; cause = d })
+    ]) s
+at_fails stop.Memory c m s = tt
+
+pub fails_bind : {A B : Type 0} (e : PaintError) (m : Painted Refusal A)
+    (f : A → Painted Refusal B) → FailsAs e m → FailsAs e (m >>= f)
+fails_bind (error.TooCostly c i) m f s = refusal_bind _ m f s
+fails_bind (error.TooDeep c) m f s = refusal_bind _ m f s
+fails_bind error.Memory m f s = tt
+
+pub fails_whole : {A : Type 0} (e : PaintError) (j k : Looked) (p q : Painted Refusal A) →
+    looked_first (Some j) p ≡ looked_first (Some k) q → FailsAs e q → FailsAs e p
+fails_whole (error.TooCostly c i) j k p q e s = sym (refusal_first (Some j) p)
+    ∙ (ap refusal_of e ∙ (refusal_first (Some k) q ∙ s))
+fails_whole (error.TooDeep c) j k p q e s = sym (refusal_first (Some j) p)
+    ∙ (ap refusal_of e ∙ (refusal_first (Some k) q ∙ s))
+fails_whole error.Memory j k p q e s = tt
+
+-- what follows a value, where it may be refused
+pub fails_then : {A B : Type 0} (e : PaintError) (j k : Looked) (m : Painted Refusal A) (a : A)
+    (f : A → Painted Refusal B) → looked_first (Some j) m ≡ Done a (Some k) → FailsAs e (f a) →
+    FailsAs e (m >>= f)
+fails_then e j k m a f h s = fails_whole e j k (m >>= f) (f a) (goes_on j k m a f h) s
+
+module _ (h : Here) (c : ℕ) (j k : Looked) (s t : Standing) (spans : Spans) where
+  abbrev here : List ℕ → Standing → Painted Refusal PaintedLine
+  here line s = painted_from h (suc c) line s
+      >>= (λ rest. done
+      (record rest { spans = joined c (shown h.rules (At 0 c) s.stack) rest.spans }))
+
+  abbrev whole_of : PaintedLine → Painted Refusal PaintedLine
+  whole_of r = done (record r { spans = chained spans r.spans })
+
+  pub char_step : (x : ℕ) (line : List ℕ) (more : Spans) →
+      looked_first (Some j) (column h c s) ≡ Done t (Some k) →
+      ((rest : List Span) → chained more rest ≡ chained spans
+      (joined c (shown h.rules (At 0 c) t.stack) rest)) →
+      looked_first (Some j) (painted_rest h c (x ∷ line) s spans) ≡ looked_first (Some k)
+      (painted_rest h (suc c) line t more)
+  char_step x line more e show =
+      let head = at_col c (column h c s) in
+      let tail = painted_from h (suc c) line t in
+      let shows = λ (r : PaintedLine). done {E = Refusal}
+      (record r { spans = joined c (shown h.rules (At 0 c) t.stack) r.spans }) in
+      ap (looked_first (Some j)) (bind_assoc head (here line) whole_of)
+      ∙ (goes_on j k head t (λ s. here line s >>= whole_of) (at_leads c j k (column h c s) t e)
+      ∙ ap (looked_first (Some k)) (bind_assoc tail shows whole_of
+      ∙ ap (λ (f : PaintedLine → Painted Refusal PaintedLine). tail >>= f)
+      (λ i r. done (record r { spans = sym (show r.spans) i }))))
+
+  pub end_step : looked_first (Some j) (column h c s) ≡ Done t (Some k) →
+      looked_first (Some j) (painted_rest h c [] s spans) ≡ Done
+      (record { spans = chained spans []; after = state_of t }) (Some k)
+  end_step e =
+      let head = at_col c (column h c s) in
+      let ends = λ (s : Standing). done {E = Refusal} (record { spans = []; after = state_of s }) in
+      ap (looked_first (Some j)) (bind_assoc head ends whole_of)
+      ∙ goes_on j k head t (λ s. ends s >>= whole_of) (at_leads c j k (column h c s) t e)
+
+  pub fails_step : (line : List ℕ) (e : Stop) → Stops e (column h c s) →
+      FailsAs (at_of e c) (painted_rest h c line s spans)
+  fails_step [] e x =
+      fails_bind (at_of e c) (painted_from h c [] s) whole_of
+      (fails_bind (at_of e c) (at_col c (column h c s)) _ (at_fails e c (column h c s) x))
+  fails_step (y ∷ line) e x =
+      fails_bind (at_of e c) (painted_from h c (y ∷ line) s) whole_of
+      (fails_bind (at_of e c) (at_col c (column h c s)) _ (at_fails e c (column h c s) x))
+
+pub paints_whole : (r : Result (List Span) PaintError) (from mid to : StandingCode)
+    (p q : Painted Refusal PaintedLine) → looked_first (Some from.looked) p ≡ looked_first
+    (Some mid.looked) q → Paints r mid to q → Paints r from to p
+paints_whole (Ok spans) from mid to p q e h = e ∙ h
+paints_whole (Err x) from mid to p q e h = fails_whole x from.looked mid.looked p q e h
+
+pub drop_all : (line : List ℕ) (c : ℕ) → length line ≤ c → drop c line ≡ []
+drop_all [] zero h = refl
+drop_all [] (suc c) h = refl
+drop_all (x ∷ line) zero h = absurd (omega (arith, h))
+drop_all (x ∷ line) (suc c) h = drop_all line c (omega (arith, h))
+
+pub begins_fails : (e : Stop) (j k : Looked) (p : Painted Cause (List Frame)) → Stops e p →
+    Begins (Err (at_of e 0)) j k p
+begins_fails (stop.TooCostly i) j k p s = (refl, s)
+begins_fails stop.TooDeep j k p s = (refl, s)
+begins_fails stop.Memory j k p s = tt
+
+-- what was tried at a column doesn't count at the next
+pub untried : (h : Here) (c : ℕ) (line : List ℕ) (s : Standing) (spans : Spans) →
+    painted_rest h c line s spans ≡ painted_rest h c line (record s { tried = [] }) spans
+untried h c [] s spans = refl
+untried h c (x ∷ line) s spans = refl

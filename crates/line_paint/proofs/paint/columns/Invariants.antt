@@ -1,0 +1,28 @@
+use Rattle.std.proofs.Common.{◌≡◌, ◌≤◌, ◌-◌, length, drop}
+use Rattle.std.specs.Prelude.{Some, pos}
+use Rattle.syn_base.specs.Looked.{one_line}
+use Rattle.paint_rules.specs.Painted.{looked_first}
+use Rattle.paint_rules.specs.Rules.{this_line}
+use Rattle.paint_rules.specs.Line.{painted_from}
+use Rattle.line_paint.specs.Leads.{standing_of, Stands}
+use Rattle.line_paint.specs.Line.{painted_rest}
+use Rattle.line_paint.specs.Turns.{Held}
+use Rattle.line_paint.proofs.paint.columns.Given as goal
+
+-- what is left is the line from `c` on
+abbrev pub invariant-columns : goal.invariant-columns
+invariant-columns g l =
+    let h = g.S.Site.here l.site in
+    record {
+      whole : looked_first (Some (l.fn.standing).looked)
+          (painted_from h 0 (this_line h) (standing_of l.fn.standing)) ≡ looked_first
+          (Some (l.standing).looked) (painted_rest h l.c (drop l.c (this_line h))
+          (standing_of l.standing) l.spans);
+      stands : Stands (length h.rules.items) l.c l.standing;
+      held : Held (one_line (pos h.line)) (l.standing).looked;
+      memory : g.M.Picker.stands l.memory l.site;
+      within : l.c ≤ length (this_line h);
+    }
+
+abbrev pub decreases-columns : goal.decreases-columns
+decreases-columns g l = l.len - l.c

@@ -1,0 +1,23 @@
+use Rattle.std.proofs.Common.{◌≡◌, ◌≤◌, ◌-◌, drop}
+use Rattle.std.specs.Prelude.{Some}
+use Rattle.paint_rules.specs.Painted.{looked_first}
+use Rattle.paint_rules.specs.Rules.{this_line}
+use Rattle.line_paint.specs.Leads.{standing_of}
+use Rattle.line_paint.specs.Line.{painted_rest}
+use Rattle.line_paint.proofs.paint.show_quiet.Given as goal
+
+-- what is left is the line from `c` on
+abbrev pub invariant-quiet : goal.invariant-quiet
+invariant-quiet g l =
+    let h = g.S.Site.here l.site in
+    record {
+      whole : looked_first (Some (l.standing).looked)
+          (painted_rest h l.from (drop l.from (this_line h)) (standing_of l.standing) l.fn.spans)
+          ≡ looked_first (Some (l.standing).looked)
+          (painted_rest h l.c (drop l.c (this_line h)) (standing_of l.standing) l.spans);
+      from : l.from ≤ l.c;
+      to : l.c ≤ l.to;
+    }
+
+abbrev pub decreases-quiet : goal.decreases-quiet
+decreases-quiet g l = l.to - l.c

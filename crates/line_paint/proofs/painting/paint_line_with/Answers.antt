@@ -1,0 +1,12 @@
+use Rattle.item_pick.specs.PartsSeen.{rules_in}
+use Rattle.line_paint.proofs.RememberedLaws.{in_line}
+use Rattle.line_paint.proofs.painting.paint_line_with.Goals as goal
+
+pub returns-in_err-enter_line-clause-memory : goal.returns-in_err-enter_line-clause-memory
+returns-in_err-enter_line-clause-memory g c =
+    c.in_err-enter_line.ensures.kept (rules_in c.args.parts.now c.args.budget) c.requires.memory
+
+pub painted_by-requires-clause-memory : goal.painted_by-requires-clause-memory
+painted_by-requires-clause-memory g c =
+    in_line (rules_in c.args.parts.now c.args.budget) (g.T.Lines.lines c.args.lines.now) c.args.line c.line.result.now c.enter_line.new.self c.line.ensures
+    (c.in_ok-enter_line.ensures.entered c.args.budget c.requires.memory)

@@ -1,0 +1,19 @@
+use Rattle.std.proofs.Common.{◌≡◌, length}
+use Rattle.std.specs.Prelude.{Some}
+use Rattle.paint_rules.specs.Painted.{looked_first}
+use Rattle.paint_rules.specs.Close.{closed, closed_in}
+use Rattle.line_paint.specs.Leads.{standing_of, Stands}
+use Rattle.line_paint.proofs.standing.Standing.close.Given as goal
+
+-- what is left is closing in so many steps
+abbrev pub invariant-steps : goal.invariant-steps
+invariant-steps g l =
+    let h = g.S.Site.here l.site in
+    record {
+      whole : looked_first (Some (l.fn.self).looked) (closed h l.c (standing_of l.fn.self))
+          ≡ looked_first (Some (l.self).looked) (closed_in l.left h l.c (standing_of l.self));
+      stands : Stands (length h.rules.items) l.c l.self;
+    }
+
+abbrev pub decreases-steps : goal.decreases-steps
+decreases-steps g l = l.left

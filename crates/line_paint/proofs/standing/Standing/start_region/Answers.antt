@@ -1,0 +1,19 @@
+use Rattle.std.proofs.Common.{◌≡◌, ap, length}
+use Rattle.line_paint.proofs.TurnLaws.{two_stand}
+use Rattle.line_paint.proofs.standing.Standing.start_region.Goals as goal
+
+pub returns-in_ok-body-in-Some-clause-stands : goal.returns-in_ok-body-in-Some-clause-stands
+returns-in_ok-body-in-Some-clause-stands g c =
+    let opened = ap (λ f. f.item) c.in_ok-open.ensures in
+    let view = ap (λ f. f.item) c.open.view_is in
+    let full = ap (λ f. f.item) c.with_externals-body-in-Some.ensures in
+    let body : c.in_ok-body-in-Some.body.item ≡ c.args.item =
+    cc (c.in_ok-body-in-Some.ensures.item, opened, view, full) in
+    let area-view = ap (λ f. f.item) c.area.view_is in
+    let area-open = ap (λ f. f.item) c.in_ok-area-in-Some.ensures in
+    let area-full = ap (λ f. f.item) c.with_externals.ensures in
+    let area : c.with_externals.result.item ≡ c.args.item = cc (area-view, area-open, area-full) in
+    two_stand (length (g.S.Site.here c.args.site.now).rules.items) c.args.c c.start_two.result
+    c.args.self.now c.start_two.new.self c.args.item _ _ body area c.requires.is_item
+    c.requires.stands c.start_two.ensures.frames c.start_two.ensures.floor
+    c.start_two.ensures.waits

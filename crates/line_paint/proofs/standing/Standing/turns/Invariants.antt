@@ -1,0 +1,24 @@
+use Rattle.std.proofs.Common.{◌≡◌, length, suc}
+use Rattle.std.specs.Prelude.{Some, pos}
+use Rattle.syn_base.specs.Looked.{one_line}
+use Rattle.paint_rules.specs.Painted.{looked_first}
+use Rattle.paint_rules.specs.Line.{turns}
+use Rattle.line_paint.specs.Leads.{standing_of, Stands}
+use Rattle.line_paint.specs.Turns.{Held}
+use Rattle.line_paint.proofs.standing.Standing.turns.Given as goal
+
+-- what is left are so many turns
+abbrev pub invariant-turns : goal.invariant-turns
+invariant-turns g l =
+    let h = g.S.Site.here l.site in
+    record {
+      whole : looked_first (Some (l.fn.self).looked)
+          (turns (suc (length h.rules.items)) h l.c (standing_of l.fn.self)) ≡ looked_first
+          (Some (l.self).looked) (turns l.left h l.c (standing_of l.self));
+      stands : Stands (length h.rules.items) l.c l.self;
+      held : Held (one_line (pos h.line)) (l.self).looked;
+      memory : g.M.Picker.stands l.memory l.site;
+    }
+
+abbrev pub decreases-turns : goal.decreases-turns
+decreases-turns g l = l.left

@@ -1,0 +1,353 @@
+//! What becomes of the top frame at a place (`:syn-matchgroup`, `:syn-nextgroup`,
+//! `:syn-excludenl`).
+ghost use Rattle.std.specs.Prelude.{◌≡◌, ◌<◌, ◌∷◌, ◌&&◌, ◌||◌, not, Bool, true, false, length, reverse, IfOk, is_none, None};
+ghost use Rattle.std.specs.List.{list_any};
+ghost use Rattle.paint_rules.specs.declared.Spot.TheVariants.{At};
+ghost use Rattle.paint_rules.specs.Rules.{this_line, item_of};
+ghost use Rattle.paint_rules.specs.KeptEnd.{has_keepend};
+ghost use Rattle.paint_rules.specs.Close.{is_region_body, is_reached, goes_beyond, closing_of, end_area_of, waiting_after, col_here, body_after_area, anew_over_keepend, exposed_anew, frames_after, line_end_counts, has_line_end, is_region_body_on, container_goes_on};
+ghost use Rattle.line_paint.specs.Answers.{Comes};
+ghost use Rattle.line_paint.specs.Closing.{closing, anew_or, over_searched};
+ghost use Rattle.paint_rules.specs.States.{Fits, WaitFits};
+ghost use Rattle.line_paint.specs.Standing.{frames_or, items_of};
+
+use crate::ends::{is_region_body, searched_anew, searched_if};
+use crate::frames::remade;
+use crate::spots::{goes_beyond, is_reached};
+use crate::{Site, Stop};
+use paint_rules::{Part, Spot, Waiting};
+use region_ends::{earlier_end, kept_end_over};
+use state_stack::{Frame, Stack};
+use std::alloc::Global;
+use syn_base::{ItemId, Looked, Memory};
+use syntax_set::{ItemKind, Pattern};
+
+/// What becomes of the top frame at a place.
+#[derive(Clone, Copy, Debug, PartialEq, Eq)]
+pub(crate) enum Closing {
+    Stays,
+    BecomesArea,
+    Leaves,
+    LeavesArea,
+}
+
+fn becomes_area<S: Site>(site: &S, place: Spot, top: &Frame) -> bool
+    requires { (top.now.item).0 < length (S.here site.now).rules.items }
+    ensures { result ≡ (is_region_body (S.here site.now).rules top.now && is_reached place
+        top.now.known_end && goes_beyond place top.now.area_end) }
+{
+    is_region_body(site, top)
+        && is_reached(place, top.known_end)
+        && goes_beyond(place, top.area_end)
+}
+
+/// What becomes of the top frame at a place.
+pub(crate) fn closing_of<S: Site>(site: &S, place: Spot, top: &Frame, below: &Stack) -> Closing
+    requires is_item { (top.now.item).0 < length (S.here site.now).rules.items }
+    requires fits { Fits (length (S.here site.now).rules.items) (reverse below.now) }
+    ensures { closing result
+        ≡ closing_of (S.here site.now).rules place top.now (reverse below.now) }
+{
+    if !is_reached(place, kept_end_over(site.items(), top, below)) {
+        return Closing::Stays;
+    }
+    if becomes_area(site, place, top) {
+        return Closing::BecomesArea;
+    }
+    match top.part {
+        Part::StartArea => Closing::LeavesArea,
+        _ => Closing::Leaves,
+    }
+}
+
+/// The end area of a region body, from a place on, over what lies below.
+pub(crate) fn area_on(
+    alloc: Global,
+    place: Spot,
+    top: &Frame,
+    below: &Stack,
+) -> Result<Stack, Memory>
+    requires { length below.now < 1000 }
+    ensures { IfOk result (λ s. reverse s ≡ end_area_of place top.now ∷ reverse below.now) }
+{
+    let area = end_area_of(place, top)?;
+    below.with_top(alloc, area)
+}
+
+fn end_area_of(place: Spot, body: &Frame) -> Result<Frame, Memory>
+    ensures { IfOk result (λ f. f ≡ end_area_of place body.now) }
+{
+    let mut area = body.copied()?;
+    area.part = Part::EndArea;
+    area.shows = body.area_shows.unwrap_or(body.shows);
+    area.known_end = body.area_end;
+    area.high_from = place;
+    area.high_to = earlier_end(body.area_high, body.area_end);
+    Ok(area)
+}
+
+/// The wait for an item's nextgroup, if it has one and may go on.
+pub(crate) fn waiting_after<S: Site>(site: &S, c: usize, item: ItemId) -> Option<Waiting>
+    requires { item.0 < length (S.here site.now).rules.items }
+    ensures is { result ≡ waiting_after (S.here site.now).rules (this_line (S.here site.now)) c
+        item }
+    ensures fits { WaitFits (length (S.here site.now).rules.items) result }
+{
+    let rules = site.item(item);
+    if rules.nextgroup.is_some() && (c != site.len() || rules.skipnl || rules.skipempty) {
+        Some(Waiting { item, fresh: true })
+    } else {
+        None
+    }
+}
+
+fn col_here(spot: Spot) -> Option<usize>
+    ensures { result ≡ col_here spot }
+{
+    match spot {
+        Spot::Past => None,
+        Spot::At { ahead, col } => if ahead == 0 { Some(col) } else { None },
+    }
+}
+
+/// What the frames under a start area become that was popped; none where they stay.
+pub(crate) fn body_after_area<S: Site>(
+    alloc: Global,
+    site: &S,
+    stack: &Stack,
+    looked: &mut Looked,
+) -> Result<Option<Stack>, Stop>
+    requires valid { S.valid site.now }
+    requires fits { Fits (length (S.here site.now).rules.items) (reverse stack.now) }
+    ensures comes { Comes (frames_or (reverse stack.now)) result looked.old looked.new
+        (body_after_area (S.here site.now) (reverse stack.now)) }
+    ensures items { IfOk result
+        (λ s. items_of (frames_or (reverse stack.now) s) ≡ items_of (reverse stack.now)) }
+{
+    match stack.top_and_below() {
+        None => Ok(None),
+        Some((body, below)) => {
+            if !is_region_body(site, body) || body.known_end.is_some() {
+                return Ok(None);
+            }
+            let frame = searched_if(alloc, site, body, col_here(body.search), looked)?;
+            Ok(remade(alloc, body, below, frame, None)?)
+        }
+    }
+}
+
+/// Frames that searched anew where they are over a `keepend`, and whether the top is.
+#[derive(Drop)]
+struct Anew {
+    frames: Option<Stack>,
+    over: bool,
+}
+
+fn untouched() -> Anew
+    ensures { result ≡ record { frames = None; over = false } }
+{
+    Anew {
+        frames: None,
+        over: false,
+    }
+}
+
+/// Whether a frame is over a `keepend`, its own included.
+fn is_over<S: Site>(site: &S, top: &Frame, below_is: bool) -> bool
+    requires { (top.now.item).0 < length (S.here site.now).rules.items }
+    ensures { result ≡ (below_is || has_keepend (S.here site.now).rules.items top.now) }
+{
+    below_is || site.item(top.item).keepend
+}
+
+/// The top frame over those below it, which have searched.
+fn over_searched<S: Site>(
+    alloc: Global,
+    site: &S,
+    c: usize,
+    top: &Frame,
+    below: &Stack,
+    rest: Anew,
+    looked: &mut Looked,
+) -> Result<Anew, Stop>
+    requires valid { S.valid site.now }
+    requires is_item { (top.now.item).0 < length (S.here site.now).rules.items }
+    requires room { length below.now < 1000 }
+    requires items { items_of (frames_or (reverse below.now) rest.frames)
+        ≡ items_of (reverse below.now) }
+    ensures comes { Comes (anew_or (top.now ∷ reverse below.now)) result looked.old looked.new
+        (over_searched (S.here site.now) c top.now (anew_or (reverse below.now) rest)) }
+    ensures items { IfOk result
+        (λ a. items_of (frames_or (top.now ∷ reverse below.now) a.frames)
+        ≡ items_of (top.now ∷ reverse below.now)) }
+{
+    if is_over(site, top, rest.over) {
+        let frame = searched_anew(alloc, site, c, top, looked)?;
+        let frames = remade(alloc, top, below, frame, rest.frames)?;
+        Ok(Anew { frames, over: true })
+    } else {
+        let frames = remade(alloc, top, below, None, rest.frames)?;
+        Ok(Anew {
+            frames,
+            over: false,
+        })
+    }
+}
+
+/// The frames under one with `extend` that was popped: from the last one with `extend` on, those
+/// with `keepend` and those above such a one search anew, the bottom one first.
+fn anew_over_keepend<S: Site>(
+    alloc: Global,
+    site: &S,
+    c: usize,
+    stack: &Stack,
+    looked: &mut Looked,
+) -> Result<Anew, Stop>
+    requires valid { S.valid site.now }
+    requires fits { Fits (length (S.here site.now).rules.items) (reverse stack.now) }
+    ensures comes { Comes (anew_or (reverse stack.now)) result looked.old looked.new
+        (anew_over_keepend (S.here site.now) c (reverse stack.now)) }
+    ensures items { IfOk result
+        (λ a. items_of (frames_or (reverse stack.now) a.frames) ≡ items_of (reverse stack.now)) }
+{
+    match stack.top_and_below() {
+        None => Ok(untouched()),
+        Some((top, below)) => {
+            if site.item(top.item).extend {
+                return over_searched(alloc, site, c, top, below, untouched(), looked);
+            }
+            let rest = anew_over_keepend(alloc, site, c, below, looked)?;
+            over_searched(alloc, site, c, top, below, rest, looked)
+        }
+    }
+}
+
+/// The exposed frame, unless it has searched already, searches anew where it has no `keepend`.
+fn exposed_anew<S: Site>(
+    alloc: Global,
+    site: &S,
+    c: usize,
+    has_searched: bool,
+    stack: &Stack,
+    looked: &mut Looked,
+) -> Result<Option<Stack>, Stop>
+    requires valid { S.valid site.now }
+    requires fits { Fits (length (S.here site.now).rules.items) (reverse stack.now) }
+    ensures comes { Comes (frames_or (reverse stack.now)) result looked.old looked.new
+        (exposed_anew (S.here site.now) c has_searched (reverse stack.now)) }
+    ensures items { IfOk result
+        (λ s. items_of (frames_or (reverse stack.now) s) ≡ items_of (reverse stack.now)) }
+{
+    match stack.top_and_below() {
+        None => Ok(None),
+        Some((top, below)) => {
+            if has_searched {
+                return Ok(None);
+            }
+            if site.item(top.item).keepend {
+                return Ok(None);
+            }
+            let frame = searched_anew(alloc, site, c, top, looked)?;
+            Ok(remade(alloc, top, below, frame, None)?)
+        }
+    }
+}
+
+/// What the frames become from which one was popped; none where they stay.
+pub(crate) fn frames_after<S: Site>(
+    alloc: Global,
+    site: &S,
+    c: usize,
+    popped: &Frame,
+    below: &Stack,
+    looked: &mut Looked,
+) -> Result<Option<Stack>, Stop>
+    requires valid { S.valid site.now }
+    requires is_item { (popped.now.item).0 < length (S.here site.now).rules.items }
+    requires fits { Fits (length (S.here site.now).rules.items) (reverse below.now) }
+    ensures comes { Comes (frames_or (reverse below.now)) result looked.old looked.new
+        (frames_after (S.here site.now) c popped.now (reverse below.now)) }
+    ensures items { IfOk result
+        (λ s. items_of (frames_or (reverse below.now) s) ≡ items_of (reverse below.now)) }
+{
+    if !site.item(popped.item).extend {
+        return exposed_anew(alloc, site, c, false, below, looked);
+    }
+    let Anew { frames, over } = anew_over_keepend(alloc, site, c, below, looked)?;
+    match frames {
+        None => exposed_anew(alloc, site, c, over, below, looked),
+        Some(frames) => {
+            let exposed = exposed_anew(alloc, site, c, over, &frames, looked)?;
+            Ok(Some(stack_or(frames, exposed)))
+        }
+    }
+}
+
+fn stack_or(stays: Stack, anew: Option<Stack>) -> Stack
+    ensures { reverse result ≡ frames_or (reverse stays) anew }
+{
+    match anew {
+        None => stays,
+        Some(stack) => stack,
+    }
+}
+
+fn line_end_counts(pattern: &Pattern) -> bool
+    ensures { result ≡ line_end_counts pattern.now }
+{
+    pattern.tree.line_end && !pattern.excludenl
+}
+
+fn any_line_end(patterns: &[Pattern]) -> bool
+    ensures { result ≡ list_any line_end_counts patterns.now }
+{
+    patterns.iter().any(|pattern| line_end_counts(pattern))
+}
+
+/// Whether a line end in one of an item's patterns counts.
+fn has_line_end(kind: &ItemKind) -> bool
+    ensures { result ≡ has_line_end kind.now }
+{
+    match kind {
+        ItemKind::Keyword => false,
+        ItemKind::Match(pattern) => line_end_counts(pattern),
+        ItemKind::Region {
+            starts: _,
+            skip: _,
+            ends,
+        } => any_line_end(ends.as_slice()),
+    }
+}
+
+fn any_keepend<S: Site>(site: &S, stack: &Stack) -> bool
+    requires { Fits (length (S.here site.now).rules.items) (reverse stack.now) }
+    ensures { result ≡ list_any (has_keepend (S.here site.now).rules.items) (reverse stack.now) }
+{
+    match stack.top_and_below() {
+        None => false,
+        Some((top, below)) => site.item(top.item).keepend || any_keepend(site, below),
+    }
+}
+
+fn is_region_body_on<S: Site>(site: &S, stack: &Stack) -> bool
+    requires { Fits (length (S.here site.now).rules.items) (reverse stack.now) }
+    ensures { result ≡ is_region_body_on (S.here site.now).rules (reverse stack.now) }
+{
+    match stack.top_and_below() {
+        None => false,
+        Some((top, _)) => is_region_body(site, top),
+    }
+}
+
+/// Whether the container goes on past the line's end, so that closing is over for this line.
+pub(crate) fn container_goes_on<S: Site>(site: &S, c: usize, popped: &Frame, below: &Stack) -> bool
+    requires is_item { (popped.now.item).0 < length (S.here site.now).rules.items }
+    requires fits { Fits (length (S.here site.now).rules.items) (reverse below.now) }
+    ensures { result ≡ container_goes_on (S.here site.now).rules (this_line (S.here site.now)) c
+        popped.now (reverse below.now) }
+{
+    has_line_end(&site.item(popped.item).kind)
+        && !any_keepend(site, below)
+        && is_region_body_on(site, below)
+        && c == site.len()
+}

@@ -1,0 +1,223 @@
+//! The searches of frames for their ends.
+ghost use Rattle.std.specs.Prelude.{◌≡◌, ◌<◌, IfOk, length, true, max};
+ghost use Rattle.std.specs.Option.{option_map};
+ghost use Rattle.paint_rules.specs.Rules.{item_of};
+ghost use Rattle.paint_rules.specs.Close.{is_body, is_region, is_region_body, with_end, searched, search_col, searched_if, searched_anew, is_open, at_line_start};
+ghost use Rattle.line_paint.specs.Answers.{Comes, same};
+ghost use Rattle.line_paint.specs.Frames.{line_end_if, frame_or};
+ghost use Rattle.paint_rules.specs.States.{spot_of};
+
+use crate::spots::spot_of;
+use crate::{Site, Stop};
+use paint_rules::{Part, RegionEnd, Spot};
+use region_ends::EndAnswer;
+use state_stack::Frame;
+use std::alloc::Global;
+use syn_base::{Looked, Memory, Place};
+use syntax_set::ItemKind;
+
+/// A frame with the end that its search found, or with none.
+pub(crate) fn with_end<S: Site>(
+    site: &S,
+    frame: &Frame,
+    found: Option<RegionEnd>,
+) -> Result<Frame, Memory>
+    requires { (frame.now.item).0 < length (S.here site.now).rules.items }
+    ensures { IfOk result (λ f. f ≡ with_end (S.here site.now) frame.now found) }
+{
+    let mut searched = frame.copied()?;
+    match found {
+        Some(e) => {
+            searched.known_end = Some(spot_of(site, e.end));
+            searched.high_to = Some(spot_of(site, e.high_to));
+            searched.area_end = spot_of_end(site, e.area_end);
+            searched.area_high = spot_of_end(site, e.area_high);
+            searched.area_shows = e.area_shows;
+        }
+        None => {
+            searched.known_end = line_end_if(site, site.item(frame.item).oneline);
+            searched.high_to = None;
+            searched.area_end = None;
+            searched.area_high = None;
+            searched.area_shows = None;
+        }
+    }
+    Ok(searched)
+}
+
+fn spot_of_end<S: Site>(site: &S, place: Option<Place>) -> Option<Spot>
+    ensures { result ≡ option_map (spot_of (S.here site.now)) place }
+{
+    match place {
+        None => None,
+        Some(place) => Some(spot_of(site, place)),
+    }
+}
+
+fn line_end_if<S: Site>(site: &S, wanted: bool) -> Option<Spot>
+    ensures { result ≡ line_end_if (S.here site.now) wanted }
+{
+    if wanted {
+        Some(Spot::At {
+            ahead: 0,
+            col: site.len(),
+        })
+    } else {
+        None
+    }
+}
+
+/// Whether a frame is the body of a region.
+pub(crate) fn is_region_body<S: Site>(site: &S, frame: &Frame) -> bool
+    requires { (frame.now.item).0 < length (S.here site.now).rules.items }
+    ensures { result ≡ is_region_body (S.here site.now).rules frame.now }
+{
+    frame.part == Part::Body && is_region(&site.item(frame.item).kind)
+}
+
+fn is_region(kind: &ItemKind) -> bool
+    ensures { result ≡ is_region kind.now }
+{
+    match kind {
+        ItemKind::Keyword => false,
+        ItemKind::Match(_) => false,
+        ItemKind::Region {
+            starts: _,
+            skip: _,
+            ends: _,
+        } => true,
+    }
+}
+
+/// A frame that searched its end in this line, from a column.
+fn searched<S: Site>(
+    alloc: Global,
+    site: &S,
+    frame: &Frame,
+    c: usize,
+    looked: &mut Looked,
+) -> Result<Frame, Stop>
+    requires valid { S.valid site.now }
+    requires is_item { (frame.now.item).0 < length (S.here site.now).rules.items }
+    requires is_region { is_region (item_of (S.here site.now).rules.items frame.now.item).kind
+        ≡ true }
+    ensures comes { Comes same result looked.old looked.new
+        (searched (S.here site.now) frame.now c) }
+    ensures item { IfOk result (λ f. f.item ≡ frame.now.item) }
+{
+    match site.find_end(alloc, frame.item, &frame.externals, c)? {
+        EndAnswer::Ends(end, seen) => {
+            *looked = looked.join(seen);
+            Ok(with_end(site, frame, Some(end))?)
+        }
+        EndAnswer::NotHere(seen) => {
+            *looked = looked.join(seen);
+            Ok(with_end(site, frame, None)?)
+        }
+        EndAnswer::TooCostly => Err(Stop::TooCostly(frame.item)),
+    }
+}
+
+/// The column where a search begins: the frame's search place or this column, whichever is later;
+/// none in a later line.
+fn search_col(c: usize, search: Spot) -> Option<usize>
+    ensures { result ≡ search_col c search }
+{
+    match search {
+        Spot::Past => Some(c),
+        Spot::At { ahead, col } => if ahead == 0 {
+            Some(if c < col { col } else { c })
+        } else {
+            None
+        },
+    }
+}
+
+/// A frame that searched its end from a column, if there is one.
+pub(crate) fn searched_if<S: Site>(
+    alloc: Global,
+    site: &S,
+    frame: &Frame,
+    from: Option<usize>,
+    looked: &mut Looked,
+) -> Result<Option<Frame>, Stop>
+    requires valid { S.valid site.now }
+    requires is_item { (frame.now.item).0 < length (S.here site.now).rules.items }
+    requires is_region { is_region (item_of (S.here site.now).rules.items frame.now.item).kind
+        ≡ true }
+    ensures comes { Comes (frame_or frame.now) result looked.old looked.new
+        (searched_if (S.here site.now) frame.now from) }
+    ensures item { IfOk result (λ f. (frame_or frame.now f).item ≡ frame.now.item) }
+{
+    match from {
+        None => Ok(None),
+        Some(c) => {
+            let searched = searched(alloc, site, frame, c, looked)?;
+            Ok(Some(searched))
+        }
+    }
+}
+
+/// The frame that a region body becomes where it searches anew from a column, or none where it
+/// stays.
+pub(crate) fn searched_anew<S: Site>(
+    alloc: Global,
+    site: &S,
+    c: usize,
+    frame: &Frame,
+    looked: &mut Looked,
+) -> Result<Option<Frame>, Stop>
+    requires valid { S.valid site.now }
+    requires is_item { (frame.now.item).0 < length (S.here site.now).rules.items }
+    ensures comes { Comes (frame_or frame.now) result looked.old looked.new
+        (searched_anew (S.here site.now) c frame.now) }
+    ensures item { IfOk result (λ f. (frame_or frame.now f).item ≡ frame.now.item) }
+{
+    if is_region_body(site, frame) {
+        searched_if(alloc, site, frame, search_col(c, frame.search), looked)
+    } else {
+        Ok(None)
+    }
+}
+
+/// A frame that was made anew, unless it is the same as before: so a stack in the midst of a long
+/// region stays as it is from line to line.
+fn unless_same(frame: &Frame, anew: Option<Frame>) -> Option<Frame>
+    ensures { frame_or frame.now result ≡ frame_or frame.now anew }
+{
+    match anew {
+        None => None,
+        Some(anew) => if frame.same(&anew) { None } else { Some(anew) },
+    }
+}
+
+fn is_open(end: Option<Spot>) -> bool
+    ensures { result ≡ is_open end }
+{
+    match end {
+        None => true,
+        Some(Spot::Past) => true,
+        Some(Spot::At { ahead: _, col: _ }) => false,
+    }
+}
+
+/// The frame that searches at the start of a line, if its end lies before it or isn't known.
+pub(crate) fn at_line_start<S: Site>(
+    alloc: Global,
+    site: &S,
+    frame: &Frame,
+    looked: &mut Looked,
+) -> Result<Option<Frame>, Stop>
+    requires valid { S.valid site.now }
+    requires is_item { (frame.now.item).0 < length (S.here site.now).rules.items }
+    ensures comes { Comes (frame_or frame.now) result looked.old looked.new
+        (at_line_start (S.here site.now) frame.now) }
+    ensures item { IfOk result (λ f. (frame_or frame.now f).item ≡ frame.now.item) }
+{
+    if is_open(frame.known_end) {
+        let searched = searched_anew(alloc, site, 0, frame, looked)?;
+        Ok(unless_same(frame, searched))
+    } else {
+        Ok(None)
+    }
+}

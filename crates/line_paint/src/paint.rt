@@ -1,0 +1,258 @@
+//! Painting a line.
+ghost use Rattle.std.specs.Prelude.{◌≡◌, ◌<◌, ◌≤◌, ◌+◌, ℕ, [], length, drop, reverse, pos, IfOk, Some};
+ghost use Rattle.syn_base.specs.Looked.{one_line, moved_by};
+ghost use Rattle.syn_base.specs.SpansFit.{IsFromColumn};
+ghost use Rattle.paint_rules.specs.Rules.{this_line};
+ghost use Rattle.paint_rules.specs.Close.{line_start};
+ghost use Rattle.paint_rules.specs.Line.{painted_from, painted_line};
+ghost use Rattle.line_paint.specs.Leads.{standing_of, Stands};
+ghost use Rattle.line_paint.specs.Line.{at_of, Paints, Begins, PaintedAs, painted_rest};
+ghost use Rattle.paint_rules.specs.Painted.{looked_first};
+ghost use Rattle.line_paint.specs.Quiet.{IsQuiet};
+ghost use Rattle.paint_rules.specs.States.{Fits, StateFits};
+ghost use Rattle.state_stack.specs.TopFirst.{top_first};
+ghost use Rattle.line_paint.specs.Turns.{Held};
+
+use crate::line_start::line_start;
+use crate::shown::shown;
+use crate::spans::Spans;
+use crate::standing::Standing;
+use crate::{Picker, Site, Stop};
+use paint_rules::Spot;
+use state_stack::{Stack, State};
+use std::alloc::Global;
+use syn_base::{ItemId, List, Looked, Memory, Span};
+
+/// Why a line is not painted, and the column where that came up.
+#[derive(Clone, Copy, Debug, PartialEq, Eq)]
+pub enum PaintError {
+    /// An attempt of one of an item's patterns costs more than the budget.
+    TooCostly { col: usize, item: ItemId },
+    /// What starts would stand on as many frames as a stack may have.
+    TooDeep { col: usize },
+    Memory,
+}
+
+impl From<Memory> for PaintError {
+    ghost use Rattle.std.specs.Prelude.{◌≡◌};
+    ghost use Rattle.line_paint.specs.declared.paint.PaintError.TheVariants as cause;
+
+    ghost from_gives = { λ _ e. e ≡ cause.Memory };
+
+    fn from(_refused: Memory) -> PaintError {
+        PaintError::Memory
+    }
+}
+
+/// A painted line. Its spans stand from the left, each as long as it can be, and a character that
+/// shows no group is in none.
+#[derive(Drop)]
+pub struct LineNote {
+    pub before: State,
+    pub spans: List<Span>,
+    /// Counted from this line, as `before` is.
+    pub after: State,
+    /// Counted from this line, which has the number 0.
+    pub looked: Looked,
+}
+
+fn at(stop: Stop, col: usize) -> PaintError
+    ensures { result ≡ at_of stop col }
+{
+    match stop {
+        Stop::TooCostly(item) => PaintError::TooCostly { col, item },
+        Stop::TooDeep => PaintError::TooDeep { col },
+        Stop::Memory => PaintError::Memory,
+    }
+}
+
+/// The columns of a line, the first one first, and the characters that stand there.
+fn columns<S: Site, M: Picker<S>>(
+    alloc: Global,
+    site: &S,
+    memory: &mut M,
+    standing: &mut Standing,
+) -> Result<List<Span>, PaintError>
+    requires valid { S.valid site.now }
+    requires memory { M.stands memory.old site.now }
+    requires stands { Stands (length (S.here site.now).rules.items) 0 standing.old }
+    requires held { Held (one_line (pos (S.here site.now).line)) standing.old.looked }
+    ensures painted { Paints result standing.old standing.new
+        (painted_from (S.here site.now) 0 (this_line (S.here site.now))
+        (standing_of standing.old)) }
+    ensures memory { M.stands memory.new site.now }
+    ensures fits { IfOk result
+        (λ _. StateFits (length (S.here site.now).rules.items) (top_first standing.new.state)) }
+{
+    let len = site.len();
+    let mut spans = Spans::new(alloc);
+    let mut c = 0;
+    'columns: while c < len {
+        match standing.column(alloc, site, memory, c) {
+            Ok(()) => {}
+            Err(stop) => return Err(at(stop, c)),
+        }
+        let place = Spot::At { ahead: 0, col: c };
+        spans.show(c, shown(site, place, &standing.state.stack))?;
+        forget_tried(alloc, standing);
+        let next = c + 1;
+        let state = &standing.state;
+        let to = memory.quiet_until(alloc, site, next, state, standing.floor, standing.is_over)?;
+        show_quiet(site, standing, &mut spans, next, to)?;
+        c = to;
+    }
+    last_column(alloc, site, memory, c, standing, spans)
+}
+
+/// The next column has tried no item yet.
+fn forget_tried(alloc: Global, standing: &mut Standing)
+    ensures { standing.new ≡ record standing.old { tried = [] } }
+{
+    standing.tried = List::new(alloc);
+}
+
+/// The characters of quiet columns, which show what stands open and change nothing else.
+fn show_quiet<S: Site>(
+    site: &S,
+    standing: &Standing,
+    spans: &mut Spans,
+    from: usize,
+    to: usize,
+) -> Result<(), Memory>
+    requires order { from ≤ to }
+    requires within { to ≤ length (this_line (S.here site.now)) }
+    requires fits { Fits (length (S.here site.now).rules.items) (reverse standing.now.state.stack) }
+    requires held { Held (one_line (pos (S.here site.now).line)) standing.now.looked }
+    requires quiet { (d : ℕ) → from ≤ d → d < to
+        → IsQuiet (S.here site.now) (one_line (pos (S.here site.now).line)) d
+        (standing_of standing.now) }
+    ensures { IfOk result
+        (λ _. looked_first (Some standing.now.looked)
+        (painted_rest (S.here site.now) from (drop from (this_line (S.here site.now)))
+        (standing_of standing.now) spans.old)
+        ≡ looked_first (Some standing.now.looked)
+        (painted_rest (S.here site.now) to (drop to (this_line (S.here site.now)))
+        (standing_of standing.now) spans.new)) }
+{
+    let mut c = from;
+    'quiet: while c < to {
+        let place = Spot::At { ahead: 0, col: c };
+        spans.show(c, shown(site, place, &standing.state.stack))?;
+        c += 1;
+    }
+    Ok(())
+}
+
+/// The line's end, where no character stands.
+fn last_column<S: Site, M: Picker<S>>(
+    alloc: Global,
+    site: &S,
+    memory: &mut M,
+    c: usize,
+    standing: &mut Standing,
+    spans: Spans,
+) -> Result<List<Span>, PaintError>
+    requires valid { S.valid site.now }
+    requires memory { M.stands memory.old site.now }
+    requires end { c ≡ length (this_line (S.here site.now)) }
+    requires stands { Stands (length (S.here site.now).rules.items) c standing.old }
+    requires held { Held (one_line (pos (S.here site.now).line)) standing.old.looked }
+    ensures painted { Paints result standing.old standing.new
+        (painted_rest (S.here site.now) c [] (standing_of standing.old) spans) }
+    ensures memory { M.stands memory.new site.now }
+    ensures fits { IfOk result
+        (λ _. StateFits (length (S.here site.now).rules.items) (top_first standing.new.state)) }
+{
+    match standing.column(alloc, site, memory, c) {
+        Ok(()) => {}
+        Err(stop) => return Err(at(stop, c)),
+    }
+    let all = spans.finish()?;
+    Ok(all)
+}
+
+/// The stack at the start of a line.
+fn first_stack<S: Site>(
+    alloc: Global,
+    site: &S,
+    stack: &Stack,
+    looked: &mut Looked,
+) -> Result<Stack, PaintError>
+    requires valid { S.valid site.now }
+    requires fits { Fits (length (S.here site.now).rules.items) (reverse stack.now) }
+    ensures begins { Begins result looked.old looked.new
+        (line_start (S.here site.now) (reverse stack.now)) }
+    ensures fits { IfOk result (λ s. Fits (length (S.here site.now).rules.items) (reverse s)) }
+{
+    match line_start(alloc, site, stack, looked) {
+        Ok(None) => Ok(stack.copy()?),
+        Ok(Some(anew)) => Ok(anew),
+        Err(stop) => Err(at(stop, 0)),
+    }
+}
+
+/// The painted line alone.
+fn own_line<S: Site>(site: &S) -> Looked
+    ensures { result ≡ one_line (pos (S.here site.now).line) }
+{
+    Looked::one(site.line() as i64)
+}
+
+/// Paints a line from the state before it, by a memory of what starts.
+pub(crate) fn painted_by<S: Site, M: Picker<S>>(
+    alloc: Global,
+    site: &S,
+    memory: &mut M,
+    before: &State,
+) -> Result<LineNote, PaintError>
+    requires valid { S.valid site.now }
+    requires memory { M.stands memory.old site.now }
+    requires fits { StateFits (length (S.here site.now).rules.items) (top_first before.now) }
+    ensures painted { PaintedAs result (S.here site.now).line before.now
+        (painted_line (S.here site.now) (top_first before.now)) }
+    ensures fits { IfOk result
+        (λ note. StateFits (length (S.here site.now).rules.items) (top_first note.after)) }
+    ensures spans { IfOk result
+        (λ note. IsFromColumn 0 (length (this_line (S.here site.now))) note.spans) }
+    ensures memory { M.stands memory.new site.now }
+{
+    let mut looked = own_line(site);
+    let stack = first_stack(alloc, site, &before.stack, &mut looked)?;
+    let mut standing = Standing {
+        state: State {
+            stack,
+            waiting: before.waiting,
+        },
+        floor: 0,
+        tried: List::new(alloc),
+        is_over: false,
+        looked,
+    };
+    let spans = columns(alloc, site, memory, &mut standing)?;
+    let before = before.copy()?;
+    let Standing {
+        state,
+        floor: _,
+        tried: _,
+        is_over: _,
+        looked,
+    } = standing;
+    let looked = counted_here(site, looked)?;
+    Ok(LineNote {
+        before,
+        spans,
+        after: state,
+        looked,
+    })
+}
+
+/// The lines looked at, counted from the painted one. None of them is so far off that its number
+/// leaves 64 bits, so this refuses nothing; it counts as want of memory, that nobody has to know.
+fn counted_here<S: Site>(site: &S, looked: Looked) -> Result<Looked, Memory>
+    ensures { IfOk result (λ here. looked ≡ moved_by here (pos (S.here site.now).line)) }
+{
+    let line = site.line() as i64;
+    let low = looked.low.checked_sub(line).ok_or(Memory)?;
+    let high = looked.high.checked_sub(line).ok_or(Memory)?;
+    Ok(Looked { low, high })
+}

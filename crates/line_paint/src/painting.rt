@@ -1,0 +1,205 @@
+//! Painting a line of a text by the parts of a syntax.
+ghost use Rattle.std.specs.Prelude.{◌≡◌, ◌<◌, ◌≤◌, ◌+◌, length, IfOk};
+ghost use Rattle.syn_base.specs.SpansFit.{IsFromColumn};
+ghost use Rattle.match_rules.specs.Ways.{line_at};
+ghost use Rattle.keyword_table.specs.ItemNumbers.{AreItemsBelow};
+ghost use Rattle.syntax_set.specs.Soundness.{AreSound};
+ghost use Rattle.paint_rules.specs.Rules.{no_externals};
+ghost use Rattle.paint_rules.specs.Line.{painted_line};
+ghost use Rattle.paint_rules.specs.States.{StateFits};
+ghost use Rattle.state_stack.specs.TopFirst.{top_first};
+ghost use Rattle.line_paint.specs.Line.{PaintedAs};
+ghost use Rattle.line_paint.specs.Painting.{here_in};
+ghost use Rattle.item_pick.specs.PartsSeen.{rules_in};
+ghost use Rattle.item_pick.specs.Tables.{TablesStand};
+
+use crate::paint::painted_by;
+use crate::site::Site;
+use crate::{LineNote, PaintError};
+use item_pick::{Parts, PickMemory};
+use paint_rules::Which;
+use pattern_match::Match;
+use region_ends::{EndAnswer, find_end, offset_place};
+use state_stack::State;
+use std::alloc::Global;
+use std::marker::Model;
+use std::rc::Rc;
+use syn_base::{Externals, ItemId, Ledger, Lines, Memory, Place, Steps};
+use syntax_set::{ItemSet, Pattern};
+
+/// Nine empty texts that frames share.
+#[derive(Drop)]
+pub(crate) struct NoExternals {
+    shared: Rc<Externals>,
+}
+
+impl Model for NoExternals {
+    ghost use Rattle.std.specs.Prelude.{◌≡◌, List, ℕ};
+    ghost use Rattle.paint_rules.specs.Rules.{no_externals};
+
+    ghost Value = { List (List ℕ) };
+
+    ghost view = { λ e. e.shared.value };
+
+    ghost invariant = { λ e. e.shared.value ≡ no_externals };
+}
+
+impl NoExternals {
+    fn new(alloc: Global) -> Result<NoExternals, Memory> {
+        let shared = Rc::new(alloc, Externals::none(alloc)?)?;
+        Ok(NoExternals { shared })
+    }
+
+    fn shared(&self) -> &Rc<Externals>
+        ensures { result.now.value ≡ no_externals }
+    {
+        &self.shared
+    }
+}
+
+/// A line of a text, and the parts of a syntax, asked within a budget.
+#[derive_where(Clone, Copy)]
+pub(crate) struct Painting<'a, T: Lines> {
+    pub(crate) parts: &'a Parts<'a>,
+    pub(crate) lines: &'a T,
+    pub(crate) line: u32,
+    /// The most that one attempt may cost.
+    pub(crate) budget: u64,
+    pub(crate) no_externals: &'a NoExternals,
+}
+
+impl<T: Lines> Site for Painting<'_, T> {
+    ghost use Rattle.line_paint.specs.Painting.{here_in, MayBeAsked};
+
+    ghost here = { λ p. here_in p.parts.now p.budget (T.lines p.lines.now) p.line };
+
+    ghost valid = { λ p. MayBeAsked p.parts.now p.budget (T.lines p.lines.now) p.line };
+
+    fn line(&self) -> usize {
+        self.line as usize
+    }
+
+    fn len(&self) -> usize {
+        let line = self.line as usize;
+        if line < self.lines.len() {
+            self.lines.line(line).len()
+        } else {
+            0
+        }
+    }
+
+    fn items(&self) -> &ItemSet {
+        self.parts.items
+    }
+
+    fn no_externals(&self) -> &Rc<Externals> {
+        self.no_externals.shared()
+    }
+
+    fn offset_place(&self, m: &Match, pattern: &Pattern, which: Which) -> Place {
+        offset_place(self.lines, m, pattern, which)
+    }
+
+    fn find_end(
+        &self,
+        alloc: Global,
+        region: ItemId,
+        externals: &Externals,
+        c: usize,
+    ) -> Result<EndAnswer, Memory> {
+        let from = Place {
+            line: self.line as usize,
+            col: c,
+        };
+        let parts = self.parts;
+        find_end(
+            alloc,
+            parts.items,
+            parts.programs,
+            parts.sets,
+            self.lines,
+            region,
+            externals,
+            from,
+            self.budget,
+        )
+    }
+}
+
+/// Paints a line, counted from 0, from the state before it, by the parts of a syntax. Each attempt
+/// of a pattern costs at most `budget`. The lines looked at count from the painted one.
+pub fn paint_line<T: Lines, L: Ledger>(
+    alloc: Global,
+    parts: &Parts,
+    lines: &T,
+    line: usize,
+    before: &State,
+    budget: u64,
+    steps: &mut Steps<L>,
+) -> Result<LineNote, PaintError>
+    requires patterns { AreSound parts.now.items.now parts.now.programs.now }
+    requires words { AreItemsBelow (length parts.now.items.now) parts.now.keywords.now }
+    requires present { line < length (T.lines lines.now) }
+    requires fits { StateFits (length parts.now.items.now) (top_first before.now) }
+    requires budget { 1 ≤ budget }
+    ensures painted { PaintedAs result line before.now
+        (painted_line (here_in parts.now budget (T.lines lines.now) line) (top_first before.now)) }
+    ensures fits { IfOk result
+        (λ note. StateFits (length parts.now.items.now) (top_first note.after)) }
+    ensures spans { IfOk result
+        (λ note. IsFromColumn 0 (length (line_at (T.lines lines.now) line)) note.spans) }
+    ensures steps { steps.new ≡ steps.old + 1 }
+{
+    let mut memory = PickMemory::new(alloc);
+    paint_line_with(
+        alloc,
+        parts,
+        lines,
+        line,
+        before,
+        budget,
+        &mut memory,
+        steps,
+    )
+}
+
+/// The same, with what is kept of the syntax and the budget, which changes no answer.
+pub fn paint_line_with<T: Lines, L: Ledger>(
+    alloc: Global,
+    parts: &Parts,
+    lines: &T,
+    line: usize,
+    before: &State,
+    budget: u64,
+    memory: &mut PickMemory,
+    steps: &mut Steps<L>,
+) -> Result<LineNote, PaintError>
+    requires patterns { AreSound parts.now.items.now parts.now.programs.now }
+    requires words { AreItemsBelow (length parts.now.items.now) parts.now.keywords.now }
+    requires present { line < length (T.lines lines.now) }
+    requires fits { StateFits (length parts.now.items.now) (top_first before.now) }
+    requires budget { 1 ≤ budget }
+    requires memory { TablesStand (rules_in parts.now budget) memory.old }
+    ensures painted { PaintedAs result line before.now
+        (painted_line (here_in parts.now budget (T.lines lines.now) line) (top_first before.now)) }
+    ensures fits { IfOk result
+        (λ note. StateFits (length parts.now.items.now) (top_first note.after)) }
+    ensures spans { IfOk result
+        (λ note. IsFromColumn 0 (length (line_at (T.lines lines.now) line)) note.spans) }
+    ensures memory { TablesStand (rules_in parts.now budget) memory.new }
+    ensures steps { steps.new ≡ steps.old + 1 }
+{
+    steps.add_one();
+    // The proof needs the bounds that this call tells of the text.
+    let _count = lines.len();
+    let no_externals = NoExternals::new(alloc)?;
+    let painting = Painting {
+        parts,
+        lines,
+        line: line as u32,
+        budget,
+        no_externals: &no_externals,
+    };
+    memory.enter_line(parts, lines.line(line))?;
+    painted_by(alloc, &painting, memory, before)
+}

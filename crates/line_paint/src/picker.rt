@@ -1,0 +1,76 @@
+//! What starts at a place, by a memory that outlives a line.
+ghost use Rattle.std.specs.Prelude.{◌≡◌, ◌<◌, ◌≤◌, ℕ, Bool, [], length, reverse, IfOk, pos, Some};
+ghost use Rattle.syn_base.specs.Looked.{one_line};
+ghost use Rattle.paint_rules.specs.Rules.{this_line};
+ghost use Rattle.paint_rules.specs.Painted.{looked_first};
+ghost use Rattle.paint_rules.specs.Pick.{picked};
+ghost use Rattle.item_pick.specs.Picks.{IsPicked};
+ghost use Rattle.line_paint.specs.Quiet.{IsQuiet};
+ghost use Rattle.state_stack.specs.TopFirst.{top_first};
+ghost use Rattle.paint_rules.specs.States.{StateFits};
+
+use crate::Site;
+use item_pick::Picked;
+use state_stack::State;
+use std::alloc::Global;
+use syn_base::{ItemId, List, Memory};
+
+/// What starts at a place of a line, told by a memory that outlives the line.
+pub(crate) trait Picker<S: Site> {
+    /// Whether what it remembers is true of a line.
+    ghost stands: { Self → S → Type 0 };
+
+    fn pick(
+        &mut self,
+        alloc: Global,
+        site: &S,
+        c: usize,
+        state: &State,
+        floor: usize,
+        tried: &List<ItemId>,
+    ) -> Result<Picked, Memory>
+        requires valid { S.valid site.now }
+        requires memory { stands self.old site.now }
+        requires floor { floor ≤ c }
+        requires within { c ≤ length (this_line (S.here site.now)) }
+        requires fits { StateFits (length (S.here site.now).rules.items) (top_first state.now) }
+        ensures memory { stands self.new site.now }
+        ensures picked { IfOk result
+            (λ a. (over : Bool) → IsPicked (S.here site.now).rules.items a
+            (looked_first (Some (one_line (pos (S.here site.now).line)))
+            (picked (S.here site.now) c
+            (record {
+              stack = reverse state.now.stack;
+              waiting = state.now.waiting;
+              floor = floor;
+              tried = reverse tried.now;
+              is_over = over;
+            })))) };
+
+    /// A column from `c` on, up to the line's end, before which all from `c` on are quiet.
+    fn quiet_until(
+        &mut self,
+        alloc: Global,
+        site: &S,
+        c: usize,
+        state: &State,
+        floor: usize,
+        is_over: bool,
+    ) -> Result<usize, Memory>
+        requires valid { S.valid site.now }
+        requires memory { stands self.old site.now }
+        requires within { c ≤ length (this_line (S.here site.now)) }
+        requires fits { StateFits (length (S.here site.now).rules.items) (top_first state.now) }
+        ensures memory { stands self.new site.now }
+        ensures quiet { IfOk result (λ to. (d : ℕ) → c ≤ d → d < to
+            → IsQuiet (S.here site.now) (one_line (pos (S.here site.now).line)) d
+            (record {
+              stack = reverse state.now.stack;
+              waiting = state.now.waiting;
+              floor = floor;
+              tried = [];
+              is_over = is_over;
+            })) }
+        ensures from { IfOk result (λ to. c ≤ to) }
+        ensures to { IfOk result (λ to. to ≤ length (this_line (S.here site.now))) };
+}

@@ -1,0 +1,67 @@
+//! What starts in a line, by what is kept of the syntax.
+use crate::painting::Painting;
+use crate::picker::Picker;
+use crate::staying::closes_from;
+use item_pick::{PickMemory, Picked, pick_with, quiet_until};
+use state_stack::State;
+use std::alloc::Global;
+use syn_base::{ItemId, Lines, List, Memory, Place};
+
+impl<T: Lines> Picker<Painting<'_, T>> for PickMemory {
+    ghost use Rattle.match_rules.specs.Ways.{line_at};
+    ghost use Rattle.item_pick.specs.PartsSeen.{rules_in};
+    ghost use Rattle.item_pick.specs.Tables.{MemoryStands};
+
+    ghost stands = { λ memory p. MemoryStands (rules_in p.parts.now p.budget)
+        (line_at (T.lines p.lines.now) p.line) memory };
+
+    fn pick(
+        &mut self,
+        alloc: Global,
+        site: &Painting<'_, T>,
+        c: usize,
+        state: &State,
+        floor: usize,
+        tried: &List<ItemId>,
+    ) -> Result<Picked, Memory> {
+        let at = Place {
+            line: site.line as usize,
+            col: c,
+        };
+        pick_with(
+            alloc,
+            site.parts,
+            site.lines,
+            at,
+            state,
+            floor,
+            tried,
+            self,
+            site.budget,
+        )
+    }
+
+    fn quiet_until(
+        &mut self,
+        alloc: Global,
+        site: &Painting<'_, T>,
+        c: usize,
+        state: &State,
+        _floor: usize,
+        is_over: bool,
+    ) -> Result<usize, Memory> {
+        if state.waiting.is_some() {
+            return Ok(c);
+        }
+        let closes = closes_from(site, &state.stack, is_over);
+        if closes <= c {
+            return Ok(c);
+        }
+        let at = Place {
+            line: site.line as usize,
+            col: c,
+        };
+        let starts = quiet_until(alloc, site.parts, site.lines, at, state, self, site.budget)?;
+        Ok(closes.min(starts))
+    }
+}

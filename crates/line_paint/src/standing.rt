@@ -1,0 +1,137 @@
+//! What the painting of a line carries along.
+ghost use Rattle.std.specs.Prelude.{◌≡◌, ◌<◌, length, reverse, IfOk};
+ghost use Rattle.paint_rules.specs.Close.{body_after_area, frames_after, close_once, closed};
+ghost use Rattle.line_paint.specs.Answers.{Comes};
+ghost use Rattle.line_paint.specs.Leads.{standing_of, Stands, Leads, LeadsOn};
+ghost use Rattle.paint_rules.specs.States.{Fits};
+ghost use Rattle.line_paint.specs.Standing.{items_of};
+
+use crate::closing::{
+    Closing, area_on, body_after_area, closing_of, container_goes_on, frames_after, waiting_after,
+};
+use crate::{Site, Stop};
+use paint_rules::Spot;
+use state_stack::{Frame, Stack, State};
+use std::alloc::Global;
+use syn_base::{ItemId, List, Looked};
+
+/// What the painting of a line carries along: the state, the column of the last start or close, the
+/// items that have started at this place, whether closing is over for this line, and the lines
+/// looked at.
+#[derive(Drop)]
+pub(crate) struct Standing {
+    pub state: State,
+    pub floor: usize,
+    pub tried: List<ItemId>,
+    pub is_over: bool,
+    pub looked: Looked,
+}
+
+/// The stack under a start area that was popped.
+fn under_area<S: Site>(
+    alloc: Global,
+    site: &S,
+    below: &Stack,
+    looked: &mut Looked,
+) -> Result<Stack, Stop>
+    requires valid { S.valid site.now }
+    requires fits { Fits (length (S.here site.now).rules.items) (reverse below.now) }
+    ensures comes { Comes reverse result looked.old looked.new
+        (body_after_area (S.here site.now) (reverse below.now)) }
+    ensures items { IfOk result (λ s. items_of (reverse s) ≡ items_of (reverse below.now)) }
+{
+    match body_after_area(alloc, site, below, looked)? {
+        None => Ok(below.copy()?),
+        Some(stack) => Ok(stack),
+    }
+}
+
+/// The stack under another frame that was popped.
+fn under_popped<S: Site>(
+    alloc: Global,
+    site: &S,
+    c: usize,
+    popped: &Frame,
+    below: &Stack,
+    looked: &mut Looked,
+) -> Result<Stack, Stop>
+    requires valid { S.valid site.now }
+    requires is_item { (popped.now.item).0 < length (S.here site.now).rules.items }
+    requires fits { Fits (length (S.here site.now).rules.items) (reverse below.now) }
+    ensures comes { Comes reverse result looked.old looked.new
+        (frames_after (S.here site.now) c popped.now (reverse below.now)) }
+    ensures items { IfOk result (λ s. items_of (reverse s) ≡ items_of (reverse below.now)) }
+{
+    match frames_after(alloc, site, c, popped, below, looked)? {
+        None => Ok(below.copy()?),
+        Some(stack) => Ok(stack),
+    }
+}
+
+impl Standing {
+    /// One step of closing; false where the top frame stays.
+    fn close_once<S: Site>(&mut self, alloc: Global, site: &S, c: usize) -> Result<bool, Stop>
+        requires valid { S.valid site.now }
+        requires stands { Stands (length (S.here site.now).rules.items) c self.old }
+        ensures leads { LeadsOn result self.old self.new
+            (close_once (S.here site.now) c (standing_of self.old) (reverse self.old.state.stack)) }
+        ensures stands { IfOk result
+            (λ _. Stands (length (S.here site.now).rules.items) c self.new) }
+    {
+        if self.is_over {
+            return Ok(false);
+        }
+        let place = Spot::At { ahead: 0, col: c };
+        match self.state.stack.top_and_below() {
+            None => Ok(false),
+            Some((top, below)) => match closing_of(site, place, top, below) {
+                Closing::Stays => Ok(false),
+                Closing::BecomesArea => {
+                    let stack = area_on(alloc, place, top, below)?;
+                    self.state.stack = stack;
+                    self.state.waiting = None;
+                    Ok(true)
+                }
+                Closing::LeavesArea => {
+                    let stack = under_area(alloc, site, below, &mut self.looked)?;
+                    self.state.stack = stack;
+                    self.state.waiting = None;
+                    self.floor = c;
+                    Ok(true)
+                }
+                Closing::Leaves => {
+                    let stack = under_popped(alloc, site, c, top, below, &mut self.looked)?;
+                    let waiting = waiting_after(site, c, top.item);
+                    let is_over = container_goes_on(site, c, top, below);
+                    self.state.stack = stack;
+                    self.state.waiting = waiting;
+                    self.floor = c;
+                    self.is_over = is_over;
+                    Ok(true)
+                }
+            },
+        }
+    }
+
+    /// Closes all that ends at a place.
+    pub(crate) fn close<S: Site>(&mut self, alloc: Global, site: &S, c: usize) -> Result<(), Stop>
+        requires valid { S.valid site.now }
+        requires stands { Stands (length (S.here site.now).rules.items) c self.old }
+        ensures leads { Leads result self.old self.new
+            (closed (S.here site.now) c (standing_of self.old)) }
+        ensures stands { IfOk result
+            (λ _. Stands (length (S.here site.now).rules.items) c self.new) }
+    {
+        let len = self.state.stack.len();
+        let mut left = len + len;
+        'steps: while left > 0 {
+            left -= 1;
+            match self.close_once(alloc, site, c) {
+                Ok(true) => {}
+                Ok(false) => return Ok(()),
+                Err(stop) => return Err(stop),
+            }
+        }
+        Ok(())
+    }
+}

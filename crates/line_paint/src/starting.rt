@@ -1,0 +1,210 @@
+//! What a pick started.
+ghost use Rattle.std.specs.Prelude.{◌≡◌, ◌<◌, ◌≤◌, length, reverse, slice_get, IfOk, ◌∷◌, None};
+ghost use Rattle.paint_rules.specs.Pick.{started, started_at, AWord, AMatch, AnEmpty, ARegion};
+ghost use Rattle.paint_rules.specs.Pick as rule;
+ghost use Rattle.item_pick.specs.Starts.{IsStarting};
+ghost use Rattle.line_paint.specs.Leads.{standing_of, Stands, Leads};
+ghost use Rattle.line_paint.specs.Starting.{start_one, start_two};
+
+use crate::closing::waiting_after;
+use crate::new_frames::{
+    body_ended, match_frame, open_area, open_body, pushed, shared, shared_again, with_externals,
+    word_frame,
+};
+use crate::standing::Standing;
+use crate::{Site, Stop};
+use item_pick::Starting;
+use paint_rules::{RegionEnd, Waiting};
+use pattern_match::Match;
+use state_stack::{Frame, Stack, State};
+use std::alloc::Global;
+use syn_base::{ItemId, Memory};
+use syntax_set::{ItemKind, Pattern};
+
+impl Standing {
+    /// An item has started at a column.
+    fn start_on(
+        &mut self,
+        stack: Stack,
+        waiting: Option<Waiting>,
+        c: usize,
+        item: ItemId,
+    ) -> Result<(), Memory>
+        ensures standing { IfOk result
+            (λ _. standing_of self.new
+            ≡ started_at c item (standing_of self.old) (reverse stack) waiting) }
+        ensures looked { IfOk result (λ _. self.new.looked ≡ self.old.looked) }
+        ensures waits { IfOk result (λ _. self.new.state.waiting ≡ waiting) }
+    {
+        self.state = State { stack, waiting };
+        self.floor = c;
+        self.tried.push(item)?;
+        Ok(())
+    }
+
+    /// An item starts with a frame.
+    fn start_one(&mut self, alloc: Global, c: usize, item: ItemId, frame: Frame) -> Result<(), Stop>
+        ensures leads { Leads result self.old self.new
+            (start_one c item (standing_of self.old) frame) }
+        ensures frames { IfOk result
+            (λ _. reverse self.new.state.stack ≡ frame ∷ reverse self.old.state.stack) }
+        ensures floor { IfOk result (λ _. self.new.floor ≡ c) }
+        ensures waits { IfOk result (λ _. self.new.state.waiting ≡ None) }
+    {
+        match pushed(alloc, &self.state.stack, frame) {
+            Ok(stack) => Ok(self.start_on(stack, None, c, item)?),
+            Err(stop) => Err(stop),
+        }
+    }
+
+    /// An item starts with two frames.
+    fn start_two(
+        &mut self,
+        alloc: Global,
+        c: usize,
+        item: ItemId,
+        body: Frame,
+        area: Frame,
+    ) -> Result<(), Stop>
+        ensures leads { Leads result self.old self.new
+            (start_two c item (standing_of self.old) body area) }
+        ensures frames { IfOk result
+            (λ _. reverse self.new.state.stack ≡ area ∷ body ∷ reverse self.old.state.stack) }
+        ensures floor { IfOk result (λ _. self.new.floor ≡ c) }
+        ensures waits { IfOk result (λ _. self.new.state.waiting ≡ None) }
+    {
+        match pushed(alloc, &self.state.stack, body) {
+            Ok(below) => match pushed(alloc, &below, area) {
+                Ok(stack) => Ok(self.start_on(stack, None, c, item)?),
+                Err(stop) => Err(stop),
+            },
+            Err(stop) => Err(stop),
+        }
+    }
+
+    fn start_word<S: Site>(
+        &mut self,
+        alloc: Global,
+        site: &S,
+        c: usize,
+        item: ItemId,
+        end: usize,
+    ) -> Result<(), Stop>
+        requires is_item { item.0 < length (S.here site.now).rules.items }
+        requires stands { Stands (length (S.here site.now).rules.items) c self.old }
+        ensures leads { Leads result self.old self.new
+            (started (S.here site.now) c (standing_of self.old) (AWord item end)) }
+        ensures stands { IfOk result
+            (λ _. Stands (length (S.here site.now).rules.items) c self.new) }
+    {
+        let frame = word_frame(site, c, item, end)?;
+        self.start_one(alloc, c, item, frame)
+    }
+
+    fn start_match<S: Site>(
+        &mut self,
+        alloc: Global,
+        site: &S,
+        c: usize,
+        item: ItemId,
+        pattern: &Pattern,
+        m: &Match,
+    ) -> Result<(), Stop>
+        requires is_item { item.0 < length (S.here site.now).rules.items }
+        requires stands { Stands (length (S.here site.now).rules.items) c self.old }
+        ensures leads { Leads result self.old self.new
+            (started (S.here site.now) c (standing_of self.old) (AMatch item pattern.now m.now)) }
+        ensures stands { IfOk result
+            (λ _. Stands (length (S.here site.now).rules.items) c self.new) }
+    {
+        let frame = match_frame(site, c, item, pattern, m)?;
+        self.start_one(alloc, c, item, frame)
+    }
+
+    fn start_empty<S: Site>(&mut self, site: &S, c: usize, item: ItemId) -> Result<(), Stop>
+        requires is_item { item.0 < length (S.here site.now).rules.items }
+        requires stands { Stands (length (S.here site.now).rules.items) c self.old }
+        ensures leads { Leads result self.old self.new
+            (started (S.here site.now) c (standing_of self.old) (AnEmpty item)) }
+        ensures stands { IfOk result
+            (λ _. Stands (length (S.here site.now).rules.items) c self.new) }
+    {
+        let stack = self.state.stack.copy()?;
+        let waiting = waiting_after(site, c, item);
+        Ok(self.start_on(stack, waiting, c, item)?)
+    }
+
+    fn start_region<S: Site>(
+        &mut self,
+        alloc: Global,
+        site: &S,
+        c: usize,
+        item: ItemId,
+        pattern: &Pattern,
+        m: Match,
+        end: Option<RegionEnd>,
+    ) -> Result<(), Stop>
+        requires is_item { item.0 < length (S.here site.now).rules.items }
+        requires stands { Stands (length (S.here site.now).rules.items) c self.old }
+        ensures leads { Leads result self.old self.new
+            (started (S.here site.now) c (standing_of self.old) (ARegion item pattern.now m end)) }
+        ensures stands { IfOk result
+            (λ _. Stands (length (S.here site.now).rules.items) c self.new) }
+    {
+        let open = open_body(site, c, item, pattern, &m)?;
+        match pattern.matchgroup {
+            None => {
+                let body = with_externals(open, shared(alloc, m)?);
+                let body = body_ended(site, body, end)?;
+                self.start_one(alloc, c, item, body)
+            }
+            Some(group) => {
+                let area = open_area(site, c, item, pattern, &m, group)?;
+                let externals = shared(alloc, m)?;
+                let body = with_externals(open, shared_again(&externals)?);
+                let body = body_ended(site, body, end)?;
+                self.start_two(alloc, c, item, body, with_externals(area, externals))
+            }
+        }
+    }
+
+    /// What a pick has found starts.
+    pub(crate) fn start<S: Site>(
+        &mut self,
+        alloc: Global,
+        site: &S,
+        c: usize,
+        starting: Starting,
+    ) -> Result<(), Stop>
+        requires starting { (t : rule.Starting)
+            × IsStarting (S.here site.now).rules.items starting t }
+        requires stands { Stands (length (S.here site.now).rules.items) c self.old }
+        ensures leads { (t : rule.Starting) → IsStarting (S.here site.now).rules.items starting t
+            → Leads result self.old self.new
+            (started (S.here site.now) c (standing_of self.old) t) }
+        ensures stands { IfOk result
+            (λ _. Stands (length (S.here site.now).rules.items) c self.new) }
+    {
+        match starting {
+            Starting::Word { item, end } => self.start_word(alloc, site, c, item, end),
+            Starting::Empty { item } => self.start_empty(site, c, item),
+            Starting::Matched { item, m } => match &site.item(item).kind {
+                ItemKind::Match(pattern) => self.start_match(alloc, site, c, item, pattern, &m),
+                _ => unreachable!(),
+            },
+            Starting::Region {
+                item,
+                start,
+                m,
+                end,
+            } => match &site.item(item).kind {
+                ItemKind::Region {
+                    starts,
+                    skip: _,
+                    ends: _,
+                } => self.start_region(alloc, site, c, item, starts.get(start), m, end),
+                _ => unreachable!(),
+            },
+        }
+    }
+}

@@ -1,0 +1,3 @@
+pub mod PaintedLaws
+pub mod Sample
+mod Rows

@@ -1,0 +1,12 @@
+pub mod Stands
+pub mod Taking
+pub mod StillAtoms
+pub mod StillParts
+pub mod LinedParts
+pub mod LooseLooks
+pub mod Screened
+pub mod FirstScreens
+pub mod StillLaws
+pub mod BoundLaws
+pub mod KeyLaws
+mod Rows

@@ -1,0 +1,87 @@
+-- Worked rows: what screens say of patterns, and what their attempts do.
+use Rattle.std.specs.Prelude.{◌≡◌, ℕ, true, false, List, [], ◌∷◌, None, codes, pos, refl}
+use Rattle.char_class.specs.CharSet.{set_has, is_member}
+use Rattle.char_class.specs.Folds.{is_same, range_holds}
+use Rattle.char_class.specs.declared.sets.Sets.{Sets}
+use Rattle.syn_base.specs.Looked.{one_line}
+use Rattle.pattern_items.specs.declared.atom.Atom.TheVariants.{Char, LineStart, WordStart, FileStart, MatchStart}
+use Rattle.pattern_items.specs.declared.item.Behind.TheVariants as behind
+use Rattle.vim_pattern.specs.Tree.{PatternTree}
+use Rattle.vim_pattern.specs.Shape.{Shape, one, seq, or, group, repeat, ahead, before}
+use Rattle.match_rules.specs.Ways.{place}
+use Rattle.match_rules.specs.Attempt.{search, lines_of}
+use Rattle.pattern_screens.specs.FirstAtoms.{first_cost}
+use Rattle.pattern_screens.specs.Keys.{key_of}
+use Rattle.pattern_screens.specs.Screens.{verdict}
+use Rattle.pattern_screens.specs.Bounds.{most_cost}
+use Rattle.pattern_screens.specs.declared.verdict.Verdict.{Verdict}
+use Rattle.pattern_screens.specs.declared.verdict.Verdict.TheVariants.{Passes, Fails, FailsSeeingBefore}
+
+abbrev ch : ℕ → Shape
+ch c = one (Char c)
+
+-- words are of small letters here
+abbrev letters : Sets
+letters = record { ident = codes "abcdefghijklmnopqrstuvwxyz"; keyword = codes "abcdefghijklmnopqrstuvwxyz"; file = codes "abcdefghijklmnopqrstuvwxyz" }
+
+abbrev tree_of : Shape → PatternTree
+tree_of node = record { node = node; case = None; groups = 0; externals = 0; moves_start = false; line_end = false }
+
+abbrev screen : Shape → List ℕ → ℕ → Verdict
+screen node line col = verdict letters false (key_of letters line col) (tree_of node)
+
+-- `\(a\)\@1<!b` at the `c` of `cab`, and at its `b`
+pub behind_then_character : screen (seq (before (group (ch 97) 1) true (behind.Most 1)) (ch 98)) (codes "cab") 0 ≡ FailsSeeingBefore
+unfolding is_same set_has is_member range_holds
+behind_then_character = refl
+
+pub behind_and_taken : screen (seq (before (group (ch 97) 1) true (behind.Most 1)) (ch 98)) (codes "cab") 2 ≡ Passes
+unfolding is_same set_has is_member range_holds
+behind_and_taken = refl
+
+-- `a*b` at the `c`: the head is passed over
+pub optional_head : screen (seq (repeat (ch 97) 0 None false) (ch 98)) (codes "cab") 0 ≡ Fails
+unfolding is_same set_has is_member range_holds
+optional_head = refl
+
+pub optional_head_taken : screen (seq (repeat (ch 97) 0 None false) (ch 98)) (codes "cab") 1 ≡ Passes
+unfolding is_same set_has is_member range_holds
+optional_head_taken = refl
+
+-- `\<a` inside a word, and `^a` behind the first column
+pub inside_a_word : screen (seq (one WordStart) (ch 97)) (codes "cab") 1 ≡ Fails
+unfolding is_same set_has is_member range_holds
+inside_a_word = refl
+
+pub behind_the_line_start : screen (seq (one LineStart) (ch 97)) (codes "cab") 1 ≡ Fails
+unfolding is_same set_has is_member range_holds
+behind_the_line_start = refl
+
+-- `\(ab\)\@!a` at the `c`, where the look may go on
+pub look_that_may_go_on : screen (seq (ahead (seq (ch 97) (ch 98)) true) (ch 97)) (codes "cab") 0 ≡ Fails
+unfolding is_same set_has is_member range_holds
+look_that_may_go_on = refl
+
+-- `\(\zs\|\%^\)\@=x`: the look ends at its first way, so whether the line before is looked at isn't told
+pub cut_look : screen (seq (ahead (or (one MatchStart) (one FileStart)) false) (ch 120)) (codes "cab") 1 ≡ Passes
+unfolding is_same set_has is_member range_holds
+cut_look = refl
+
+-- `a\|b` costs two, `a*b` is another pattern
+pub two_first_atoms : first_cost (or (ch 97) (ch 98)) ≡ 2
+two_first_atoms = refl
+
+pub other_pattern : first_cost (seq (repeat (ch 97) 0 None false) (ch 98)) ≡ 1
+other_pattern = refl
+
+pub bound_of_a_head : most_cost (seq (repeat (ch 97) 0 None false) (ch 98)) ≡ 2
+bound_of_a_head = refl
+
+-- behind an atom that takes something nothing is tried
+pub bound_of_a_word : most_cost (seq (ch 97) (seq (ch 98) (ch 99))) ≡ 1
+bound_of_a_word = refl
+
+-- the attempt of the cut look looks at its line alone
+pub cut_look_sees_its_line : lines_of (place 1 1) (search (record { text = codes "x" ∷ codes "cab" ∷ []; ignore = false; sets = letters; externals = [] }) (seq (ahead (or (one MatchStart) (one FileStart)) false) (ch 120)) (place 1 1)) ≡ one_line (pos 1)
+unfolding is_same set_has is_member range_holds
+cut_look_sees_its_line = refl

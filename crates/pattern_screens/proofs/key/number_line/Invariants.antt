@@ -1,0 +1,10 @@
+use Rattle.std.proofs.Common.{◌≡◌}
+use Rattle.pattern_screens.specs.Keys.{AreNumbers, last_in}
+use Rattle.pattern_screens.proofs.key.number_line.Given as goal
+
+-- the columns before have their numbers
+abbrev pub invariant-loop-col : goal.invariant-loop-col
+invariant-loop-col l = record {
+  last : l.last ≡ last_in l.sets l.line l.col;
+  numbers : AreNumbers l.sets l.line l.col l.numbers.items;
+}

@@ -1,0 +1,10 @@
+use Rattle.std.proofs.Common.{ℕ, List}
+use Rattle.char_class.specs.declared.sets.Sets.{Sets}
+use Rattle.vim_pattern.specs.Tree.{PatternTree}
+use Rattle.pattern_screens.specs.Memo.{MemoStands}
+use Rattle.pattern_screens.proofs.memo.LineMemo.fill.Given as goal
+
+-- what stood before still does
+abbrev pub invariant-loop : goal.invariant-loop
+invariant-loop l =
+    (trees : List PatternTree) (sets : Sets) (line : List ℕ) → MemoStands trees sets line l.initial.self → MemoStands trees sets line l.self

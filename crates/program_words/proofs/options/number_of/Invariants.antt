@@ -1,0 +1,9 @@
+use Rattle.std.proofs.Common.{◌≡◌, ◌≤◌, drop}
+use Rattle.std.specs.Prelude.{Some}
+use Rattle.program_words.specs.Words.{number_after}
+use Rattle.program_words.proofs.options.number_of.Given as goal
+
+abbrev pub invariant-loop-byte : goal.invariant-loop-byte
+invariant-loop-byte l =
+    (l.number ≤ 1000000000)
+    × (number_after (Some 0) l.digits ≡ number_after (Some l.number) (drop l.byte-index l.digits))

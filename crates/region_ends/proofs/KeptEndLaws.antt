@@ -1,0 +1,30 @@
+-- The frames up to one, its top first.
+use Rattle.std.proofs.Common.{◌≡◌, ℕ, suc, ◌<◌, List, [], ◌∷◌, ◌++◌, length, take, reverse, sym, ap, ◌∙◌, arith, length-append}
+use Rattle.std.proofs.lemmas.List.{reverse-append, reverse-reverse, take-append-le}
+use Rattle.std.proofs.Math.Seq.{take-length}
+use Rattle.syntax_set.specs.declared.added_item.AddedItem.{AddedItem}
+use Rattle.paint_rules.specs.Frames.{Frame}
+use Rattle.paint_rules.specs.KeptEnd.{kept_end_over}
+use Rattle.region_ends.specs.KeptEnd.{kept_end, kept_end_of_first}
+
+stack_is : (stack below : List Frame) (top : Frame) → reverse stack ≡ top ∷ reverse below → stack ≡ below ++ top ∷ []
+stack_is stack below top e =
+    sym (reverse-reverse stack) ∙ (ap reverse e
+    ∙ (reverse-append (top ∷ []) (reverse below) ∙ ap (λ fs. fs ++ top ∷ []) (reverse-reverse below)))
+
+pub one_more : (stack below : List Frame) (top : Frame) → reverse stack ≡ top ∷ reverse below → length stack ≡ suc (length below)
+one_more stack below top e =
+    ap length (stack_is stack below top e) ∙ (length-append below (top ∷ []) ∙ omega arith)
+
+pub kept_at_top : (items : List AddedItem) (stack below : List Frame) (top : Frame) (i : ℕ) → reverse stack ≡ top ∷ reverse below → i ≡ length below →
+    kept_end items stack i ≡ kept_end_over items top (reverse below)
+kept_at_top items stack below top i e h =
+    let n : suc i ≡ length stack = ap suc h ∙ sym (one_more stack below top e) in
+    ap (λ n. kept_end_of_first items (reverse (take n stack))) n
+    ∙ (ap (λ fs. kept_end_of_first items (reverse fs)) (take-length stack) ∙ ap (kept_end_of_first items) e)
+
+pub kept_below : (items : List AddedItem) (stack below : List Frame) (top : Frame) (i : ℕ) → reverse stack ≡ top ∷ reverse below → i < length below →
+    kept_end items stack i ≡ kept_end items below i
+kept_below items stack below top i e h =
+    ap (λ fs. kept_end_of_first items (reverse (take (suc i) fs))) (stack_is stack below top e)
+    ∙ ap (λ fs. kept_end_of_first items (reverse fs)) (take-append-le (suc i) below (top ∷ []) (omega arith))

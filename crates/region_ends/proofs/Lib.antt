@@ -1,0 +1,3 @@
+pub mod AttemptLaws
+pub mod KeptEndLaws
+pub mod SearchLaws

@@ -1,0 +1,18 @@
+use Rattle.std.proofs.Common.{◌≡◌, ◌≤◌, length, take, reverse}
+use Rattle.std.specs.Prelude.{Some}
+use Rattle.paint_rules.specs.Painted.{looked_first, first_found}
+use Rattle.paint_rules.specs.EndInLine.{end_at}
+use Rattle.region_ends.specs.Steps.{search_in}
+use Rattle.region_ends.proofs.searching.Searching.ends_at.Given as goal
+
+-- what is left are the patterns before
+abbrev pub invariant-ends : goal.invariant-ends
+invariant-ends g l =
+    let s = search_in l.self (g.T.Lines.lines l.lines) in
+    record {
+      whole : looked_first (Some l.fn.looked) (first_found (end_at s l.c) (reverse l.ends)) ≡ looked_first (Some l.seen) (first_found (end_at s l.c) (reverse (take l.left l.ends)));
+      within : l.left ≤ length l.ends;
+    }
+
+abbrev pub decreases-ends : goal.decreases-ends
+decreases-ends g l = l.left

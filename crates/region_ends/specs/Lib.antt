@@ -1,0 +1,6 @@
+-- what a reader must believe
+pub mod Attempts
+pub mod Searches
+pub mod KeptEnd
+-- what only code and proofs cite
+pub mod Steps

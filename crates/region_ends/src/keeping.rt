@@ -1,0 +1,108 @@
+//! The kept end of a frame (`:syn-keepend`, `:syn-extend`).
+ghost use Rattle.std.specs.Prelude.{◌≡◌, ◌<◌, length, reverse};
+ghost use Rattle.paint_rules.specs.KeptEnd.{earlier_end, is_before, limit_of, limit_on, kept_end_over};
+ghost use Rattle.paint_rules.specs.Rules.{item_of};
+ghost use Rattle.paint_rules.specs.States.{Fits};
+ghost use Rattle.region_ends.specs.KeptEnd.{kept_end};
+
+use paint_rules::{Part, Spot};
+use state_stack::{Frame, Stack};
+use syn_base::ItemId;
+use syntax_set::{Item, ItemSet};
+
+/// The item of a number, live or not.
+pub fn item_of(items: &ItemSet, id: ItemId) -> &Item
+    requires { id.0 < length items.now }
+    ensures { result.now ≡ item_of items.now id }
+{
+    items.item(id)
+}
+
+/// The kept end of the frame at `i`, from the bottom: the first place where it ends, or a frame below
+/// that keeps it in. None counts as later than every place.
+pub fn kept_end(items: &ItemSet, stack: &Stack, i: usize) -> Option<Spot>
+    requires within { i < length stack.now }
+    requires fits { Fits (length items.now) (reverse stack.now) }
+    ensures { result ≡ kept_end items.now stack.now i }
+{
+    match stack.top_and_below() {
+        None => unreachable!(),
+        Some((top, below)) => {
+            if i == below.len() {
+                kept_end_over(items, top, below)
+            } else {
+                kept_end(items, below, i)
+            }
+        }
+    }
+}
+
+/// The kept end of a frame over these.
+pub fn kept_end_over(items: &ItemSet, top: &Frame, below: &Stack) -> Option<Spot>
+    requires item { (top.now.item).0 < length items.now }
+    requires fits { Fits (length items.now) (reverse below.now) }
+    ensures { result ≡ kept_end_over items.now top.now (reverse below.now) }
+{
+    if item_of(items, top.item).extend {
+        return earlier_end(top.known_end, None);
+    }
+    earlier_end(top.known_end, limit_on(items, below))
+}
+
+/// The end that the frames of a stack put to a frame above them.
+fn limit_on(items: &ItemSet, stack: &Stack) -> Option<Spot>
+    requires { Fits (length items.now) (reverse stack.now) }
+    ensures { result ≡ limit_on items.now (reverse stack.now) }
+{
+    match stack.top_and_below() {
+        None => None,
+        Some((top, below)) => {
+            let limit = limit_of(items, top);
+            if item_of(items, top.item).extend {
+                return earlier_end(limit, None);
+            }
+            earlier_end(limit, limit_on(items, below))
+        }
+    }
+}
+
+/// The end that a frame puts to the frames above it.
+fn limit_of(items: &ItemSet, frame: &Frame) -> Option<Spot>
+    requires { (frame.now.item).0 < length items.now }
+    ensures { result ≡ limit_of items.now frame.now }
+{
+    if item_of(items, frame.item).keepend && frame.part != Part::StartArea {
+        frame.known_end
+    } else {
+        None
+    }
+}
+
+/// The earlier of two ends, where none counts as later than every place.
+pub fn earlier_end(a: Option<Spot>, b: Option<Spot>) -> Option<Spot>
+    ensures { result ≡ earlier_end a b }
+{
+    match a {
+        None => b,
+        Some(s) => match b {
+            None => Some(s),
+            Some(t) => Some(if is_before(t, s) { t } else { s }),
+        },
+    }
+}
+
+/// Whether a spot is before another one.
+fn is_before(a: Spot, b: Spot) -> bool
+    ensures { result ≡ is_before a b }
+{
+    match a {
+        Spot::Past => match b {
+            Spot::Past => false,
+            Spot::At { ahead: _, col: _ } => true,
+        },
+        Spot::At { ahead, col } => match b {
+            Spot::Past => false,
+            Spot::At { ahead: k, col: c } => ahead < k || (ahead == k && col < c),
+        },
+    }
+}

@@ -1,0 +1,19 @@
+//! Where regions end: the places that offsets name, the kept end of a frame, and the search for the
+//! end of a region in a line.
+//!
+//! A search goes from column to column. What it answers is what the rule says, after the lines that
+//! were looked at so far: so each step takes these lines and hands on more of them, and the steps
+//! join without regard to how many there are.
+#![tactic(auto)]
+
+mod keeping;
+mod matching;
+mod offsets;
+mod searching;
+mod skips;
+
+pub use keeping::{earlier_end, item_of, kept_end, kept_end_over};
+pub use matching::Matcher;
+pub use offsets::{earlier_place, later_place, offset_place};
+pub use paint_rules::{RegionEnd, Which};
+pub use searching::{EndAnswer, find_end};

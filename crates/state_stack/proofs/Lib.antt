@@ -1,0 +1,4 @@
+pub mod SettledLaws
+pub mod MarksLaws
+pub mod StackLaws
+pub mod StateLaws

@@ -1,1 +1,0 @@
-syn match Num /12/

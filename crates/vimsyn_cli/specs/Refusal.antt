@@ -1,0 +1,12 @@
+-- The stop for a painting that is refused.
+use Rattle.std.specs.Prelude.{◌≡◌, ◌≢◌, ℕ, List, ⊤}
+use Rattle.syn_reader.specs.declared.syntax.Syntax.{Syntax}
+use Rattle.state_cache.specs.declared.refusal.EditError.{EditError}
+use Rattle.state_cache.specs.declared.refusal.EditError.TheVariants as refusal
+use Rattle.vimsyn_cli.specs.declared.fault.Stop.{Stop}
+use Rattle.vimsyn_cli.specs.declared.fault.Stop.TheVariants.{Fault, Memory}
+use Rattle.vimsyn_cli.specs.Painting.{refused_fault}
+
+abbrev pub IsRefusal : List ℕ → Syntax → EditError → Stop → Type 0
+IsRefusal name syntax error (Fault fault) = (error ≢ refusal.Memory) × (fault ≡ refused_fault name syntax error)
+IsRefusal name syntax error Memory = ⊤

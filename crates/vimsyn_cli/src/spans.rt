@@ -1,0 +1,90 @@
+//! What `spans` prints: a line for each span of the text (this profile).
+ghost use Rattle.std.specs.Prelude.{◌≡◌, ◌≤◌, ◌<◌, ◌+◌, ◌++◌, All, false, get_or, length, IfOk, IfSome, OnOk, []};
+ghost use Rattle.state_cache.specs.PaintedText.{IsPainted};
+ghost use Rattle.span_print.specs.SpanText.{line_text};
+ghost use Rattle.vimsyn_cli.specs.Painting.{IsPaintFault, IsUnreadPaint, text_told};
+ghost use Rattle.vimsyn_cli.specs.Plans.{FollowsFiles, IfFault, RaisesItsCount, is_missing, is_too_long, is_unread};
+ghost use Rattle.vimsyn_cli.specs.Printing.{spans_bytes, spans_told};
+ghost use Rattle.vimsyn_cli.specs.Session.{lines_in};
+
+use crate::fault::Stop;
+use crate::painting::paint;
+use byte_text::push_bytes;
+use program_words::PaintWords;
+use span_print::span_text;
+use state_cache::Painted;
+use std::alloc::Global;
+use syn_base::{Colours, Files, Ledger, Lines, List, Memory, Span, Steps};
+use syn_reader::Syntax;
+
+/// The span lines of the text.
+pub(crate) fn print_spans<F: Files, L: Ledger>(
+    alloc: Global,
+    files: &mut F,
+    words: &PaintWords<'_>,
+    steps: &mut Steps<L>,
+) -> Result<List<u8>, Stop>
+    ensures kept { F.told files.new ≡ F.told files.old }
+    ensures planned { FollowsFiles (F.told files.old)
+        (spans_told words.now) (IsUnreadPaint words.now) result }
+    ensures told { IfFault result (IsPaintFault words.now) }
+    ensures faults { RaisesItsCount is_unread result (F.faults files.old) (F.faults files.new) }
+    ensures misses { RaisesItsCount is_missing result (F.misses files.old) (F.misses files.new) }
+    ensures longs { RaisesItsCount is_too_long result (F.longs files.old) (F.longs files.new) }
+    ensures steps { IfSome (F.told files.old) (λ known.
+        steps.new ≤ steps.old + lines_in (text_told words.now.text known)) }
+{
+    let painted = paint(alloc, files, words, steps)?;
+    Ok(spans_bytes(alloc, &painted)?)
+}
+
+/// The span lines of a painted text.
+fn spans_bytes(alloc: Global, painted: &Painted) -> Result<List<u8>, Memory>
+    ensures { IfOk result (λ bytes. bytes ≡ spans_bytes painted.now) }
+{
+    let syntax = painted.syntax();
+    let mut out = Vec::new(alloc);
+    for number in 0..painted.len() {
+        let spans = spans_at(painted, number);
+        push_line(alloc, &mut out, syntax, number, spans)?;
+    }
+    Ok(List::from_vec(out))
+}
+
+/// The spans of the line of this number. Their columns have numbers from 1, as the line is in
+/// memory.
+fn spans_at(painted: &Painted, number: usize) -> &[Span]
+    requires within { number < length painted.now.text }
+    requires painted { IsPainted painted.now }
+    ensures is { result.now ≡ get_or painted.now.spans number [] }
+    ensures columns { All (λ span. (span.first < usize.MAX) × (span.last < usize.MAX)) result.now }
+{
+    let _columns = columns_of(painted.line(number));
+    painted.spans(number)
+}
+
+/// How many columns a line in memory has.
+fn columns_of(line: &[char]) -> usize
+    ensures is { result ≡ length line.now }
+    ensures few { result < usize.MAX }
+{
+    line.len()
+}
+
+/// Appends the span lines of the line of this number.
+fn push_line(
+    alloc: Global,
+    out: &mut Vec<u8>,
+    syntax: &Syntax,
+    number: usize,
+    spans: &[Span],
+) -> Result<(), Memory>
+    requires number { number < usize.MAX }
+    requires columns { All (λ span. (span.first < usize.MAX) × (span.last < usize.MAX)) spans.now }
+    ensures { OnOk result (out.new.items ≡ out.old.items
+        ++ line_text syntax.now.groups syntax.now.links number spans.now false) }
+{
+    let bytes = span_text(alloc, number, spans, &syntax.groups, &syntax.links, false)?;
+    push_bytes(out, bytes.as_slice())?;
+    Ok(())
+}

@@ -1,0 +1,90 @@
+//! The text of a file that the words name, or the fault that tells why there is none.
+ghost use Rattle.std.specs.Prelude.{◌≡◌, ◌≤◌};
+ghost use Rattle.text_buffer.specs.TextOfBytes.{line_of_fault};
+ghost use Rattle.vimsyn_cli.specs.FileStop.{IsLinesOf, IsStop, IsUnreadNamed, StopsForText};
+ghost use Rattle.vimsyn_cli.specs.Painting.{bytes_told, text_told};
+ghost use Rattle.vimsyn_cli.specs.Plans.{FollowsFiles, IfFault, IsOfContent, RaisesItsCount, is_missing, is_too_long, is_unread};
+ghost use Rattle.vimsyn_cli.specs.Report.{IsFaultOf, fault_of};
+
+use crate::fault::Stop;
+use crate::file_fault::NamedFault;
+use std::alloc::Global;
+use syn_base::{Fetched, Files, List};
+use text_buffer::{MOST_LINES, Text, TextError};
+
+/// The most bytes of a text file: 64 MiB.
+const MOST_TEXT_BYTES: usize = 67_108_864;
+
+/// The text of the file of this name.
+pub(crate) fn read_text<F: Files>(alloc: Global, files: &mut F, name: &str) -> Result<Text, Stop>
+    ensures kept { F.told files.new ≡ F.told files.old }
+    ensures planned { FollowsFiles (F.told files.old)
+        (text_told name.now) (IsUnreadNamed name.now) result }
+    ensures told { IfFault result (IsFaultOf name.now) }
+    ensures faults { RaisesItsCount is_unread result (F.faults files.old) (F.faults files.new) }
+    ensures misses { RaisesItsCount is_missing result (F.misses files.old) (F.misses files.new) }
+    ensures longs { RaisesItsCount is_too_long result (F.longs files.old) (F.longs files.new) }
+{
+    let bytes = read_file(alloc, files, name, MOST_TEXT_BYTES)?;
+    text_of(alloc, name, bytes.as_slice())
+}
+
+/// The text of a file's bytes.
+fn text_of(alloc: Global, name: &str, bytes: &[u8]) -> Result<Text, Stop>
+    ensures lines { IsLinesOf name.now bytes.now result }
+    ensures told { IfFault result (IsFaultOf name.now) }
+    ensures content { IfFault result IsOfContent }
+{
+    match Text::from_bytes(alloc, bytes) {
+        Ok(text) => Ok(text),
+        Err(fault) => Err(text_stop(alloc, name, fault)),
+    }
+}
+
+/// The fault of a text, with its line counted from 1.
+fn text_stop(alloc: Global, name: &str, fault: TextError) -> Stop
+    requires { line_of_fault fault ≤ MOST_LINES }
+    ensures stop { StopsForText name.now fault result }
+{
+    let fault = match fault {
+        TextError::BadUtf8 { line } => NamedFault::BadUtf8 { number: line + 1 },
+        TextError::LineTooLong { line } => NamedFault::LineTooLong { number: line + 1 },
+        TextError::TooManyLines => NamedFault::TooManyLines,
+        TextError::Memory => return Stop::Memory,
+    };
+    stop_for(alloc, name, fault)
+}
+
+/// The bytes of a file, or why there are none.
+fn read_file<F: Files>(
+    alloc: Global,
+    files: &mut F,
+    name: &str,
+    limit: usize,
+) -> Result<List<u8>, Stop>
+    ensures kept { F.told files.new ≡ F.told files.old }
+    ensures planned { FollowsFiles (F.told files.old)
+        (bytes_told name.now limit) (IsUnreadNamed name.now) result }
+    ensures told { IfFault result (IsFaultOf name.now) }
+    ensures faults { RaisesItsCount is_unread result (F.faults files.old) (F.faults files.new) }
+    ensures misses { RaisesItsCount is_missing result (F.misses files.old) (F.misses files.new) }
+    ensures longs { RaisesItsCount is_too_long result (F.longs files.old) (F.longs files.new) }
+{
+    match files.fetch(alloc, name, limit) {
+        Fetched::Whole(bytes) => Ok(bytes),
+        Fetched::Missing => Err(stop_for(alloc, name, NamedFault::Missing)),
+        Fetched::TooLong => Err(stop_for(alloc, name, NamedFault::TooLong)),
+        Fetched::Failed => Err(stop_for(alloc, name, NamedFault::Unread)),
+        Fetched::Memory => Err(Stop::Memory),
+    }
+}
+
+/// The stop for a fault of the file of this name.
+fn stop_for(alloc: Global, name: &str, fault: NamedFault) -> Stop
+    ensures { IsStop (fault_of name.now fault) result }
+{
+    match fault.told(alloc, name) {
+        Ok(fault) => Stop::Fault(fault),
+        Err(_) => Stop::Memory,
+    }
+}
