@@ -13,7 +13,7 @@ use Rattle.paint_rules.specs.Painted.{Painted, Done, looked_first, done, ◌>>=�
 use Rattle.paint_rules.specs.Rules.{Rules, Matched, Cause, attempted, no_externals, place_at}
 use Rattle.paint_rules.specs.Offsets.{within_line}
 use Rattle.paint_rules.specs.ItemMatch.{may_start, starts_at, looks_at_end, match_from, item_match}
-use Rattle.item_pick.specs.Screens.{IsIdle}
+use Rattle.item_pick.specs.Screens.{HoldsLine, IsIdle, IsSettled}
 use Rattle.item_pick.specs.Columns.{may_start_at, Holds}
 use Rattle.item_pick.specs.declared.columns.Columns.{Columns}
 use Rattle.paint_rules.proofs.PaintedLaws.{goes_on}
@@ -87,3 +87,27 @@ module _ (r : Rules) (t : Text) (i : ItemId) (pattern : Pattern) (p : Place) (la
       from_column (match_from r t i pattern p) last k a ≡ Done None (Some k)
   match_ends k a outside =
       skip_rest (match_from r t i pattern p) last k a (λ c h l. idle k c l (outside c h l))
+
+-- what an attempt tells of all places of its line
+module _ (r : Rules) (t : Text) (l : ℕ) (i : ItemId) (pattern : Pattern) (c : ℕ) (found : Option Matched) (looked : Looked)
+    (told : attempted r t i no_externals pattern (place_at l c) ≡ Done found (Some looked)) where
+  module _ (at : ℕ) (alone : looked ≡ one_line (pos l)) (k : Looked) (held : HoldsLine k l) where
+    told_after : looked_first (Some k) (attempted r t i no_externals pattern (place_at l c)) ≡ Done found (Some k)
+    told_after =
+        ap (looked_first (Some k)) told
+        ∙ ap (λ (n : Looked). Done found (Some n)) (ap (hull_of k) alone ∙ held)
+
+    by_found : (m : Option Matched) → found ≡ m → starts_at t pattern (place_at l at) m ≡ false →
+        may_start_at pattern (length (line_at t l)) at c ≡ true → IsIdle (match_from r t i pattern (place_at l at)) k c
+    by_found None e s may = match_absent r t i pattern (place_at l at) c k k may (told_after ∙ ap (λ (m : Option Matched). Done m (Some k)) e)
+    by_found (Some m) e s may = match_elsewhere r t i pattern (place_at l at) c k k may m (told_after ∙ ap (λ (m : Option Matched). Done m (Some k)) e) s
+
+    by_may : starts_at t pattern (place_at l at) found ≡ false → (b : Bool) → may_start_at pattern (length (line_at t l)) at c ≡ b → IsIdle (match_from r t i pattern (place_at l at)) k c
+    by_may s false e = ap (looked_first (Some k)) (no_start r t i pattern (place_at l at) c e)
+    by_may s true e = by_found found refl s e
+
+  pub told_settled : (above below : ℕ) →
+      ((at : ℕ) → above ≤ at → at < below → (looked ≡ one_line (pos l)) × (starts_at t pattern (place_at l at) found ≡ false)) →
+      IsSettled r t l i pattern above below c
+  told_settled above below h at a b k held =
+      by_may at (h at a b).0 k held (h at a b).1 (may_start_at pattern (length (line_at t l)) at c) refl

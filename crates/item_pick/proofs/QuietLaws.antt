@@ -1,10 +1,9 @@
--- Items that can't begin where they would have to give nothing.
+-- Items that have no match at a place give nothing there.
 use Rattle.std.proofs.Common.{◌≡◌, ◌∙◌, refl, sym, ap, subst, arith, ℕ, zero, suc, ◌-◌, ◌<◌, ◌≤◌, ◌⊎◌, inl, inr, Bool, true, false, List, [], ◌∷◌, length}
 use Rattle.std.specs.Prelude.{Option, Some, None, slice_get}
 use Rattle.std.proofs.Math.Seq.{take-length}
 use Rattle.syn_base.specs.declared.looked.Looked.{Looked}
 use Rattle.syn_base.specs.declared.places.Place.{Place}
-use Rattle.vim_pattern.specs.Tree.{PatternTree}
 use Rattle.match_rules.specs.Ways.{Text}
 use Rattle.match_rules.specs.Ways.{line_at}
 use Rattle.syn_base.specs.declared.places.ItemId.{ItemId}
@@ -12,43 +11,27 @@ use Rattle.syntax_set.specs.declared.item.ItemKind.{ItemKind}
 use Rattle.syntax_set.specs.declared.item.ItemKind.TheVariants.{Keyword, Match, Region}
 use Rattle.syntax_set.specs.declared.item.Pattern.{Pattern}
 use Rattle.paint_rules.specs.Painted.{Painted, Done, looked_first, done}
-use Rattle.paint_rules.specs.Rules.{Rules, Cause, item_of, no_externals, place_at}
+use Rattle.paint_rules.specs.Rules.{Rules, Cause, item_of}
 use Rattle.paint_rules.specs.ItemMatch.{match_from, item_match}
 use Rattle.paint_rules.specs.Pick.{Starting, match_start, region_start, start_by}
 use Rattle.item_pick.specs.declared.choice.Choice.{Choice}
-use Rattle.item_pick.specs.Attempts.{IsFutile}
-use Rattle.item_pick.specs.Columns.{may_start_at}
-use Rattle.item_pick.specs.Quiet.{Screen, IsEarlier, IsNextItem, IsQuiet, item_numbered}
+use Rattle.item_pick.specs.Quiet.{IsEarlier, IsNextItem, IsQuiet, item_numbered}
 use Rattle.item_pick.specs.Standing.{IsPatternOf}
 use Rattle.item_pick.specs.Screens.{HoldsLine, IsIdle}
 use Rattle.item_pick.specs.Started.{here_at, is_free, start_at, start_if_free}
 use Rattle.item_pick.proofs.FoundLaws.{below, below_none, skip_rest}
-use Rattle.item_pick.proofs.MatchLaws.{no_start}
 use Rattle.paint_rules.proofs.PaintedLaws.{goes_on}
-use Rattle.item_pick.proofs.ScreenLaws.{futile_idle}
 
 some_at : {A : Type 0} (xs : List A) (n : ℕ) → n < length xs → (x : A) × (Some x ≡ slice_get xs n)
 some_at [] n h = absurd (omega arith)
 some_at (x ∷ xs) zero h = (x, refl)
 some_at (x ∷ xs) (suc n) h = some_at xs n (omega arith)
 
-abbrev pub IsLaw : Rules → Screen → (PatternTree → ℕ) → Type 0
-IsLaw r screen cost =
-    (tree : PatternTree) (t : Text) (ignore : Bool) (l c : ℕ) → c ≤ length (line_at t l) → screen tree ignore (line_at t l) c ≡ false →
-    IsFutile (r.attempt t tree ignore no_externals (place_at l c)) (cost tree) l
-
-module _ (r : Rules) (t : Text) (p : Place) (floor : ℕ) (screen : Screen) (cost : PatternTree → ℕ) (law : IsLaw r screen cost) (k : Looked) (held : HoldsLine k p.line) where
-  module _ (i : ItemId) (quiet : IsQuiet screen cost r (line_at t p.line) p.col floor i) where
-    module _ (pattern : Pattern) (its : IsPatternOf (item_of r.items i).kind pattern) where
-      column_quiet : (c : ℕ) → floor - pattern.lc ≤ c → c ≤ length (line_at t p.line) → (b : Bool) → may_start_at pattern (length (line_at t p.line)) p.col c ≡ b → IsIdle (match_from r t i pattern p) k c
-      column_quiet c h g false e = ap (looked_first (Some k)) (no_start r t i pattern p c e)
-      column_quiet c h g true e =
-          futile_idle r t i pattern p c (cost pattern.tree) k held (law pattern.tree t (item_of r.items i).ignore p.line c g ((quiet pattern its).1 c h g e)) (quiet pattern its).0
-
-      pattern_quiet : looked_first (Some k) (item_match r t i pattern p floor) ≡ Done None (Some k)
-      pattern_quiet =
-          skip_rest (match_from r t i pattern p) (length (line_at t p.line)) k (floor - pattern.lc)
-          (λ c h g. column_quiet c h g (may_start_at pattern (length (line_at t p.line)) p.col c) refl)
+module _ (r : Rules) (t : Text) (p : Place) (floor : ℕ) (k : Looked) (held : HoldsLine k p.line) where
+  module _ (i : ItemId) (quiet : IsQuiet r t p floor i) where
+    pattern_quiet : (pattern : Pattern) → IsPatternOf (item_of r.items i).kind pattern → looked_first (Some k) (item_match r t i pattern p floor) ≡ Done None (Some k)
+    pattern_quiet pattern its =
+        skip_rest (match_from r t i pattern p) (length (line_at t p.line)) k (floor - pattern.lc) (quiet pattern its k held)
 
     starts_quiet : (starts : List Pattern) → ((n : ℕ) (pattern : Pattern) → Some pattern ≡ slice_get starts n → IsPatternOf (item_of r.items i).kind pattern) →
         (n : ℕ) → n ≤ length starts → below (start_at r t p floor i) starts k n ≡ Done None (Some k)
@@ -78,18 +61,15 @@ module _ (r : Rules) (t : Text) (p : Place) (floor : ℕ) (screen : Screen) (cos
       quiet_idle = by_free (is_free r tried choice i)
 
   pub passed_idle : (tried : List ItemId) (choice : Choice) (i : ItemId) →
-      ((is_free r tried choice i ≡ false) ⊎ IsQuiet screen cost r (line_at t p.line) p.col floor i) → IsIdle (start_if_free r t p floor tried choice) k i
+      ((is_free r tried choice i ≡ false) ⊎ IsQuiet r t p floor i) → IsIdle (start_if_free r t p floor tried choice) k i
   passed_idle tried choice i (inl e) =
       ap (λ b. looked_first (Some k) (elim b as (λ _. Painted Cause (Option Starting)) [ true ↦ start_by (here_at r t p) p.col floor i (item_of r.items i).kind | false ↦ done None ])) e
   passed_idle tried choice i (inr quiet) = quiet_idle i quiet tried choice
 
--- the callee's answer, of the line that is painted
-pub earlier : (r : Rules) (t : Text) (p : Place) (floor : ℕ) (screen : Screen) (cost : PatternTree → ℕ) → IsLaw r screen cost →
-    (tried : List ItemId) (choice : Choice) (line : List ℕ) → line ≡ line_at t p.line → (left next : ℕ) →
-    IsNextItem screen cost r tried choice line p.col floor left next → IsEarlier r t p floor tried choice left next
-earlier r t p floor screen cost law tried choice line is left next h =
-    let here = subst (λ (line : List ℕ). IsNextItem screen cost r tried choice line p.col floor left next) is h in
-    record {
-      behind = h.0;
-      idle = λ k held j a b. passed_idle r t p floor screen cost law k held tried choice (item_numbered j) (here.1 j a b);
-    }
+-- the items behind those that are left may be passed over
+pub earlier : (r : Rules) (t : Text) (p : Place) (floor : ℕ) (tried : List ItemId) (choice : Choice) (left next : ℕ) →
+    IsNextItem r t p floor tried choice left next → IsEarlier r t p floor tried choice left next
+earlier r t p floor tried choice left next h = record {
+  behind = h.0;
+  idle = λ k held j a b. passed_idle r t p floor k held tried choice (item_numbered j) (h.1 j a b);
+}

@@ -20,10 +20,10 @@ use Rattle.item_pick.specs.Quiet.{IsNextItem, item_numbered}
 use Rattle.item_pick.specs.QuietPlaces.{IsQuietAt}
 use Rattle.item_pick.specs.Screens.{HoldsLine}
 use Rattle.item_pick.specs.Started.{admits, here_at, is_free, start_if_free}
-use Rattle.item_pick.specs.Tables.{IsNextIn, IsNumberAt, passes}
+use Rattle.item_pick.specs.Tables.{IsNextAt}
 use Rattle.item_pick.proofs.FoundLaws.{items_skip}
 use Rattle.item_pick.proofs.PickLaws.{allowed_as, among, no_word}
-use Rattle.item_pick.proofs.QuietLaws.{IsLaw, earlier}
+use Rattle.item_pick.proofs.QuietLaws.{earlier}
 use Rattle.item_pick.proofs.TableLaws.{next_items, not_free}
 
 same_least : (a : ℤ) → lesser a a ≡ a
@@ -52,14 +52,13 @@ none_admitted : (r : Rules) (test : ItemId → Bool) → ((i : ItemId) → test 
 none_admitted r test none line c None = refl
 none_admitted r test none line c (Some end) = ap (option_map (λ (i : ItemId). record { item = i; end = end })) (find_none test none (candidates r.keywords (take (end - c) (drop c line))))
 
-module _ (r : Rules) (t : Text) (p : Place) (choice : Choice) (cost : ℕ) (law : IsLaw r (passes r.sets r.budget) (λ _. cost)) where
+module _ (r : Rules) (t : Text) (p : Place) (floor : ℕ) (choice : Choice) where
   -- without a keyword, where all items may be passed over
-  quiet_by : (floor : ℕ) → keyword_at r (is_free r [] choice) (line_at t p.line) p.col ≡ None →
-      IsNextItem (passes r.sets r.budget) (λ _. cost) r [] choice (line_at t p.line) p.col floor (length r.items) 0 →
-      looked_first (Some (one_line (pos p.line))) (among r t p floor [] choice) ≡ Done None (Some (one_line (pos p.line)))
-  quiet_by floor word next =
+  quiet_by : keyword_at r (is_free r [] choice) (line_at t p.line) p.col ≡ None →
+      IsNextItem r t p floor [] choice (length r.items) 0 → IsQuietAt r t choice floor p
+  quiet_by word next =
       let k = one_line (pos p.line) in
-      let e = earlier r t p floor (passes r.sets r.budget) (λ _. cost) law [] choice (line_at t p.line) refl (length r.items) 0 next in
+      let e = earlier r t p floor [] choice (length r.items) 0 next in
       ap (looked_first (Some k)) (no_word r t p floor [] choice word)
       ∙ items_skip (start_if_free r t p floor [] choice) k (length r.items) 0 (length r.items) (omega arith) (e.idle k (holds_itself p.line))
 
@@ -67,24 +66,24 @@ never_free : (r : Rules) (i : ItemId) → is_free r [] NoItem i ≡ false
 never_free r i = not_free (list_any (same_item i) []) false refl
 
 -- nothing starts where nothing is allowed
-pub none_starts : (r : Rules) (t : Text) (p : Place) (cost : ℕ) → IsLaw r (passes r.sets r.budget) (λ _. cost) → IsQuietAt r t NoItem p
-none_starts r t p cost law floor =
-    quiet_by r t p NoItem cost law floor (none_admitted r (is_free r [] NoItem) (never_free r) (line_at t p.line) p.col (word_end (line_at t p.line) p.col r.sets.keyword))
+pub none_starts : (r : Rules) (t : Text) (p : Place) (floor : ℕ) → IsQuietAt r t NoItem floor p
+none_starts r t p floor =
+    quiet_by r t p floor NoItem (none_admitted r (is_free r [] NoItem) (never_free r) (line_at t p.line) p.col (word_end (line_at t p.line) p.col r.sets.keyword))
     (omega arith, λ j a b. inl (never_free r (item_numbered j)))
 
--- nothing starts where no word begins and the row is empty
-pub row_empty : (r : Rules) (t : Text) (p : Place) (choice : Choice) (number : ℕ) → IsLaw r (passes r.sets r.budget) (λ _. r.budget) →
-    begins_word r.sets.keyword (line_at t p.line) p.col ≡ false → IsNumberAt r (line_at t p.line) p.col number → IsNextIn r choice number (length r.items) 0 → IsQuietAt r t choice p
-row_empty r t p choice number law word key next floor =
-    quiet_by r t p choice r.budget law floor (no_keyword r (is_free r [] choice) (line_at t p.line) p.col word)
-    (next_items r (line_at t p.line) p.col number floor [] choice (length r.items) 0 key next)
+-- nothing starts where no word begins and no item of the choice is left
+pub row_empty : (r : Rules) (t : Text) (p : Place) (floor : ℕ) (choice : Choice) →
+    begins_word r.sets.keyword (line_at t p.line) p.col ≡ false → IsNextAt r t p floor choice (length r.items) 0 → IsQuietAt r t choice floor p
+row_empty r t p floor choice word next =
+    quiet_by r t p floor choice (no_keyword r (is_free r [] choice) (line_at t p.line) p.col word)
+    (next_items r t p floor [] choice (length r.items) 0 next)
 
 -- so nothing is picked
 pub nothing_picked : (r : Rules) (t : Text) (at : Place) (c : ℕ) (stack : List Frame) (choice : Choice) →
-    ((i : ItemId) → is_allowed r stack i ≡ admits r choice i) → IsQuietAt r t choice (place_at at.line c) → (floor : ℕ) (over : Bool) →
+    ((i : ItemId) → is_allowed r stack i ≡ admits r choice i) → (floor : ℕ) → IsQuietAt r t choice floor (place_at at.line c) → (over : Bool) →
     looked_first (Some (one_line (pos at.line))) (picked (here_at r t at) c (record { stack = stack; waiting = None; floor = floor; tried = []; is_over = over })) ≡ Done Nothing (Some (one_line (pos at.line)))
-nothing_picked r t at c stack choice same quiet floor over =
+nothing_picked r t at c stack choice same floor quiet over =
     let k = one_line (pos at.line) in
     let p = place_at at.line c in
     ap (looked_first (Some k)) (allowed_as r t p floor [] choice stack same)
-    ∙ goes_on k k (among r t p floor [] choice) None (λ found. done (or_nothing found)) (quiet floor)
+    ∙ goes_on k k (among r t p floor [] choice) None (λ found. done (or_nothing found)) quiet

@@ -1,5 +1,5 @@
 -- Where the screen fails, an attempt tells nothing that isn't known.
-use Rattle.std.proofs.Common.{◌≡◌, ◌∙◌, refl, sym, ap, subst, arith, ℕ, ◌<◌, ◌≤◌, Bool, true, false, List, length}
+use Rattle.std.proofs.Common.{◌≡◌, ◌∙◌, refl, sym, ap, subst, arith, ℕ, ◌≤◌, Bool, true, false, length}
 use Rattle.std.specs.Prelude.{Some, None, ℤ, pos, int_lt, cond, nat_lt}
 use Rattle.std.proofs.lemmas.Int.{ints}
 use Rattle.std.proofs.lemmas.Bool.Decides.{nat_tests}
@@ -15,7 +15,7 @@ use Rattle.paint_rules.specs.Rules.{Rules, Attempt, item_of, no_externals, place
 use Rattle.paint_rules.specs.ItemMatch.{match_from}
 use Rattle.item_pick.specs.Attempts.{IsFutile}
 use Rattle.item_pick.specs.Columns.{may_start_at}
-use Rattle.item_pick.specs.Screens.{HoldsLine, IsIdle, IsLater}
+use Rattle.item_pick.specs.Screens.{HoldsLine, IsIdle}
 use Rattle.paint_rules.proofs.PaintedLaws.{hull_assoc}
 use Rattle.item_pick.proofs.MatchLaws.{match_absent, no_start}
 
@@ -64,17 +64,3 @@ module _ (r : Rules) (t : Text) (i : ItemId) (pattern : Pattern) (p : Place) (c 
 
   pub futile_idle : IsIdle (match_from r t i pattern p) k c
   futile_idle = by_start (may_start_at pattern (length (line_at t p.line)) p.col c) refl
-
--- the columns up to the next one where the screen passes are idle
-module _ (r : Rules) (t : Text) (i : ItemId) (pattern : Pattern) (p : Place) (screen : Bool → List ℕ → ℕ → Bool) (cost : ℕ)
-    (law : (t : Text) (ignore : Bool) (l c : ℕ) → c ≤ length (line_at t l) → screen ignore (line_at t l) c ≡ false → IsFutile (r.attempt t pattern.tree ignore no_externals (place_at l c)) cost l)
-    (enough : cost ≤ r.budget) (line : List ℕ) (is_line : line ≡ line_at t p.line) where
-  fails_here : (c : ℕ) → screen (item_of r.items i).ignore line c ≡ false → screen (item_of r.items i).ignore (line_at t p.line) c ≡ false
-  fails_here c e = (λ x. screen (item_of r.items i).ignore (sym is_line x) c) ∙ e
-
-  pub later : (col next : ℕ) → col ≤ next → ((c : ℕ) → col ≤ c → c < next → c ≤ length line → screen (item_of r.items i).ignore line c ≡ false) → IsLater r t i pattern p col next
-  later col next ahead fails = record {
-    ahead = ahead;
-    idle = λ k held c a b h. futile_idle r t i pattern p c cost k held
-        (law t (item_of r.items i).ignore p.line c h (fails_here c (fails c a b (omega (arith, h, ap length is_line))))) enough;
-  }

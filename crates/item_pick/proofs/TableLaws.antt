@@ -1,23 +1,51 @@
--- What a table says of an item, and what that means for picking.
-use Rattle.std.proofs.Common.{◌≡◌, ◌∙◌, refl, sym, ap, subst, arith, ℕ, zero, suc, ◌<◌, ◌≤◌, ◌⊎◌, inl, inr, Bool, true, false, List, [], ◌∷◌, length, get_or}
-use Rattle.std.specs.Prelude.{Result, Ok, Err, IfOk, Option, Some, None, not, ◌&&◌, ◌||◌, nat_lt, nat_eq, is_none, pos, ◌+ℤ◌}
-use Rattle.std.specs.List.{list_any}
+-- What is kept says of an item, and what that means for picking.
+use Rattle.std.proofs.Common.{◌≡◌, ◌∙◌, refl, sym, ap, subst, arith, ℕ, zero, suc, ◌+◌, ◌-◌, ◌<◌, ◌≤◌, ◌⊎◌, inl, inr, Bool, true, false, List, [], ◌∷◌, length, get_or}
+use Rattle.std.specs.Prelude.{IfSome, IsTrue, slice_get, Result, Ok, Err, IfOk, Option, Some, None, not, ◌&&◌, ◌||◌, nat_lt, nat_eq, is_none, pos, ◌+ℤ◌}
+use Rattle.std.specs.List.{All, list_any}
 use Rattle.std.proofs.lemmas.Bool.{cases_lt}
 use Rattle.std.proofs.lemmas.Bool.Decides.{nat_tests}
+use Rattle.syn_base.specs.declared.looked.Looked.{Looked}
 use Rattle.syn_base.specs.declared.places.ItemId.{ItemId}
+use Rattle.syn_base.specs.declared.places.Place.{Place}
 use Rattle.syn_base.specs.declared.want_of_memory.Memory.{Memory}
+use Rattle.vim_pattern.specs.Tree.{PatternTree}
+use Rattle.match_rules.specs.Ways.{Text, line_at}
+use Rattle.syntax_set.specs.declared.item.ItemKind.{ItemKind}
+use Rattle.syntax_set.specs.declared.item.ItemKind.TheVariants.{Keyword, Match, Region}
 use Rattle.syntax_set.specs.declared.item.Offset.{Offset}
 use Rattle.syntax_set.specs.declared.item.Pattern.{Pattern}
-use Rattle.paint_rules.specs.Rules.{Rules, item_of, same_item}
+use Rattle.paint_rules.specs.Painted.{looked_first}
+use Rattle.paint_rules.specs.Rules.{Rules, item_of, no_externals, place_at, same_item}
+use Rattle.paint_rules.specs.ItemMatch.{match_from}
 use Rattle.paint_rules.specs.Offsets.{within_line}
-use Rattle.pattern_screens.specs.Keys.{key_numbered, key_of}
+use Rattle.pattern_screens.specs.Keys.{AreNumbers, key_numbered, key_of}
 use Rattle.pattern_screens.proofs.Stands.{both_true}
 use Rattle.item_pick.specs.declared.choice.Choice.{Choice}
-use Rattle.item_pick.specs.declared.misses.Miss.{Miss}
-use Rattle.item_pick.specs.Quiet.{IsNextItem, IsQuiet, item_numbered}
-use Rattle.item_pick.specs.Standing.{IsPatternOf}
+use Rattle.item_pick.specs.declared.memory.PickMemory.{PickMemory}
+use Rattle.item_pick.specs.declared.runs.Run.{Run}
+use Rattle.item_pick.specs.Attempts.{IsFutile}
+use Rattle.item_pick.specs.Columns.{may_start_at}
+use Rattle.item_pick.specs.Quiet.{IsEarlier, IsNextItem, IsQuiet, item_numbered}
+use Rattle.item_pick.specs.Runs.{Covers, TellsOf}
+use Rattle.item_pick.specs.Screens.{HoldsLine, IsIdle, IsLater, IsSettled}
+use Rattle.item_pick.specs.Standing.{first_pattern, has_one_start, IsFirst, IsPatternOf}
 use Rattle.item_pick.specs.Started.{admits, is_free}
-use Rattle.item_pick.specs.Tables.{fails, passes, IsMissed, IsNextIn, IsNumberAt, IsVainAt, Lacks, ListStands, MissStands, StaysOut}
+use Rattle.item_pick.specs.Tables.{fails, is_vain, passes, IsEnough, IsMissed, IsNextAt, IsNextIn, IsNumberAt, IsVainAt, Lacks, ListStands, MemoryStands, RunStands, StaysOut, TablesStand, VainStands}
+use Rattle.item_pick.proofs.MatchLaws.{no_start}
+use Rattle.item_pick.proofs.QuietLaws.{earlier}
+use Rattle.item_pick.proofs.ScreenLaws.{futile_idle}
+
+-- the law of screens
+abbrev pub IsLaw : Rules → Type 0
+IsLaw r =
+    (tree : PatternTree) (t : Text) (ignore : Bool) (l c : ℕ) → c ≤ length (line_at t l) → passes r.sets r.budget tree ignore (line_at t l) c ≡ false →
+    IsFutile (r.attempt t tree ignore no_externals (place_at l c)) r.budget l
+
+module _ (r : Rules) (law : IsLaw r) (t : Text) (p : Place) (i : ItemId) (pattern : Pattern) (k : Looked) (held : HoldsLine k p.line) where
+  -- where the screen fails nothing is found
+  pub missed_idle : (c : ℕ) → c ≤ length (line_at t p.line) → IsMissed r (line_at t p.line) i pattern c → IsIdle (match_from r t i pattern p) k c
+  missed_idle c within e =
+      futile_idle r t i pattern p c r.budget k held (law pattern.tree t (item_of r.items i).ignore p.line c within e) (omega arith)
 
 -- ---- what a row says
 
@@ -32,72 +60,181 @@ here_by last at c true ms m n e = absurd (cc)
 here_by last at c false None m n e = grind (arith, nat_tests)
 here_by last at c false (Some o) m n e = absurd (cc)
 
--- an item that stays out is quiet
-pub stays_quiet : (r : Rules) (line : List ℕ) (at number floor : ℕ) → key_numbered number ≡ key_of r.sets line at → (i : ItemId) → StaysOut r number i →
-    IsQuiet (passes r.sets r.budget) (λ _. r.budget) r line at floor i
-stays_quiet r line at number floor is i out pattern its =
-    let ignore = (item_of r.items i).ignore in
-    let tree = pattern.tree in
-    let a = both_true _ _ (both_true (nat_lt number 777) _ (out pattern its)).1 in
-    let b = both_true _ _ a.1 in (
-      omega arith,
-      λ c from within e.
-          let here : c ≡ at = here_by (length line) at c tree.moves_start pattern.ms a.0 b.0 e in
-          let at-key : fails r.sets r.budget ignore (key_of r.sets line at) tree ≡ true = subst (λ key. fails r.sets r.budget ignore key tree ≡ true) is b.1 in
-          ap (λ d. passes r.sets r.budget tree ignore line d) here ∙ ap not at-key,
-    )
+-- an item that stays out has no match
+module _ (r : Rules) (law : IsLaw r) (t : Text) (p : Place) (number : ℕ) (is : key_numbered number ≡ key_of r.sets (line_at t p.line) p.col) (i : ItemId) (out : StaysOut r number i) where
+  module _ (pattern : Pattern) (its : IsPatternOf (item_of r.items i).kind pattern) (k : Looked) (held : HoldsLine k p.line) (c : ℕ) (within : c ≤ length (line_at t p.line)) where
+    column_out : (b : Bool) → may_start_at pattern (length (line_at t p.line)) p.col c ≡ b → IsIdle (match_from r t i pattern p) k c
+    column_out false e = ap (looked_first (Some k)) (no_start r t i pattern p c e)
+    column_out true e =
+        let ignore = (item_of r.items i).ignore in
+        let tree = pattern.tree in
+        let line = line_at t p.line in
+        let a = both_true _ _ (both_true (nat_lt number 777) _ (out pattern its)).1 in
+        let b = both_true _ _ a.1 in
+        let here : c ≡ p.col = here_by (length line) p.col c tree.moves_start pattern.ms a.0 b.0 e in
+        let at-key : fails r.sets r.budget ignore (key_of r.sets line p.col) tree ≡ true = subst (λ key. fails r.sets r.budget ignore key tree ≡ true) is b.1 in
+        missed_idle r law t p i pattern k held c within (ap (λ d. passes r.sets r.budget tree ignore line d) here ∙ ap not at-key)
 
--- where all attempts are in vain by a column's key, the item is missed there
-pub vain_is_missed : (r : Rules) (line : List ℕ) (at number : ℕ) → IsNumberAt r line at number → (i : ItemId) → IsVainAt r number i → IsMissed r line i at
-vain_is_missed r line at number its i vain pattern own =
-    let ignore = (item_of r.items i).ignore in
-    let tree = pattern.tree in
-    let a = both_true (nat_lt number 777) _ (vain pattern own) in
-    ap not (subst (λ key. fails r.sets r.budget ignore key tree ≡ true) its.1 a.1)
+  pub stays_quiet : (floor : ℕ) → IsQuiet r t p floor i
+  stays_quiet floor pattern its k held c from within =
+      column_out pattern its k held c within (may_start_at pattern (length (line_at t p.line)) p.col c) refl
 
--- what is known of an item goes on over the columns from which it is missed
-pub miss_goes_on : (r : Rules) (line : List ℕ) (i : ItemId) (known : Miss) (to : ℕ) → known.item ≡ i → MissStands r line known →
-    ((c : ℕ) → known.to ≤ c → c < to → IsMissed r line i c) → MissStands r line (record known { to = to })
-miss_goes_on r line i known to is stands more c from below =
-    elim (cases_lt c known.to) [
-      | inl before ↦ stands c from before
-      | inr behind ↦ subst (λ j. IsMissed r line j c) (sym is) (more c behind below)
-    ]
-
-pub nothing_known : (r : Rules) (line : List ℕ) (i : ItemId) → MissStands r line (record { item = i; from = 0; to = 0 })
-nothing_known r line i c from below = absurd (omega (arith, below))
-
--- so the item's patterns pass nowhere from a column of what is known up to its end
-pub next_open : (r : Rules) (line : List ℕ) (i : ItemId) (pattern : Pattern) (known : Miss) (col to : ℕ) → known.item ≡ i →
-    IsPatternOf (item_of r.items i).kind pattern → known.from ≤ col → MissStands r line (record known { to = to }) →
-    (c : ℕ) → col ≤ c → c < to → passes r.sets r.budget pattern.tree (item_of r.items i).ignore line c ≡ false
-next_open r line i pattern known col to is own from stands c behind below =
-    subst (λ j. IsMissed r line j c) is (stands c (omega (arith, from, behind)) below) pattern own
+-- what a row leaves, of the admitted items
+pub next_at : (r : Rules) → IsLaw r → (t : Text) (p : Place) (number floor : ℕ) → IsNumberAt r (line_at t p.line) p.col number → (choice : Choice) (list : List ℕ) → ListStands r choice number list →
+    (left next : ℕ) → left ≤ length r.items → IsNextIn r t p floor list left next → IsNextAt r t p floor choice left next
+next_at r law t p number floor key choice list stands left next within h = (
+  h.0,
+  λ j a b admitted. elim (h.1 j a b) [
+    | inl lacks ↦ stays_quiet r law t p number key.1 (item_numbered j) (stands j (omega (arith, b, within)) admitted lacks) floor
+    | inr quiet ↦ quiet
+  ],
+)
 
 pub not_free : (tried admitted : Bool) → admitted ≡ false → (not tried && admitted) ≡ false
 not_free true admitted e = refl
 not_free false admitted e = e
 
-passed_by : (r : Rules) (line : List ℕ) (at number floor : ℕ) → key_numbered number ≡ key_of r.sets line at → (tried : List ItemId) (choice : Choice) (i : ItemId) →
-    (b : Bool) → admits r choice i ≡ b → (admits r choice i ≡ true → StaysOut r number i) →
-    (is_free r tried choice i ≡ false) ⊎ IsQuiet (passes r.sets r.budget) (λ _. r.budget) r line at floor i
-passed_by r line at number floor is tried choice i true e out = inr (stays_quiet r line at number floor is i (out e))
-passed_by r line at number floor is tried choice i false e out = inl (not_free (list_any (same_item i) tried) (admits r choice i) e)
+passed_by : (r : Rules) (t : Text) (p : Place) (floor : ℕ) (tried : List ItemId) (choice : Choice) (i : ItemId) →
+    (b : Bool) → admits r choice i ≡ b → (admits r choice i ≡ true → IsQuiet r t p floor i) →
+    (is_free r tried choice i ≡ false) ⊎ IsQuiet r t p floor i
+passed_by r t p floor tried choice i true e quiet = inr (quiet e)
+passed_by r t p floor tried choice i false e quiet = inl (not_free (list_any (same_item i) tried) (admits r choice i) e)
 
--- what is left by a row is what is left to try
-pub next_items : (r : Rules) (line : List ℕ) (at number floor : ℕ) (tried : List ItemId) (choice : Choice) (left next : ℕ) →
-    IsNumberAt r line at number → IsNextIn r choice number left next →
-    IsNextItem (passes r.sets r.budget) (λ _. r.budget) r tried choice line at floor left next
-next_items r line at number floor tried choice left next key h = (
+-- what is left of the admitted items is what is left to try
+pub next_items : (r : Rules) (t : Text) (p : Place) (floor : ℕ) (tried : List ItemId) (choice : Choice) (left next : ℕ) →
+    IsNextAt r t p floor choice left next → IsNextItem r t p floor tried choice left next
+next_items r t p floor tried choice left next h = (
   h.0,
-  λ j a b. passed_by r line at number floor key.1 tried choice (item_numbered j) (admits r choice (item_numbered j)) refl (h.1 j a b),
+  λ j a b. passed_by r t p floor tried choice (item_numbered j) (admits r choice (item_numbered j)) refl (h.1 j a b),
 )
 
-pub next_items_ok : (r : Rules) (line : List ℕ) (at number floor : ℕ) (tried : List ItemId) (choice : Choice) (left : ℕ) (result : Result ℕ Memory) →
-    IsNumberAt r line at number → IfOk result (IsNextIn r choice number left) →
-    IfOk result (IsNextItem (passes r.sets r.budget) (λ _. r.budget) r tried choice line at floor left)
-next_items_ok r line at number floor tried choice left (Ok next) key h = next_items r line at number floor tried choice left next key h
-next_items_ok r line at number floor tried choice left (Err memory) key h = tt
+pub next_ok : (r : Rules) (t : Text) (p : Place) (floor : ℕ) (tried : List ItemId) (choice : Choice) (left : ℕ) (result : Result ℕ Memory) →
+    IfOk result (IsNextAt r t p floor choice left) → IfOk result (IsEarlier r t p floor tried choice left)
+next_ok r t p floor tried choice left (Ok next) h = earlier r t p floor tried choice left next (next_items r t p floor tried choice left next h)
+next_ok r t p floor tried choice left (Err memory) h = tt
+
+-- ---- what is known of columns
+
+-- where attempts are in vain by a column's key, the item is missed there
+pub vain_is_missed : (r : Rules) (line : List ℕ) (at number : ℕ) → IsNumberAt r line at number → (i : ItemId) → IsVainAt r number i → (pattern : Pattern) → IsFirst r i pattern →
+    IsMissed r line i pattern at
+vain_is_missed r line at number its i vain pattern first =
+    let ignore = (item_of r.items i).ignore in
+    let tree = pattern.tree in
+    let a = both_true (nat_lt number 777) _ (vain pattern first) in
+    ap not (subst (λ key. fails r.sets r.budget ignore key tree ≡ true) its.1 a.1)
+
+same_some : {A : Type 0} (a b : A) → Some a ≡ Some b → a ≡ b
+same_some {A = A} a b e = ap (λ (o : Option A). elim o [ None ↦ a | Some x ↦ x ]) e
+
+-- an item has one first pattern
+pub one_first : (r : Rules) (i : ItemId) (a b : Pattern) → IsFirst r i a → IsFirst r i b → a ≡ b
+one_first r i a b e f = same_some a b (sym e ∙ f)
+
+zero_below : {A : Type 0} (xs : List A) (n : ℕ) (x : A) → nat_eq (length xs) 1 ≡ true → Some x ≡ slice_get xs n → slice_get xs 0 ≡ Some x
+zero_below [] n x e is = absurd (cc)
+zero_below (y ∷ ys) zero x e is = sym is
+zero_below (y ∷ []) (suc n) x e is = absurd (cc)
+zero_below (y ∷ z ∷ zs) (suc n) x e is =
+    let h : length (y ∷ z ∷ zs) ≡ 1 = grind (arith, nat_tests) in
+    absurd (omega (arith, h))
+
+-- where an item starts by one pattern, that is the first one
+only_first : (kind : ItemKind) → has_one_start kind ≡ true → (pattern : Pattern) → IsPatternOf kind pattern → first_pattern kind ≡ Some pattern
+only_first Keyword e pattern its = absurd its
+only_first (Match p) e pattern its = ap (λ (q : Pattern). Some q) its
+only_first (Region starts skip ends) e pattern its = zero_below starts its.0 pattern e its.1
+
+pub enough_by : (r : Rules) (i : ItemId) (pattern : Pattern) (col : ℕ) → has_one_start (item_of r.items i).kind ≡ true → IsFirst r i pattern → (o : Option ℕ) →
+    IfSome o (λ least. (floor : ℕ) → least ≤ floor → col ≤ floor - pattern.lc) → IfSome o (IsEnough r i col)
+enough_by r i pattern col one first None h = tt
+enough_by r i pattern col one first (Some least) h = λ other its.
+    let own : IsFirst r i other = only_first (item_of r.items i).kind one other its in
+    (own, subst (λ (q : Pattern). (floor : ℕ) → least ≤ floor → col ≤ floor - q.lc) (one_first r i pattern other first own) h)
+
+-- a run goes on over the columns from which its item is missed
+pub run_goes_on : (r : Rules) → IsLaw r → (t : Text) (l : ℕ) (i : ItemId) (pattern : Pattern) → IsFirst r i pattern → (run : Run) (to : ℕ) → run.item ≡ i → RunStands r t l run →
+    ((c : ℕ) → run.to ≤ c → c < to → IsMissed r (line_at t l) i pattern c) → RunStands r t l (record run { to = to })
+run_goes_on r law t l i pattern first run to same stands missed = record {
+  settled = λ other its c from below within. elim (cases_lt c run.to) [
+    | inl before ↦ stands.settled other its c from before within
+    | inr behind ↦ λ at above under k held.
+        let its-own : IsFirst r i other = subst (λ j. IsFirst r j other) same its in
+        let alike : pattern ≡ other = one_first r i pattern other first its-own in
+        subst (λ j. IsIdle (match_from r t j other (place_at l at)) k c) (sym same)
+        (subst (λ (q : Pattern). IsIdle (match_from r t i q (place_at l at)) k c) alike
+        (missed_idle r law t (place_at l at) i pattern k held c within (missed c behind below)))
+  ];
+  enough = stands.enough;
+}
+
+-- and over one that told of some places
+pub run_and : (r : Rules) (t : Text) (l : ℕ) (i : ItemId) (pattern : Pattern) → IsFirst r i pattern → (run : Run) (col above below : ℕ) → run.item ≡ i → RunStands r t l run → run.to ≡ col →
+    IsSettled r t l i pattern above below col → (first end : ℕ) → run.places.first ≤ first → above ≤ first → end ≤ run.places.end → end ≤ below →
+    RunStands r t l (record run { to = col + 1; places = record { first = first; end = end } })
+run_and r t l i pattern is run col above below same stands here settled first end f g h j = record {
+  settled = λ other its c from under within. elim (cases_lt c run.to) [
+    | inl before ↦ λ at a b. stands.settled other its c from before within at (omega (arith, a, f)) (omega (arith, b, h))
+    | inr behind ↦ λ at a b k held.
+        let its-own : IsFirst r i other = subst (λ n. IsFirst r n other) same its in
+        let alike : pattern ≡ other = one_first r i pattern other is its-own in
+        let now : col ≡ c = omega (arith, under, behind, here) in
+        subst (λ n. IsIdle (match_from r t n other (place_at l at)) k c) (sym same)
+        (subst (λ (q : Pattern). IsIdle (match_from r t i q (place_at l at)) k c) alike
+        (subst (λ n. IsIdle (match_from r t i pattern (place_at l at)) k n) now
+        (settled at (omega (arith, a, g)) (omega (arith, b, j)) k held)))
+  ];
+  enough = stands.enough;
+}
+
+-- so a match may be sought from its end on
+pub later_by : (r : Rules) (t : Text) (p : Place) (i : ItemId) (pattern : Pattern) → IsFirst r i pattern → (run : Run) (col : ℕ) → TellsOf i col p.col run → (to : ℕ) → run.to ≤ to →
+    RunStands r t p.line (record run { to = to }) → IsLater r t i pattern p col to
+later_by r t p i pattern first run col tells to more stands = record {
+  ahead = omega (arith, tells.to, more);
+  idle = λ k held c a b h.
+      subst (λ n. IsIdle (match_from r t n pattern p) k c) tells.same
+      (stands.settled pattern (subst (λ n. IsFirst r n pattern) (sym tells.same) first) c (omega (arith, tells.from, a)) b h p.col tells.above tells.below k held);
+}
+
+-- an item that a run covers has no match
+pub covered_quiet : (r : Rules) (t : Text) (l at floor end : ℕ) (i : ItemId) (run : Run) → RunStands r t l run → Covers run i at floor end → end ≡ length (line_at t l) + 1 →
+    IsQuiet r t (place_at l at) floor i
+covered_quiet r t l at floor end i run stands covers is pattern its k held c from within =
+    let own : IsPatternOf (item_of r.items run.item).kind pattern = subst (λ n. IsPatternOf (item_of r.items n).kind pattern) (sym covers.same) its in
+    let enough : IsEnough r run.item run.from covers.enough.0 = subst (λ o. IfSome o (IsEnough r run.item run.from)) covers.enough.1 stands.enough in
+    let e = enough pattern own in
+    subst (λ n. IsIdle (match_from r t n pattern (place_at l at)) k c) covers.same
+    (stands.settled pattern e.0 c (omega (arith, e.1 floor covers.enough.2, from)) (omega (arith, within, covers.to, is)) within at covers.above covers.below k held)
+
+-- a run without columns, of an item that it names wrongly or rightly, says nothing
+pub nothing_known : (r : Rules) (t : Text) (l : ℕ) (i : ItemId) → RunStands r t l (record { item = i; from = 0; to = 0; places = record { first = 0; end = 0 }; least = None })
+nothing_known r t l i = record {
+  settled = λ pattern first c from below within. absurd (omega (arith, below));
+  enough = tt;
+}
+
+-- what was answered of a first pattern is true of the item
+pub vain_stands : (r : Rules) (i : ItemId) (number : ℕ) (ignore : Bool) → ignore ≡ (item_of r.items i).ignore → (pattern : Pattern) → IsFirst r i pattern → (is : Bool) →
+    (is ≡ true → is_vain r.sets r.budget ignore number pattern ≡ true) → VainStands r (record { item = i; number = number; is = is })
+vain_stands r i number ignore same pattern first is told e other own =
+    subst (λ (q : Pattern). is_vain r.sets r.budget (item_of r.items i).ignore number q ≡ true) (one_first r i pattern other first own)
+    (subst (λ b. is_vain r.sets r.budget b number pattern ≡ true) same (told e))
+
+pub missed_ok : (r : Rules) (memory : PickMemory) (i : ItemId) (pattern : Pattern) → IsFirst r i pattern → (col number : ℕ) →
+    ((t : Text) (l : ℕ) → MemoryStands r t l memory → IsNumberAt r (line_at t l) col number) → (result : Result Bool Memory) →
+    IfOk result (λ vain. IsTrue vain → IsVainAt r number i) →
+    IfOk result (λ missed. IsTrue missed → (t : Text) (l : ℕ) → MemoryStands r t l memory → IsMissed r (line_at t l) i pattern col)
+missed_ok r memory i pattern first col number key (Ok vain) h = λ e t l stands. vain_is_missed r (line_at t l) col number (key t l stands) i (h e) pattern first
+missed_ok r memory i pattern first col number key (Err m) h = tt
+
+-- what stands of a line stands where only tables were made
+pub still_stands : (r : Rules) (t : Text) (l : ℕ) (a b : PickMemory) → TablesStand r b → b.numbers ≡ a.numbers → b.runs ≡ a.runs → MemoryStands r t l a → MemoryStands r t l b
+still_stands r t l a b tables numbers runs stands = record {
+  tables = tables;
+  keys = subst (λ v. AreNumbers r.sets (line_at t l) (length (line_at t l) + 1) v.items) (sym numbers) stands.keys;
+  runs = subst (λ v. All (RunStands r t l) v.list.items) (sym runs) stands.runs;
+}
 
 -- ---- lists
 

@@ -10,8 +10,10 @@ pub mod Screens
 pub mod Standing
 pub mod Started
 pub mod Told
+pub mod Tries
 pub mod Tables
 pub mod Screened
 pub mod Quiet
+pub mod Runs
 pub mod QuietPlaces
 pub mod Valid

@@ -10,8 +10,7 @@ use Rattle.item_pick.specs.declared.choice.Choice.{Choice}
 use Rattle.item_pick.specs.Started.{admits, here_at, standing_at}
 
 -- no item of a choice starts there, and no other line is looked at
-abbrev pub IsQuietAt : Rules → Text → Choice → Place → Type 0
-IsQuietAt r t choice p =
-    (floor : ℕ) →
+abbrev pub IsQuietAt : Rules → Text → Choice → ℕ → Place → Type 0
+IsQuietAt r t choice floor p =
     looked_first (Some (one_line (pos p.line))) (start_among (here_at r t p) p.col (standing_at [] None floor []) (admits r choice))
     ≡ Done None (Some (one_line (pos p.line)))

@@ -9,12 +9,12 @@ use Rattle.paint_rules.specs.Pick.{Nothing, picked}
 use Rattle.paint_rules.specs.Rules.{Rules}
 use Rattle.item_pick.specs.Started.{here_at}
 
--- up to, and without, a column nothing starts on a stack, and no other line is looked at: with nothing
--- that waits, and nothing that has started at the column before
-pub record IsQuietUntil (r : Rules) (t : Text) (at : Place) (stack : List Frame) (end : ℕ) : Type 0 where
+-- up to, and without, a column nothing starts on a stack, and no other line is looked at: where
+-- nothing waits, nothing has started at the column before, and the last start or close is at `floor`
+pub record IsQuietUntil (r : Rules) (t : Text) (at : Place) (stack : List Frame) (floor end : ℕ) : Type 0 where
   pub from : at.col ≤ end
   pub within : end ≤ length (line_at t at.line)
-  pub quiet : (c : ℕ) → at.col ≤ c → c < end → (floor : ℕ) (over : Bool) →
+  pub quiet : (c : ℕ) → at.col ≤ c → c < end → (over : Bool) →
       looked_first (Some (one_line (pos at.line))) (picked (here_at r t at) c (record {
         stack = stack;
         waiting = None;

@@ -1,5 +1,5 @@
 -- Where a pick stands, as the rules see it.
-use Rattle.std.specs.Prelude.{◌≡◌, ◌<◌, ◌≤◌, ◌^◌, ◌&&◌, ℕ, Bool, length, is_none, slice_get, Option, Some, None}
+use Rattle.std.specs.Prelude.{◌≡◌, ◌<◌, ◌≤◌, ◌^◌, ◌&&◌, ℕ, Bool, true, nat_eq, length, is_none, slice_get, Option, Some, None}
 use Rattle.std.specs.Option.{ForSome}
 use Rattle.syn_base.specs.declared.places.Place.{Place}
 use Rattle.syn_base.specs.declared.places.ItemId.{ItemId}
@@ -30,6 +30,20 @@ abbrev pub IsPatternOf : ItemKind → Pattern → Type 0
 IsPatternOf Keyword pattern = ⊥
 IsPatternOf (Match p) pattern = p ≡ pattern
 IsPatternOf (Region starts skip ends) pattern = (n : ℕ) × (Some pattern ≡ slice_get starts n)
+
+-- the first written of them
+abbrev pub first_pattern : ItemKind → Option Pattern
+first_pattern Keyword = None
+first_pattern (Match p) = Some p
+first_pattern (Region starts skip ends) = slice_get starts 0
+
+-- no other pattern starts it
+abbrev pub has_one_start : ItemKind → Bool
+has_one_start (Region starts skip ends) = nat_eq (length starts) 1
+has_one_start _ = true
+
+abbrev pub IsFirst : Rules → ItemId → Pattern → Type 0
+IsFirst r i pattern = first_pattern (item_of r.items i).kind ≡ Some pattern
 
 -- a pattern by which this item starts
 abbrev pub IsOwn : Rules → ItemId → Pattern → Type 0

@@ -1,9 +1,11 @@
 -- Which items of a choice may start at a column, by the key of the column.
-use Rattle.std.specs.Prelude.{◌≡◌, ◌<◌, ◌≤◌, ◌+◌, ℕ, Bool, true, false, not, ◌&&◌, nat_lt, is_none, List, length, slice_index}
+use Rattle.std.specs.Prelude.{◌≡◌, ◌<◌, ◌≤◌, ◌+◌, ◌-◌, ◌⊎◌, ℕ, Bool, true, not, ◌&&◌, false, nat_lt, is_none, List, length, slice_index, IfSome}
 use Rattle.std.specs.List.{All}
 use Rattle.char_class.specs.declared.sets.Sets.{Sets}
 use Rattle.vim_pattern.specs.Tree.{PatternTree}
 use Rattle.syn_base.specs.declared.places.ItemId.{ItemId}
+use Rattle.syn_base.specs.declared.places.Place.{Place}
+use Rattle.match_rules.specs.Ways.{Text, line_at}
 use Rattle.syntax_set.specs.declared.item.Pattern.{Pattern}
 use Rattle.paint_rules.specs.Rules.{Rules, item_of}
 use Rattle.pattern_screens.specs.Bounds.{failing_cost}
@@ -12,10 +14,12 @@ use Rattle.pattern_screens.specs.Screens.{is_futile, verdict}
 use Rattle.pattern_screens.specs.declared.key.Key.{Key}
 use Rattle.item_pick.specs.declared.choice.Choice.{Choice}
 use Rattle.item_pick.specs.declared.memory.PickMemory.{PickMemory}
-use Rattle.item_pick.specs.declared.misses.Miss.{Miss}
+use Rattle.item_pick.specs.declared.runs.Run.{Run}
+use Rattle.item_pick.specs.declared.vains.Vain.{Vain}
 use Rattle.item_pick.specs.declared.tables.Row.{Row}
-use Rattle.item_pick.specs.Quiet.{item_numbered}
-use Rattle.item_pick.specs.Standing.{IsPatternOf}
+use Rattle.item_pick.specs.Quiet.{item_numbered, IsQuiet}
+use Rattle.item_pick.specs.Screens.{IsSettled}
+use Rattle.item_pick.specs.Standing.{IsFirst, IsPatternOf}
 use Rattle.item_pick.specs.Started.{admits}
 
 -- an attempt at a column with this key has no way, looks at its line alone, and is within the budget
@@ -50,49 +54,65 @@ ListStands r choice number list =
     (j : ℕ) → j < length r.items → admits r choice (item_numbered j) ≡ true → Lacks list j →
     StaysOut r number (item_numbered j)
 
--- the admitted items from one on, below another, can't start
-abbrev pub IsNextIn : Rules → Choice → ℕ → ℕ → ℕ → Type 0
-IsNextIn r choice number left next =
+-- the admitted items from one on, below another, can't start at a place
+abbrev pub IsNextAt : Rules → Text → Place → ℕ → Choice → ℕ → ℕ → Type 0
+IsNextAt r t p floor choice left next =
     (next ≤ left) ×
     ((j : ℕ) → next ≤ j → j < left → admits r choice (item_numbered j) ≡ true →
-    StaysOut r number (item_numbered j))
+    IsQuiet r t p floor (item_numbered j))
+
+-- those that a list has not, or that can't start at a place
+abbrev pub IsNextIn : Rules → Text → Place → ℕ → List ℕ → ℕ → ℕ → Type 0
+IsNextIn r t p floor list left next =
+    (next ≤ left) ×
+    ((j : ℕ) → next ≤ j → j < left → Lacks list j ⊎ IsQuiet r t p floor (item_numbered j))
 
 abbrev pub RowStands : Rules → Row → Type 0
 RowStands r row = ListStands r row.choice row.number row.items.items
-
--- what is kept is true of these rules
-abbrev pub TablesStand : Rules → PickMemory → Type 0
-TablesStand r memory = All (RowStands r) memory.rows.items
 
 -- an attempt by a pattern has no way at a column whose key has a number
 abbrev pub is_vain : Sets → ℕ → Bool → ℕ → Pattern → Bool
 is_vain sets budget ignore number pattern =
     nat_lt number 777 && fails sets budget ignore (key_numbered number) pattern.tree
 
--- the same of all patterns by which an item starts
+-- the same of the first pattern of an item
 abbrev pub IsVainAt : Rules → ℕ → ItemId → Type 0
 IsVainAt r number i =
-    (pattern : Pattern) → IsPatternOf (item_of r.items i).kind pattern →
+    (pattern : Pattern) → IsFirst r i pattern →
     is_vain r.sets r.budget (item_of r.items i).ignore number pattern ≡ true
 
--- from a column of a line an item matches by none of its patterns
-abbrev pub IsMissed : Rules → List ℕ → ItemId → ℕ → Type 0
-IsMissed r line i c =
-    (pattern : Pattern) → IsPatternOf (item_of r.items i).kind pattern →
+abbrev pub VainStands : Rules → Vain → Type 0
+VainStands r vain = vain.is ≡ true → IsVainAt r vain.number vain.item
+
+-- an attempt at a column of a line has no way, looks at its line alone, and is within the budget
+abbrev pub IsMissed : Rules → List ℕ → ItemId → Pattern → ℕ → Type 0
+IsMissed r line i pattern c =
     passes r.sets r.budget pattern.tree (item_of r.items i).ignore line c ≡ false
 
-abbrev pub MissStands : Rules → List ℕ → Miss → Type 0
-MissStands r line miss =
-    (c : ℕ) → miss.from ≤ c → c < miss.to → IsMissed r line miss.item c
+-- what is kept is true of these rules
+pub record TablesStand (r : Rules) (memory : PickMemory) : Type 0 where
+  pub rows : All (RowStands r) memory.rows.items
+  pub vains : All (VainStands r) memory.vains.list.items
 
-abbrev pub MissesStand : Rules → List ℕ → List Miss → Type 0
-MissesStand r line misses = All (MissStands r line) misses
+-- ---- what is known of the line
+
+-- the item starts by this pattern alone, and from this floor on it is sought from no column before
+abbrev pub IsEnough : Rules → ItemId → ℕ → ℕ → Type 0
+IsEnough r i from least =
+    (pattern : Pattern) → IsPatternOf (item_of r.items i).kind pattern →
+    IsFirst r i pattern × ((floor : ℕ) → least ≤ floor → from ≤ floor - pattern.lc)
+
+pub record RunStands (r : Rules) (t : Text) (l : ℕ) (run : Run) : Type 0 where
+  pub settled : (pattern : Pattern) → IsFirst r run.item pattern →
+      (c : ℕ) → run.from ≤ c → c < run.to → c ≤ length (line_at t l) →
+      IsSettled r t l run.item pattern run.places.first run.places.end c
+  pub enough : IfSome run.least (IsEnough r run.item run.from)
 
 -- besides, the line is entered
-pub record MemoryStands (r : Rules) (line : List ℕ) (memory : PickMemory) : Type 0 where
+pub record MemoryStands (r : Rules) (t : Text) (l : ℕ) (memory : PickMemory) : Type 0 where
   pub tables : TablesStand r memory
-  pub keys : AreNumbers r.sets line (length line + 1) memory.numbers.items
-  pub misses : MissesStand r line memory.misses.list.items
+  pub keys : AreNumbers r.sets (line_at t l) (length (line_at t l) + 1) memory.numbers.items
+  pub runs : All (RunStands r t l) memory.runs.list.items
 
 -- the column is one of the line's, its end included, and its key has this number
 abbrev pub IsNumberAt : Rules → List ℕ → ℕ → ℕ → Type 0

@@ -29,8 +29,8 @@ impl<T: Lines, S: Syntax> Picking<'_, T, S> {
         requires valid { S.valid self.now.syntax.now }
         requires choice { ChoiceFits (S.rules self.now.syntax.now) choice }
         requires place { IsPlace (T.lines self.now.lines.now) self.now.at }
-        requires memo { M.stands memo.old self.now.syntax.now
-            (line_at (T.lines self.now.lines.now) self.now.at.line) }
+        requires memo { M.stands memo.old self.now.syntax.now (T.lines self.now.lines.now)
+            self.now.at.line }
         requires held { HoldsLine looked.old self.now.at.line }
         ensures told { IsToldAs (seen_start (S.rules self.now.syntax.now).items) looked.old result
             looked.new (start_among
@@ -38,8 +38,8 @@ impl<T: Lines, S: Syntax> Picking<'_, T, S> {
             self.now.at.col (standing_at [] None self.now.floor (reverse self.now.tried.now))
             (admits (S.rules self.now.syntax.now) choice)) }
         ensures there { IfOk result (IsStartThere (S.rules self.now.syntax.now).items) }
-        ensures memo { M.stands memo.new self.now.syntax.now
-            (line_at (T.lines self.now.lines.now) self.now.at.line) }
+        ensures memo { M.stands memo.new self.now.syntax.now (T.lines self.now.lines.now)
+            self.now.at.line }
     {
         let word = self.keyword(choice)?;
         match word {
@@ -73,8 +73,8 @@ impl<T: Lines, S: Syntax> Picking<'_, T, S> {
         requires valid { S.valid self.now.syntax.now }
         requires place { IsPlace (T.lines self.now.lines.now) self.now.at }
         requires frames { Fits (length (S.rules self.now.syntax.now).items) (reverse stack.now) }
-        requires memo { M.stands memo.old self.now.syntax.now
-            (line_at (T.lines self.now.lines.now) self.now.at.line) }
+        requires memo { M.stands memo.old self.now.syntax.now (T.lines self.now.lines.now)
+            self.now.at.line }
         requires held { HoldsLine looked.old self.now.at.line }
         ensures told { IsToldAs (seen_pick (S.rules self.now.syntax.now).items) looked.old result
             looked.new (picked_allowed
@@ -82,8 +82,8 @@ impl<T: Lines, S: Syntax> Picking<'_, T, S> {
             self.now.at.col
             (standing_at (reverse stack.now) None self.now.floor (reverse self.now.tried.now))) }
         ensures there { IfOk result (IsOutcomeThere (S.rules self.now.syntax.now).items) }
-        ensures memo { M.stands memo.new self.now.syntax.now
-            (line_at (T.lines self.now.lines.now) self.now.at.line) }
+        ensures memo { M.stands memo.new self.now.syntax.now (T.lines self.now.lines.now)
+            self.now.at.line }
     {
         let found = self.start_among(self.allowed(stack), looked, memo)?;
         match found {
@@ -104,8 +104,8 @@ impl<T: Lines, S: Syntax> Picking<'_, T, S> {
         requires place { IsPlace (T.lines self.now.lines.now) self.now.at }
         requires frames { Fits (length (S.rules self.now.syntax.now).items) (reverse stack.now) }
         requires waiting { WaitFits (length (S.rules self.now.syntax.now).items) waiting }
-        requires memo { M.stands memo.old self.now.syntax.now
-            (line_at (T.lines self.now.lines.now) self.now.at.line) }
+        requires memo { M.stands memo.old self.now.syntax.now (T.lines self.now.lines.now)
+            self.now.at.line }
         requires held { HoldsLine looked.old self.now.at.line }
         ensures told { IsToldAs (seen_pick (S.rules self.now.syntax.now).items) looked.old result
             looked.new (picked
@@ -113,8 +113,8 @@ impl<T: Lines, S: Syntax> Picking<'_, T, S> {
             self.now.at.col
             (standing_at (reverse stack.now) waiting self.now.floor (reverse self.now.tried.now))) }
         ensures there { IfOk result (IsOutcomeThere (S.rules self.now.syntax.now).items) }
-        ensures memo { M.stands memo.new self.now.syntax.now
-            (line_at (T.lines self.now.lines.now) self.now.at.line) }
+        ensures memo { M.stands memo.new self.now.syntax.now (T.lines self.now.lines.now)
+            self.now.at.line }
     {
         match waiting {
             None => self.pick_allowed(stack, looked, memo),

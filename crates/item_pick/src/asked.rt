@@ -21,17 +21,11 @@ pub(crate) struct Asked<'a> {
 
 impl Syntax for Asked<'_> {
     ghost use Rattle.item_pick.specs.PartsSeen.{rules_in};
-    ghost use Rattle.item_pick.specs.Tables.{passes};
     ghost use Rattle.item_pick.specs.Valid.{IsSound};
-    ghost use Rattle.item_pick.specs.Screened.{futile_by};
 
     ghost rules = { λ a. rules_in a.parts.now a.budget };
 
-    ghost screen = { λ a. passes a.parts.now.sets.now a.budget };
-
     ghost valid = { IsSound };
-
-    ghost cost = { λ a tree. a.budget };
 
     fn budget(&self) -> u64 {
         self.budget
@@ -51,10 +45,6 @@ impl Syntax for Asked<'_> {
 
     fn keywords(&self) -> &Keywords {
         self.parts.keywords
-    }
-
-    fn screen_cost(&self, _id: ItemId, _pattern: &Pattern) -> u64 {
-        self.budget
     }
 
     #[tactic(auto, using(crate::proofs::OwnLaws::own_added, crate::proofs::OwnLaws::told_below))]
@@ -97,6 +87,4 @@ impl Syntax for Asked<'_> {
             self.budget,
         )
     }
-
-    ghost futile = { λ a sound. futile_by a.parts.now.sets.now a.budget };
 }

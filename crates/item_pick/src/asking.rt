@@ -1,8 +1,9 @@
 //! What starts at a place, asked of the parts of a syntax.
-ghost use Rattle.std.specs.Prelude.{◌<◌, ◌≤◌, Bool, length, reverse, Some, IfOk, pos};
+ghost use Rattle.std.specs.Prelude.{◌≡◌, ◌<◌, ◌≤◌, Bool, length, reverse, Some, IfOk, pos};
 ghost use Rattle.syn_base.specs.Looked.{one_line};
 ghost use Rattle.match_rules.specs.Ways.{line_at};
 ghost use Rattle.paint_rules.specs.Painted.{looked_first};
+ghost use Rattle.paint_rules.specs.Rules.{no_externals};
 ghost use Rattle.paint_rules.specs.Pick.{picked};
 ghost use Rattle.keyword_table.specs.ItemNumbers.{AreItemsBelow};
 ghost use Rattle.syntax_set.specs.Soundness.{AreSound};
@@ -69,7 +70,8 @@ pub fn pick<T: Lines>(
 }
 
 /// The same as `pick`, with what is kept of the syntax and the budget. The line has to be entered
-/// (`PickMemory::enter_line`).
+/// (`PickMemory::enter_line`). `none` are nine empty texts (`Externals::none`), so that none are made
+/// here.
 pub fn pick_with<T: Lines>(
     alloc: Global,
     parts: &Parts,
@@ -78,6 +80,7 @@ pub fn pick_with<T: Lines>(
     state: &State,
     floor: usize,
     tried: &List<ItemId>,
+    none: &Externals,
     memory: &mut PickMemory,
     budget: u64,
 ) -> Result<Picked, Memory>
@@ -87,8 +90,9 @@ pub fn pick_with<T: Lines>(
     requires within { at.col ≤ length (line_at (T.lines lines.now) at.line) }
     requires fits { StateFits (length parts.now.items.now) (top_first state.now) }
     requires budget { 1 ≤ budget }
-    requires memory { MemoryStands (rules_in parts.now budget)
-        (line_at (T.lines lines.now) at.line) memory.old }
+    requires none { none.now ≡ no_externals }
+    requires memory { MemoryStands (rules_in parts.now budget) (T.lines lines.now) at.line
+        memory.old }
     ensures picked { IfOk result (λ p. (over : Bool) → IsPicked parts.now.items.now p
         (looked_first (Some (one_line (pos at.line)))
         (picked (here_at (rules_in parts.now budget) (T.lines lines.now) at) at.col (record {
@@ -98,14 +102,13 @@ pub fn pick_with<T: Lines>(
           tried = reverse tried.now;
           is_over = over;
         })))) }
-    ensures memory { MemoryStands (rules_in parts.now budget)
-        (line_at (T.lines lines.now) at.line) memory.new }
+    ensures memory { MemoryStands (rules_in parts.now budget) (T.lines lines.now) at.line
+        memory.new }
 {
-    let externals = Externals::none(alloc)?;
     let asked = Asked {
         parts,
         budget,
-        no_externals: &externals,
+        no_externals: none,
     };
     picked_by(alloc, &asked, lines, at, state, floor, tried, memory)
 }
@@ -126,12 +129,12 @@ fn picked_by<T: Lines, S: Syntax, M: Memo<S>>(
     requires within { at.col ≤ length (line_at (T.lines lines.now) at.line) }
     requires frames { Fits (length (S.rules syntax.now).items) (reverse state.now.stack) }
     requires waiting { WaitFits (length (S.rules syntax.now).items) state.now.waiting }
-    requires memo { M.stands memo.old syntax.now (line_at (T.lines lines.now) at.line) }
+    requires memo { M.stands memo.old syntax.now (T.lines lines.now) at.line }
     ensures picked { IfOk result (λ p. IsPicked (S.rules syntax.now).items p
         (looked_first (Some (one_line (pos at.line)))
         (picked (here_at (S.rules syntax.now) (T.lines lines.now) at) at.col
         (standing_at (reverse state.now.stack) state.now.waiting floor (reverse tried.now))))) }
-    ensures memo { M.stands memo.new syntax.now (line_at (T.lines lines.now) at.line) }
+    ensures memo { M.stands memo.new syntax.now (T.lines lines.now) at.line }
 {
     let _count = lines.len();
     let picking = Picking {

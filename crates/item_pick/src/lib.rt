@@ -12,16 +12,17 @@ mod choice;
 mod columns;
 mod memo;
 mod memory;
-mod misses;
 mod parts;
 mod picking;
 mod quiet;
+mod runs;
 mod starting;
 mod starts;
 mod stop;
 mod syntax;
 mod tables;
 mod tries;
+mod vains;
 mod words;
 
 pub use asking::{pick, pick_with};

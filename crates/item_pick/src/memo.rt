@@ -1,56 +1,83 @@
-//! What is remembered of a line: where each pattern may begin next.
-ghost use Rattle.std.specs.Prelude.{◌≤◌, List, ℕ, length, reverse, IfOk};
-ghost use Rattle.paint_rules.specs.Rules.{item_of};
-ghost use Rattle.item_pick.specs.Screens.{IsNext};
-ghost use Rattle.item_pick.specs.Quiet.{IsNextItem};
-ghost use Rattle.item_pick.specs.Standing.{ChoiceFits, IsOwn};
+//! What is remembered of a line: from which columns no item is matched.
+ghost use Rattle.std.specs.Prelude.{◌≡◌, ◌≤◌, ℕ, length, reverse, IfOk};
+ghost use Rattle.match_rules.specs.Ways.{Text, line_at};
+ghost use Rattle.item_pick.specs.Quiet.{IsEarlier};
+ghost use Rattle.item_pick.specs.Screens.{IsLater, IsSettled};
+ghost use Rattle.item_pick.specs.Standing.{ChoiceFits, IsFirst, IsOwn, IsPlace};
 
 use crate::choice::Choice;
+use crate::columns::Columns;
+use crate::picking::Picking;
 use crate::syntax::Syntax;
-use syn_base::{ItemId, List, Memory};
+use syn_base::{ItemId, Lines, Memory};
 use syntax_set::Pattern;
 
 /// A memo of a line.
 pub(crate) trait Memo<S: Syntax> {
-    /// Whether what it remembers is true of a line.
-    ghost stands: { Self → S → List ℕ → Type 0 };
+    /// Whether what it remembers is true of a line of a text.
+    ghost stands: { Self → S → Text → ℕ → Type 0 };
 
-    /// A column from one on, before which the screen of a pattern by which an item starts fails.
-    fn next(
+    /// A column from one on, up to which no column gives a match by the start pattern of that number
+    /// with its item start at the place.
+    fn next<T: Lines>(
         &mut self,
-        syntax: &S,
+        picking: &Picking<'_, T, S>,
         id: ItemId,
+        start: usize,
         pattern: &Pattern,
-        line: &[char],
         col: usize,
-    ) -> Result<Option<usize>, Memory>
-        requires valid { S.valid syntax.now }
-        requires own { IsOwn (S.rules syntax.now) id pattern.now }
-        requires stands { stands self.old syntax.now line.now }
-        requires column { col ≤ length line.now }
-        ensures stands { stands self.new syntax.now line.now }
-        ensures next { IfOk result (λ next. IsNext next (S.screen syntax.now (pattern.now).tree
-            (item_of (S.rules syntax.now).items id).ignore line.now) col (length line.now)) };
+    ) -> Result<usize, Memory>
+        requires valid { S.valid picking.now.syntax.now }
+        requires own { IsOwn (S.rules picking.now.syntax.now) id pattern.now }
+        requires first { start ≡ 0 → IsFirst (S.rules picking.now.syntax.now) id pattern.now }
+        requires place { IsPlace (T.lines picking.now.lines.now) picking.now.at }
+        requires stands { stands self.old picking.now.syntax.now (T.lines picking.now.lines.now)
+            picking.now.at.line }
+        ensures stands { stands self.new picking.now.syntax.now (T.lines picking.now.lines.now)
+            picking.now.at.line }
+        ensures next { IfOk result (IsLater (S.rules picking.now.syntax.now)
+            (T.lines picking.now.lines.now) id pattern.now picking.now.at col) };
+
+    /// Remembers that a match from a column has its item start at none of some places of the line.
+    fn note<T: Lines>(
+        &mut self,
+        picking: &Picking<'_, T, S>,
+        id: ItemId,
+        start: usize,
+        pattern: &Pattern,
+        col: usize,
+        places: Columns,
+    ) -> Result<(), Memory>
+        requires own { IsOwn (S.rules picking.now.syntax.now) id pattern.now }
+        requires first { start ≡ 0 → IsFirst (S.rules picking.now.syntax.now) id pattern.now }
+        requires place { IsPlace (T.lines picking.now.lines.now) picking.now.at }
+        requires settled { IsSettled (S.rules picking.now.syntax.now)
+            (T.lines picking.now.lines.now) picking.now.at.line id pattern.now places.first
+            places.end col }
+        requires stands { stands self.old picking.now.syntax.now (T.lines picking.now.lines.now)
+            picking.now.at.line }
+        ensures { stands self.new picking.now.syntax.now (T.lines picking.now.lines.now)
+            picking.now.at.line };
 
     /// The items of a choice are tried from the last to the first: how many are left, once those
-    /// behind them are passed over that aren't free, or can't begin where they would have to.
-    fn next_item(
+    /// behind them are passed over that aren't free, or don't start at the place.
+    fn next_item<T: Lines>(
         &mut self,
-        syntax: &S,
+        picking: &Picking<'_, T, S>,
         choice: Choice,
-        tried: &List<ItemId>,
-        line: &[char],
-        at: usize,
-        floor: usize,
         left: usize,
     ) -> Result<usize, Memory>
-        requires valid { S.valid syntax.now }
-        requires choice { ChoiceFits (S.rules syntax.now) choice }
-        requires stands { stands self.old syntax.now line.now }
-        requires items { left ≤ length (S.rules syntax.now).items }
-        ensures stands { stands self.new syntax.now line.now }
-        ensures next { IfOk result (IsNextItem (S.screen syntax.now) (S.cost syntax.now)
-            (S.rules syntax.now) (reverse tried.now) choice line.now at floor left) };
+        requires valid { S.valid picking.now.syntax.now }
+        requires choice { ChoiceFits (S.rules picking.now.syntax.now) choice }
+        requires place { IsPlace (T.lines picking.now.lines.now) picking.now.at }
+        requires stands { stands self.old picking.now.syntax.now (T.lines picking.now.lines.now)
+            picking.now.at.line }
+        requires items { left ≤ length (S.rules picking.now.syntax.now).items }
+        ensures stands { stands self.new picking.now.syntax.now (T.lines picking.now.lines.now)
+            picking.now.at.line }
+        ensures next { IfOk result (IsEarlier (S.rules picking.now.syntax.now)
+            (T.lines picking.now.lines.now) picking.now.at picking.now.floor
+            (reverse picking.now.tried.now) choice left) };
 }
 
 /// A memo that remembers nothing.
@@ -58,27 +85,35 @@ pub(crate) trait Memo<S: Syntax> {
 pub(crate) struct NoMemo;
 
 impl<S: Syntax> Memo<S> for NoMemo {
-    ghost stands = { λ memo s line. Unit {0} };
+    ghost stands = { λ memo s t l. Unit {0} };
 
-    fn next(
+    fn next<T: Lines>(
         &mut self,
-        _syntax: &S,
+        _picking: &Picking<'_, T, S>,
         _id: ItemId,
+        _start: usize,
         _pattern: &Pattern,
-        _line: &[char],
         col: usize,
-    ) -> Result<Option<usize>, Memory> {
-        Ok(Some(col))
+    ) -> Result<usize, Memory> {
+        Ok(col)
     }
 
-    fn next_item(
+    fn note<T: Lines>(
         &mut self,
-        _syntax: &S,
+        _picking: &Picking<'_, T, S>,
+        _id: ItemId,
+        _start: usize,
+        _pattern: &Pattern,
+        _col: usize,
+        _places: Columns,
+    ) -> Result<(), Memory> {
+        Ok(())
+    }
+
+    fn next_item<T: Lines>(
+        &mut self,
+        _picking: &Picking<'_, T, S>,
         _choice: Choice,
-        _tried: &List<ItemId>,
-        _line: &[char],
-        _at: usize,
-        _floor: usize,
         left: usize,
     ) -> Result<usize, Memory> {
         Ok(left)

@@ -1,22 +1,27 @@
 //! What is kept of a syntax: which items may start by what stands at a column.
-ghost use Rattle.std.specs.Prelude.{◌≡◌, ◌<◌, ◌≤◌, ◌+◌, ◌^◌, ℕ, List, length, reverse, IfOk, IfSome, IsTrue};
-ghost use Rattle.paint_rules.specs.Rules.{Rules};
+ghost use Rattle.std.specs.Prelude.{◌≡◌, ◌<◌, ◌≤◌, ◌+◌, ◌⊎◌, ◌^◌, ℕ, List, length, reverse, IfOk, IfSome, IsTrue};
+ghost use Rattle.match_rules.specs.Ways.{Text, line_at};
+ghost use Rattle.paint_rules.specs.Rules.{Rules, item_of, place_at};
 ghost use Rattle.pattern_screens.specs.Keys.{AreNumbers};
 ghost use Rattle.item_pick.specs.PartsSeen.{rules_in};
-ghost use Rattle.item_pick.specs.Quiet.{item_numbered};
-ghost use Rattle.item_pick.specs.Started.{admits};
-ghost use Rattle.item_pick.specs.Standing.{ChoiceFits, IsItem};
-ghost use Rattle.item_pick.specs.Tables.{IsMissed, IsNextIn, IsNumberAt, MemoryStands, RowStands, StaysOut, TablesStand};
+ghost use Rattle.item_pick.specs.Quiet.{IsQuiet, item_numbered};
+ghost use Rattle.item_pick.specs.Runs.{TellsOf};
+ghost use Rattle.item_pick.specs.Standing.{ChoiceFits, IsFirst, IsItem, IsOwn};
+ghost use Rattle.item_pick.specs.Tables.{IsMissed, IsNextAt, IsNextIn, IsNumberAt, IsVainAt, MemoryStands, RowStands, RunStands, TablesStand};
 
 use crate::asked::Asked;
 use crate::choice::Choice;
+use crate::columns::Columns;
 use crate::memo::Memo;
-use crate::misses::{Miss, Misses};
 use crate::parts::Parts;
-use crate::tables::{ANY, Row, next_below};
+use crate::picking::Picking;
+use crate::runs::{Run, Runs};
+use crate::tables::{ANY, Row};
+use crate::vains::{Vain, Vains};
 use pattern_screens::number_line;
+use region_ends::item_of;
 use std::alloc::Global;
-use syn_base::{ItemId, List, Memory};
+use syn_base::{ItemId, Lines, Memory};
 use syntax_set::Pattern;
 
 /// How many rows a choice has: one for each key, and one for all.
@@ -26,8 +31,9 @@ const ROWS: usize = 778;
 const NOWHERE: usize = usize::MAX;
 
 /// What is kept of a syntax and a budget from line to line: for what is allowed, and what stands at a
-/// column, the items that may start there. It is made as it is asked. Of the line that is painted it
-/// has the numbers of its keys, and the columns from which items don't match.
+/// column, the items that may start there, and those that can't be matched from there. It is made as
+/// it is asked. Of the line that is painted it has the numbers of its keys, and the columns from which
+/// items aren't matched.
 #[derive(Drop)]
 pub struct PickMemory {
     alloc: Global,
@@ -37,8 +43,9 @@ pub struct PickMemory {
     starts: Vec<usize>,
     /// Where a row of a choice and a key would be.
     places: Vec<usize>,
+    vains: Vains,
     numbers: Vec<u16>,
-    misses: Misses,
+    runs: Runs,
 }
 
 impl PickMemory {
@@ -51,18 +58,20 @@ impl PickMemory {
             rows: Vec::new(alloc),
             starts: Vec::new(alloc),
             places: Vec::new(alloc),
+            vains: Vains::new(alloc),
             numbers: Vec::new(alloc),
-            misses: Misses::new(alloc),
+            runs: Runs::new(alloc),
         }
     }
 
     /// Begins a line. What is kept of the syntax stays.
     pub fn enter_line(&mut self, parts: &Parts, line: &[char]) -> Result<(), Memory>
         ensures kept { (r : Rules) → TablesStand r self.old → TablesStand r self.new }
-        ensures entered { (budget : ℕ) → TablesStand (rules_in parts.now budget) self.old →
-            IfOk result (λ _. MemoryStands (rules_in parts.now budget) line.now self.new) }
+        ensures entered { (budget : ℕ) (t : Text) (l : ℕ) → line.now ≡ line_at t l →
+            TablesStand (rules_in parts.now budget) self.old →
+            IfOk result (λ _. MemoryStands (rules_in parts.now budget) t l self.new) }
     {
-        self.misses.clear();
+        self.runs.clear();
         number_line(parts.sets, line, &mut self.numbers)
     }
 
@@ -91,8 +100,9 @@ impl PickMemory {
     /// Notes where a row will be.
     fn note(&mut self, choice: Choice, number: u16) -> Result<(), Memory>
         ensures rows { self.new.rows ≡ self.old.rows }
+        ensures vains { self.new.vains ≡ self.old.vains }
         ensures numbers { self.new.numbers ≡ self.old.numbers }
-        ensures misses { self.new.misses ≡ self.old.misses }
+        ensures runs { self.new.runs ≡ self.old.runs }
     {
         let choice = number_of(choice);
         grow(&mut self.starts, choice + 1, NOWHERE)?;
@@ -108,7 +118,7 @@ impl PickMemory {
         ensures stands { (r : Rules) → TablesStand r self.old → RowStands r row →
             TablesStand r self.new }
         ensures numbers { self.new.numbers ≡ self.old.numbers }
-        ensures misses { self.new.misses ≡ self.old.misses }
+        ensures runs { self.new.runs ≡ self.old.runs }
     {
         let place = self.rows.len();
         self.note(row.choice, row.number)?;
@@ -122,7 +132,7 @@ impl PickMemory {
         requires stands { TablesStand (rules_in asked.now.parts.now asked.now.budget) self.old }
         ensures stands { TablesStand (rules_in asked.now.parts.now asked.now.budget) self.new }
         ensures numbers { self.new.numbers ≡ self.old.numbers }
-        ensures misses { self.new.misses ≡ self.old.misses }
+        ensures runs { self.new.runs ≡ self.old.runs }
     {
         let place = self.place(choice, ANY).unwrap_or(NOWHERE);
         if self.row(place, choice, ANY).is_some() {
@@ -138,7 +148,7 @@ impl PickMemory {
         requires stands { TablesStand (rules_in asked.now.parts.now asked.now.budget) self.old }
         ensures stands { TablesStand (rules_in asked.now.parts.now asked.now.budget) self.new }
         ensures numbers { self.new.numbers ≡ self.old.numbers }
-        ensures misses { self.new.misses ≡ self.old.misses }
+        ensures runs { self.new.runs ≡ self.old.runs }
     {
         let place = self.whole(asked, choice)?;
         let row = match self.row(place, choice, ANY) {
@@ -148,22 +158,75 @@ impl PickMemory {
         self.keep(row)
     }
 
+    /// Whether an item is known to have no match with its item start at a column.
+    fn is_settled(&self, id: u32, at: usize, floor: usize) -> bool
+        ensures { IsTrue result → (r : Rules) (t : Text) (l : ℕ) → MemoryStands r t l self.now →
+            IsQuiet r t (place_at l at) floor (item_numbered id) }
+    {
+        self.runs
+            .covers(ItemId(id), at, floor, self.numbers.len())
+    }
+
+    /// The number behind an item, or what is next without it where it is behind that already, isn't
+    /// below what is left, or doesn't start at a column.
+    fn next_with(&self, next: usize, id: u32, left: usize, at: usize, floor: usize) -> usize
+        ensures least { next ≤ result }
+        ensures within { next ≤ left → result ≤ left }
+        ensures open { id < left → (id < result) ⊎ ((r : Rules) (t : Text) (l : ℕ) →
+            MemoryStands r t l self.now → IsQuiet r t (place_at l at) floor (item_numbered id)) }
+    {
+        let number = id as usize;
+        if number < next || left <= number || self.is_settled(id, at, floor) {
+            next
+        } else {
+            number + 1
+        }
+    }
+
+    /// The number behind the greatest item of a list that is below another one and may start at a
+    /// column; 0 where there is none.
+    fn next_open(&self, list: &[u32], left: usize, at: usize, floor: usize) -> usize
+        ensures { (r : Rules) (t : Text) (l : ℕ) → MemoryStands r t l self.now →
+            IsNextIn r t (place_at l at) floor list.now left result }
+    {
+        let mut next = 0;
+        for id in list {
+            next = self.next_with(next, *id, left, at, floor);
+        }
+        next
+    }
+
     /// The number of items that are left by a row, if it stands at a place.
-    fn left_by(&self, place: usize, choice: Choice, number: u16, left: usize) -> Option<usize>
-        ensures { (r : Rules) → TablesStand r self.now → left ≤ length r.items →
-            IfSome result (IsNextIn r choice number left) }
+    fn left_by(
+        &self,
+        _asked: &Asked,
+        place: usize,
+        choice: Choice,
+        number: u16,
+        at: usize,
+        floor: usize,
+        left: usize,
+    ) -> Option<usize>
+        requires { left ≤ length _asked.now.parts.now.items.now }
+        ensures { (t : Text) (l : ℕ) →
+            MemoryStands (rules_in _asked.now.parts.now _asked.now.budget) t l self.now →
+            IsNumberAt (rules_in _asked.now.parts.now _asked.now.budget) (line_at t l) at number →
+            IfSome result (IsNextAt (rules_in _asked.now.parts.now _asked.now.budget) t
+            (place_at l at) floor choice left) }
     {
         let row = self.row(place, choice, number)?;
-        Some(next_below(&row.items, left))
+        Some(self.next_open(&row.items, left, at, floor))
     }
 
     /// The number of items that are left, once those behind them are passed over that a choice
-    /// hasn't, or that can't start at a column whose key has a number.
+    /// hasn't, or that don't start at a column whose key has a number.
     pub(crate) fn left_in(
         &mut self,
         asked: &Asked,
         choice: Choice,
         number: u16,
+        at: usize,
+        floor: usize,
         left: usize,
     ) -> Result<usize, Memory>
         requires choice { ChoiceFits (rules_in asked.now.parts.now asked.now.budget) choice }
@@ -171,17 +234,20 @@ impl PickMemory {
         requires items { left ≤ length asked.now.parts.now.items.now }
         ensures stands { TablesStand (rules_in asked.now.parts.now asked.now.budget) self.new }
         ensures numbers { self.new.numbers ≡ self.old.numbers }
-        ensures misses { self.new.misses ≡ self.old.misses }
-        ensures next { IfOk result
-            (IsNextIn (rules_in asked.now.parts.now asked.now.budget) choice number left) }
+        ensures runs { self.new.runs ≡ self.old.runs }
+        ensures next { (t : Text) (l : ℕ) →
+            MemoryStands (rules_in asked.now.parts.now asked.now.budget) t l self.old →
+            IsNumberAt (rules_in asked.now.parts.now asked.now.budget) (line_at t l) at number →
+            IfOk result (IsNextAt (rules_in asked.now.parts.now asked.now.budget) t (place_at l at)
+            floor choice left) }
     {
         let place = self.place(choice, number).unwrap_or(NOWHERE);
-        match self.left_by(place, choice, number, left) {
+        match self.left_by(asked, place, choice, number, at, floor, left) {
             Some(next) => return Ok(next),
             None => {}
         }
         let place = self.made(asked, choice, number)?;
-        match self.left_by(place, choice, number, left) {
+        match self.left_by(asked, place, choice, number, at, floor, left) {
             Some(next) => Ok(next),
             None => Ok(left),
         }
@@ -189,74 +255,197 @@ impl PickMemory {
 
     /// The number of the key at a column.
     pub(crate) fn number_at(&self, col: usize) -> Option<u16>
-        ensures { (r : Rules) (line : List ℕ) → MemoryStands r line self.now →
-            IfSome result (IsNumberAt r line col) }
+        ensures { (r : Rules) (t : Text) (l : ℕ) → MemoryStands r t l self.now →
+            IfSome result (IsNumberAt r (line_at t l) col) }
     {
         self.numbers.get(col).copied()
     }
 
-    /// Whether an item is known not to match from a column.
-    fn is_missed(&self, asked: &Asked, id: ItemId, col: usize) -> bool
-        requires { IsItem (rules_in asked.now.parts.now asked.now.budget) id }
-        ensures { IsTrue result → (line : List ℕ) →
-            MemoryStands (rules_in asked.now.parts.now asked.now.budget) line self.now →
-            IsMissed (rules_in asked.now.parts.now asked.now.budget) line id col }
+    /// Whether attempts by the first start pattern of an item are in vain at a column whose key has a
+    /// number. The answer is kept.
+    fn is_vain(
+        &mut self,
+        asked: &Asked,
+        id: ItemId,
+        pattern: &Pattern,
+        number: u16,
+    ) -> Result<bool, Memory>
+        requires item { IsItem (rules_in asked.now.parts.now asked.now.budget) id }
+        requires first { IsFirst (rules_in asked.now.parts.now asked.now.budget) id pattern.now }
+        requires stands { TablesStand (rules_in asked.now.parts.now asked.now.budget) self.old }
+        ensures stands { TablesStand (rules_in asked.now.parts.now asked.now.budget) self.new }
+        ensures numbers { self.new.numbers ≡ self.old.numbers }
+        ensures runs { self.new.runs ≡ self.old.runs }
+        ensures vain { IfOk result (λ vain. IsTrue vain →
+            IsVainAt (rules_in asked.now.parts.now asked.now.budget) number id) }
+    {
+        match self.vains.known(id, number) {
+            Some(vain) => return Ok(vain),
+            None => {}
+        }
+        let ignore = item_of(asked.parts.items, id).ignore;
+        let is = asked.is_vain(ignore, pattern, number);
+        self.vains.keep(Vain {
+            item: id,
+            number,
+            is,
+        })?;
+        Ok(is)
+    }
+
+    /// Whether an item is known not to match by its first start pattern from a column.
+    fn is_missed(
+        &mut self,
+        asked: &Asked,
+        id: ItemId,
+        pattern: &Pattern,
+        col: usize,
+    ) -> Result<bool, Memory>
+        requires item { IsItem (rules_in asked.now.parts.now asked.now.budget) id }
+        requires first { IsFirst (rules_in asked.now.parts.now asked.now.budget) id pattern.now }
+        requires stands { TablesStand (rules_in asked.now.parts.now asked.now.budget) self.old }
+        ensures stands { TablesStand (rules_in asked.now.parts.now asked.now.budget) self.new }
+        ensures numbers { self.new.numbers ≡ self.old.numbers }
+        ensures runs { self.new.runs ≡ self.old.runs }
+        ensures missed { IfOk result (λ missed. IsTrue missed → (t : Text) (l : ℕ) →
+            MemoryStands (rules_in asked.now.parts.now asked.now.budget) t l self.old →
+            IsMissed (rules_in asked.now.parts.now asked.now.budget) (line_at t l) id pattern.now
+            col) }
     {
         match self.number_at(col) {
-            Some(number) => asked.is_item_vain(id, number),
-            None => false,
+            Some(number) => self.is_vain(asked, id, pattern, number),
+            None => Ok(false),
         }
     }
 
-    /// The first column from one on from which an item may match.
-    fn first_open(&self, asked: &Asked, id: ItemId, from: usize) -> usize
-        requires { IsItem (rules_in asked.now.parts.now asked.now.budget) id }
-        ensures from { from ≤ result }
-        ensures missed { (line : List ℕ) →
-            MemoryStands (rules_in asked.now.parts.now asked.now.budget) line self.now →
-            (c : ℕ) → from ≤ c → c < result →
-            IsMissed (rules_in asked.now.parts.now asked.now.budget) line id c }
+    /// The first column from one on from which an item may match by its first start pattern.
+    fn first_open(
+        &mut self,
+        asked: &Asked,
+        id: ItemId,
+        pattern: &Pattern,
+        from: usize,
+    ) -> Result<usize, Memory>
+        requires item { IsItem (rules_in asked.now.parts.now asked.now.budget) id }
+        requires first { IsFirst (rules_in asked.now.parts.now asked.now.budget) id pattern.now }
+        requires stands { TablesStand (rules_in asked.now.parts.now asked.now.budget) self.old }
+        ensures stands { TablesStand (rules_in asked.now.parts.now asked.now.budget) self.new }
+        ensures numbers { self.new.numbers ≡ self.old.numbers }
+        ensures runs { self.new.runs ≡ self.old.runs }
+        ensures from { IfOk result (λ to. from ≤ to) }
+        ensures missed { IfOk result (λ to. (t : Text) (l : ℕ) →
+            MemoryStands (rules_in asked.now.parts.now asked.now.budget) t l self.old →
+            (c : ℕ) → from ≤ c → c < to →
+            IsMissed (rules_in asked.now.parts.now asked.now.budget) (line_at t l) id pattern.now
+            c) }
     {
-        for col in from..self.numbers.len() {
-            if !self.is_missed(asked, id, col) {
-                return col;
+        let end = self.numbers.len();
+        for col in from..end {
+            let missed = self.is_missed(asked, id, pattern, col)?;
+            if !missed {
+                return Ok(col);
             }
         }
-        from.max(self.numbers.len())
+        Ok(from.max(end))
+    }
+
+    /// The run of an item that holds a column or ends there, and tells of a place: one that has no
+    /// column yet, where there is none.
+    fn run_at(&self, asked: &Asked, id: ItemId, pattern: &Pattern, col: usize, at: usize) -> Run
+        requires item { IsItem (rules_in asked.now.parts.now asked.now.budget) id }
+        requires first { IsFirst (rules_in asked.now.parts.now asked.now.budget) id pattern.now }
+        requires short { at < 2 ^ 62 }
+        ensures tells { TellsOf id col at result }
+        ensures stands { (t : Text) (l : ℕ) →
+            MemoryStands (rules_in asked.now.parts.now asked.now.budget) t l self.now →
+            RunStands (rules_in asked.now.parts.now asked.now.budget) t l result }
+    {
+        match self.runs.known(id, col, at) {
+            Some(run) => run,
+            None => asked.fresh_run(id, pattern, col),
+        }
     }
 }
 
 impl Memo<Asked<'_>> for PickMemory {
-    ghost stands = { λ memory a line. MemoryStands (rules_in a.parts.now a.budget) line memory };
+    ghost stands = { λ memory a t l. MemoryStands (rules_in a.parts.now a.budget) t l memory };
 
-    fn next(
+    fn next<T: Lines>(
         &mut self,
-        syntax: &Asked,
+        picking: &Picking<'_, T, Asked<'_>>,
         id: ItemId,
-        _pattern: &Pattern,
-        _line: &[char],
+        start: usize,
+        pattern: &Pattern,
         col: usize,
-    ) -> Result<Option<usize>, Memory> {
-        let known = self.misses.known(id, col);
-        let to = self.first_open(syntax, id, known.to);
-        self.misses.keep(Miss { to, ..known })?;
-        Ok(Some(to))
+    ) -> Result<usize, Memory> {
+        if start != 0 || !wanders(pattern) {
+            return Ok(col);
+        }
+        let _last = picking.last();
+        let run = self.run_at(picking.syntax, id, pattern, col, picking.at.col);
+        let to = self.first_open(picking.syntax, id, pattern, run.to)?;
+        self.runs.keep(Run { to, ..run })?;
+        Ok(to)
     }
 
-    fn next_item(
+    fn note<T: Lines>(
         &mut self,
-        syntax: &Asked,
+        picking: &Picking<'_, T, Asked<'_>>,
+        id: ItemId,
+        start: usize,
+        pattern: &Pattern,
+        col: usize,
+        places: Columns,
+    ) -> Result<(), Memory> {
+        let at = picking.at.col;
+        if start != 0 || !wanders(pattern) || picking.last() < col {
+            return Ok(());
+        }
+        let run = self.run_at(picking.syntax, id, pattern, col, at);
+        let places = both(run.places, places);
+        if at < places.first || places.end <= at {
+            return Ok(());
+        }
+        if run.to != col {
+            return Ok(());
+        }
+        self.runs.keep(Run {
+            to: col + 1,
+            places,
+            ..run
+        })
+    }
+
+    fn next_item<T: Lines>(
+        &mut self,
+        picking: &Picking<'_, T, Asked<'_>>,
         choice: Choice,
-        _tried: &List<ItemId>,
-        _line: &[char],
-        at: usize,
-        _floor: usize,
         left: usize,
     ) -> Result<usize, Memory> {
+        let at = picking.at.col;
         match self.number_at(at) {
-            Some(number) => self.left_in(syntax, choice, number, left),
+            Some(number) => {
+                self.left_in(picking.syntax, choice, number, at, picking.floor, left)
+            }
             None => Ok(left),
         }
+    }
+}
+
+/// Whether a match by a pattern may have its item start elsewhere than its offset from the first
+/// column says.
+fn wanders(pattern: &Pattern) -> bool {
+    pattern.tree.moves_start || pattern.ms.is_some()
+}
+
+/// The columns of both.
+fn both(a: Columns, b: Columns) -> Columns
+    ensures first { a.first ≤ result.first × b.first ≤ result.first }
+    ensures end { result.end ≤ a.end × result.end ≤ b.end }
+{
+    Columns {
+        first: a.first.max(b.first),
+        end: a.end.min(b.end),
     }
 }
 
@@ -273,7 +462,7 @@ fn number_of(choice: Choice) -> usize
 }
 
 /// Puts a value at the end until a list is so long.
-fn grow(list: &mut Vec<usize>, to: usize, value: usize) -> Result<(), Memory> {
+pub(crate) fn grow(list: &mut Vec<usize>, to: usize, value: usize) -> Result<(), Memory> {
     for _ in list.len()..to {
         list.push(value)?;
     }

@@ -3,7 +3,7 @@ ghost use Rattle.std.specs.Prelude.{◌≡◌, ◌<◌, ◌≤◌, length, rever
 ghost use Rattle.match_rules.specs.Ways.{line_at};
 ghost use Rattle.keyword_table.specs.ItemNumbers.{AreItemsBelow};
 ghost use Rattle.keyword_table.specs.Words.{begins_word};
-ghost use Rattle.paint_rules.specs.Rules.{place_at};
+ghost use Rattle.paint_rules.specs.Rules.{no_externals, place_at};
 ghost use Rattle.paint_rules.specs.States.{Fits, StateFits};
 ghost use Rattle.state_stack.specs.TopFirst.{top_first};
 ghost use Rattle.syntax_set.specs.Soundness.{AreSound};
@@ -26,14 +26,16 @@ use syn_base::{Externals, ItemId, Lines, List, Memory, Place};
 
 /// The first column from a place of a present line on at which something may start on the stack of a
 /// state, at most the line's length: it stops where a word begins, and where what stands there may
-/// begin an item. The line has to be entered (`PickMemory::enter_line`). An attempt costs at most
-/// `budget`.
+/// begin an item. The last start or close in the line is at `floor`. The line has to be entered
+/// (`PickMemory::enter_line`). `none` are nine empty texts. An attempt costs at most `budget`.
 pub fn quiet_until<T: Lines>(
     alloc: Global,
     parts: &Parts,
     lines: &T,
     at: Place,
     state: &State,
+    floor: usize,
+    none: &Externals,
     memory: &mut PickMemory,
     budget: u64,
 ) -> Result<usize, Memory>
@@ -43,21 +45,30 @@ pub fn quiet_until<T: Lines>(
     requires within { at.col ≤ length (line_at (T.lines lines.now) at.line) }
     requires fits { StateFits (length parts.now.items.now) (top_first state.now) }
     requires budget { 1 ≤ budget }
-    requires memory { MemoryStands (rules_in parts.now budget)
-        (line_at (T.lines lines.now) at.line) memory.old }
+    requires none { none.now ≡ no_externals }
+    requires memory { MemoryStands (rules_in parts.now budget) (T.lines lines.now) at.line
+        memory.old }
     ensures quiet { IfOk result (IsQuietUntil (rules_in parts.now budget) (T.lines lines.now) at
-        (reverse state.now.stack)) }
-    ensures memory { MemoryStands (rules_in parts.now budget)
-        (line_at (T.lines lines.now) at.line) memory.new }
+        (reverse state.now.stack) floor) }
+    ensures memory { MemoryStands (rules_in parts.now budget) (T.lines lines.now) at.line
+        memory.new }
 {
-    let externals = Externals::none(alloc)?;
     let tried = List::new(alloc);
     let asked = Asked {
         parts,
         budget,
-        no_externals: &externals,
+        no_externals: none,
     };
-    quiet_by(alloc, &asked, lines, at, &state.stack, &tried, memory)
+    quiet_by(
+        alloc,
+        &asked,
+        lines,
+        at,
+        &state.stack,
+        floor,
+        &tried,
+        memory,
+    )
 }
 
 /// The first column from a place on at which something may start on a stack.
@@ -67,6 +78,7 @@ fn quiet_by<T: Lines>(
     lines: &T,
     at: Place,
     stack: &Stack,
+    floor: usize,
     tried: &List<ItemId>,
     memory: &mut PickMemory,
 ) -> Result<usize, Memory>
@@ -75,11 +87,11 @@ fn quiet_by<T: Lines>(
     requires within { at.col ≤ length (line_at (T.lines lines.now) at.line) }
     requires frames { Fits (length syntax.now.parts.now.items.now) (reverse stack.now) }
     requires memory { MemoryStands (rules_in syntax.now.parts.now syntax.now.budget)
-        (line_at (T.lines lines.now) at.line) memory.old }
+        (T.lines lines.now) at.line memory.old }
     ensures quiet { IfOk result (IsQuietUntil (rules_in syntax.now.parts.now syntax.now.budget)
-        (T.lines lines.now) at (reverse stack.now)) }
+        (T.lines lines.now) at (reverse stack.now) floor) }
     ensures memory { MemoryStands (rules_in syntax.now.parts.now syntax.now.budget)
-        (line_at (T.lines lines.now) at.line) memory.new }
+        (T.lines lines.now) at.line memory.new }
 {
     let _count = lines.len();
     let picking = Picking {
@@ -87,7 +99,7 @@ fn quiet_by<T: Lines>(
         syntax,
         lines,
         at,
-        floor: 0,
+        floor,
         tried,
     };
     picking.quiet_until(stack, memory)
@@ -103,13 +115,13 @@ impl<T: Lines> Picking<'_, T, Asked<'_>> {
             (rules_in self.now.syntax.now.parts.now self.now.syntax.now.budget) choice }
         requires memory { MemoryStands
             (rules_in self.now.syntax.now.parts.now self.now.syntax.now.budget)
-            (line_at (T.lines self.now.lines.now) self.now.at.line) memory.old }
+            (T.lines self.now.lines.now) self.now.at.line memory.old }
         ensures quiet { IfOk result (λ quiet. IsTrue quiet → IsQuietAt
             (rules_in self.now.syntax.now.parts.now self.now.syntax.now.budget)
-            (T.lines self.now.lines.now) choice (place_at self.now.at.line col)) }
+            (T.lines self.now.lines.now) choice self.now.floor (place_at self.now.at.line col)) }
         ensures memory { MemoryStands
             (rules_in self.now.syntax.now.parts.now self.now.syntax.now.budget)
-            (line_at (T.lines self.now.lines.now) self.now.at.line) memory.new }
+            (T.lines self.now.lines.now) self.now.at.line memory.new }
     {
         match choice {
             Choice::NoItem => Ok(true),
@@ -131,13 +143,13 @@ impl<T: Lines> Picking<'_, T, Asked<'_>> {
             (rules_in self.now.syntax.now.parts.now self.now.syntax.now.budget) choice }
         requires memory { MemoryStands
             (rules_in self.now.syntax.now.parts.now self.now.syntax.now.budget)
-            (line_at (T.lines self.now.lines.now) self.now.at.line) memory.old }
+            (T.lines self.now.lines.now) self.now.at.line memory.old }
         ensures quiet { IfOk result (λ quiet. IsTrue quiet → IsQuietAt
             (rules_in self.now.syntax.now.parts.now self.now.syntax.now.budget)
-            (T.lines self.now.lines.now) choice (place_at self.now.at.line col)) }
+            (T.lines self.now.lines.now) choice self.now.floor (place_at self.now.at.line col)) }
         ensures memory { MemoryStands
             (rules_in self.now.syntax.now.parts.now self.now.syntax.now.budget)
-            (line_at (T.lines self.now.lines.now) self.now.at.line) memory.new }
+            (T.lines self.now.lines.now) self.now.at.line memory.new }
     {
         if begins_word(self.line(), col, &self.syntax.parts.sets.keyword) {
             return Ok(false);
@@ -145,7 +157,7 @@ impl<T: Lines> Picking<'_, T, Asked<'_>> {
         match memory.number_at(col) {
             Some(number) => {
                 let count = self.syntax.parts.items.added();
-                let left = memory.left_in(self.syntax, choice, number, count)?;
+                let left = memory.left_in(self.syntax, choice, number, col, self.floor, count)?;
                 Ok(left == 0)
             }
             None => Ok(false),
@@ -159,13 +171,13 @@ impl<T: Lines> Picking<'_, T, Asked<'_>> {
         requires frames { Fits (length self.now.syntax.now.parts.now.items.now) (reverse stack.now) }
         requires memory { MemoryStands
             (rules_in self.now.syntax.now.parts.now self.now.syntax.now.budget)
-            (line_at (T.lines self.now.lines.now) self.now.at.line) memory.old }
+            (T.lines self.now.lines.now) self.now.at.line memory.old }
         ensures quiet { IfOk result (IsQuietUntil
             (rules_in self.now.syntax.now.parts.now self.now.syntax.now.budget)
-            (T.lines self.now.lines.now) self.now.at (reverse stack.now)) }
+            (T.lines self.now.lines.now) self.now.at (reverse stack.now) self.now.floor) }
         ensures memory { MemoryStands
             (rules_in self.now.syntax.now.parts.now self.now.syntax.now.budget)
-            (line_at (T.lines self.now.lines.now) self.now.at.line) memory.new }
+            (T.lines self.now.lines.now) self.now.at.line memory.new }
     {
         let choice = self.allowed(stack);
         let last = self.last();

@@ -1,6 +1,6 @@
 //! The start of a match or a region.
 ghost use Rattle.std.specs.Prelude.{◌≡◌, ◌<◌, ◌≤◌, ◌^◌, ℕ, length, IfOk, Some, reverse, true};
-ghost use Rattle.match_rules.specs.Ways.{is_after, line_at};
+ghost use Rattle.match_rules.specs.Ways.{is_after};
 ghost use Rattle.paint_rules.specs.Painted.{first_found};
 ghost use Rattle.paint_rules.specs.Rules.{item_of};
 ghost use Rattle.paint_rules.specs.Close.{is_region};
@@ -147,17 +147,17 @@ impl<T: Lines, S: Syntax> Picking<'_, T, S> {
             < length (starts_of (item_of (S.rules self.now.syntax.now).items id).kind) }
         requires pattern { pattern.now
             ≡ start_pattern (S.rules self.now.syntax.now).items id start }
-        requires memo { M.stands memo.old self.now.syntax.now
-            (line_at (T.lines self.now.lines.now) self.now.at.line) }
+        requires memo { M.stands memo.old self.now.syntax.now (T.lines self.now.lines.now)
+            self.now.at.line }
         requires held { HoldsLine looked.old self.now.at.line }
         ensures told { IsToldAs (seen_start (S.rules self.now.syntax.now).items) looked.old result
             looked.new (start_at (S.rules self.now.syntax.now) (T.lines self.now.lines.now)
             self.now.at self.now.floor id pattern.now) }
         ensures there { IfOk result (IsStartThere (S.rules self.now.syntax.now).items) }
-        ensures memo { M.stands memo.new self.now.syntax.now
-            (line_at (T.lines self.now.lines.now) self.now.at.line) }
+        ensures memo { M.stands memo.new self.now.syntax.now (T.lines self.now.lines.now)
+            self.now.at.line }
     {
-        match self.item_match(id, pattern, looked, memo)? {
+        match self.item_match(id, start, pattern, looked, memo)? {
             Some(m) => self.region_start(id, start, m, looked),
             None => Ok(None),
         }
@@ -177,15 +177,15 @@ impl<T: Lines, S: Syntax> Picking<'_, T, S> {
         requires region { is_region (item_of (S.rules self.now.syntax.now).items id).kind ≡ true }
         requires starts { starts.now
             ≡ starts_of (item_of (S.rules self.now.syntax.now).items id).kind }
-        requires memo { M.stands memo.old self.now.syntax.now
-            (line_at (T.lines self.now.lines.now) self.now.at.line) }
+        requires memo { M.stands memo.old self.now.syntax.now (T.lines self.now.lines.now)
+            self.now.at.line }
         requires held { HoldsLine looked.old self.now.at.line }
         ensures told { IsToldAs (seen_start (S.rules self.now.syntax.now).items) looked.old result
             looked.new (first_found (start_at (S.rules self.now.syntax.now)
             (T.lines self.now.lines.now) self.now.at self.now.floor id) (reverse starts.now)) }
         ensures there { IfOk result (IsStartThere (S.rules self.now.syntax.now).items) }
-        ensures memo { M.stands memo.new self.now.syntax.now
-            (line_at (T.lines self.now.lines.now) self.now.at.line) }
+        ensures memo { M.stands memo.new self.now.syntax.now (T.lines self.now.lines.now)
+            self.now.at.line }
     {
         let mut left = starts.len();
         'starts: while left > 0 {
@@ -209,8 +209,8 @@ impl<T: Lines, S: Syntax> Picking<'_, T, S> {
         requires valid { S.valid self.now.syntax.now }
         requires item { IsItem (S.rules self.now.syntax.now) id }
         requires place { IsPlace (T.lines self.now.lines.now) self.now.at }
-        requires memo { M.stands memo.old self.now.syntax.now
-            (line_at (T.lines self.now.lines.now) self.now.at.line) }
+        requires memo { M.stands memo.old self.now.syntax.now (T.lines self.now.lines.now)
+            self.now.at.line }
         requires held { HoldsLine looked.old self.now.at.line }
         ensures told { IsToldAs (seen_start (S.rules self.now.syntax.now).items) looked.old result
             looked.new (start_by
@@ -218,12 +218,12 @@ impl<T: Lines, S: Syntax> Picking<'_, T, S> {
             self.now.at.col self.now.floor id
             (item_of (S.rules self.now.syntax.now).items id).kind) }
         ensures there { IfOk result (IsStartThere (S.rules self.now.syntax.now).items) }
-        ensures memo { M.stands memo.new self.now.syntax.now
-            (line_at (T.lines self.now.lines.now) self.now.at.line) }
+        ensures memo { M.stands memo.new self.now.syntax.now (T.lines self.now.lines.now)
+            self.now.at.line }
     {
         match &self.item(id).kind {
             ItemKind::Keyword => Ok(None),
-            ItemKind::Match(pattern) => match self.item_match(id, pattern, looked, memo)? {
+            ItemKind::Match(pattern) => match self.item_match(id, 0, pattern, looked, memo)? {
                 Some(m) => Ok(self.match_start(id, pattern, m)),
                 None => Ok(None),
             },
@@ -247,15 +247,15 @@ impl<T: Lines, S: Syntax> Picking<'_, T, S> {
         requires item { IsItem (S.rules self.now.syntax.now) id }
         requires choice { ChoiceFits (S.rules self.now.syntax.now) choice }
         requires place { IsPlace (T.lines self.now.lines.now) self.now.at }
-        requires memo { M.stands memo.old self.now.syntax.now
-            (line_at (T.lines self.now.lines.now) self.now.at.line) }
+        requires memo { M.stands memo.old self.now.syntax.now (T.lines self.now.lines.now)
+            self.now.at.line }
         requires held { HoldsLine looked.old self.now.at.line }
         ensures told { IsToldAs (seen_start (S.rules self.now.syntax.now).items) looked.old result
             looked.new (start_if_free (S.rules self.now.syntax.now) (T.lines self.now.lines.now)
             self.now.at self.now.floor (reverse self.now.tried.now) choice id) }
         ensures there { IfOk result (IsStartThere (S.rules self.now.syntax.now).items) }
-        ensures memo { M.stands memo.new self.now.syntax.now
-            (line_at (T.lines self.now.lines.now) self.now.at.line) }
+        ensures memo { M.stands memo.new self.now.syntax.now (T.lines self.now.lines.now)
+            self.now.at.line }
     {
         if self.is_free(choice, id) {
             self.start_by(id, looked, memo)
@@ -276,24 +276,15 @@ impl<T: Lines, S: Syntax> Picking<'_, T, S> {
         requires choice { ChoiceFits (S.rules self.now.syntax.now) choice }
         requires place { IsPlace (T.lines self.now.lines.now) self.now.at }
         requires items { left ≤ length (S.rules self.now.syntax.now).items }
-        requires memo { M.stands memo.old self.now.syntax.now
-            (line_at (T.lines self.now.lines.now) self.now.at.line) }
+        requires memo { M.stands memo.old self.now.syntax.now (T.lines self.now.lines.now)
+            self.now.at.line }
         ensures next { IfOk result (IsEarlier (S.rules self.now.syntax.now)
             (T.lines self.now.lines.now) self.now.at self.now.floor (reverse self.now.tried.now)
             choice left) }
-        ensures memo { M.stands memo.new self.now.syntax.now
-            (line_at (T.lines self.now.lines.now) self.now.at.line) }
+        ensures memo { M.stands memo.new self.now.syntax.now (T.lines self.now.lines.now)
+            self.now.at.line }
     {
-        let next = memo.next_item(
-            self.syntax,
-            choice,
-            self.tried,
-            self.line(),
-            self.at.col,
-            self.floor,
-            left,
-        )?;
-        Ok(next)
+        memo.next_item(self, choice, left)
     }
 
     /// The first match or region of a choice, the last item first.
@@ -306,8 +297,8 @@ impl<T: Lines, S: Syntax> Picking<'_, T, S> {
         requires valid { S.valid self.now.syntax.now }
         requires choice { ChoiceFits (S.rules self.now.syntax.now) choice }
         requires place { IsPlace (T.lines self.now.lines.now) self.now.at }
-        requires memo { M.stands memo.old self.now.syntax.now
-            (line_at (T.lines self.now.lines.now) self.now.at.line) }
+        requires memo { M.stands memo.old self.now.syntax.now (T.lines self.now.lines.now)
+            self.now.at.line }
         requires held { HoldsLine looked.old self.now.at.line }
         ensures told { IsToldAs (seen_start (S.rules self.now.syntax.now).items) looked.old result
             looked.new (first_found (start_if_free (S.rules self.now.syntax.now)
@@ -315,8 +306,8 @@ impl<T: Lines, S: Syntax> Picking<'_, T, S> {
             choice)
             (items_below (length (S.rules self.now.syntax.now).items))) }
         ensures there { IfOk result (IsStartThere (S.rules self.now.syntax.now).items) }
-        ensures memo { M.stands memo.new self.now.syntax.now
-            (line_at (T.lines self.now.lines.now) self.now.at.line) }
+        ensures memo { M.stands memo.new self.now.syntax.now (T.lines self.now.lines.now)
+            self.now.at.line }
     {
         let mut left = self.next_item(choice, self.syntax.items().added(), memo)?;
         'items: while left > 0 {

@@ -1,14 +1,13 @@
 //! What picking asks of a syntax, each call by its exact rule.
-ghost use Rattle.std.specs.Prelude.{◌≡◌, ◌<◌, ◌≤◌, ◌+◌, List, ℕ, Bool, length, IfOk, false, true};
-ghost use Rattle.vim_pattern.specs.Tree.{PatternTree};
-ghost use Rattle.match_rules.specs.Ways.{Text, line_at};
+ghost use Rattle.std.specs.Prelude.{◌≡◌, ◌<◌, ◌≤◌, ◌+◌, length, IfOk, true};
+ghost use Rattle.match_rules.specs.Ways.{line_at};
 ghost use Rattle.keyword_table.specs.ItemNumbers.{AreItemsBelow};
-ghost use Rattle.paint_rules.specs.Rules.{Rules, item_of, no_externals, place_at};
+ghost use Rattle.paint_rules.specs.Rules.{Rules, item_of, no_externals};
 ghost use Rattle.paint_rules.specs.Close.{is_region};
 ghost use Rattle.paint_rules.specs.EndInLine.{end_in_line, for_ends};
 ghost use Rattle.region_ends.specs.Attempts.{IsAttempted};
 ghost use Rattle.region_ends.specs.Searches.{IsEnd};
-ghost use Rattle.item_pick.specs.Attempts.{EndsBelow, IsFutile};
+ghost use Rattle.item_pick.specs.Attempts.{EndsBelow};
 ghost use Rattle.item_pick.specs.Standing.{IsItem, IsOwn};
 
 use char_class::Sets;
@@ -23,14 +22,8 @@ use syntax_set::{Clusters, ItemSet, Pattern};
 pub(crate) trait Syntax {
     ghost rules: { Self → Rules };
 
-    /// Whether a pattern's first atoms let it begin at a column of a line.
-    ghost screen: { Self → PatternTree → Bool → List ℕ → ℕ → Bool };
-
     /// Whether its parts are sound together.
     ghost valid: { Self → Type 0 };
-
-    /// What an attempt costs at most where the screen fails.
-    ghost cost: { Self → PatternTree → ℕ };
 
     fn budget(&self) -> u64
         ensures { result ≡ (rules self.now).budget };
@@ -48,12 +41,6 @@ pub(crate) trait Syntax {
         requires { valid self.now }
         ensures is { result.now ≡ (rules self.now).keywords }
         ensures below { AreItemsBelow (length (rules self.now).items) result.now };
-
-    /// The bound of the cost of a pattern by which an item starts.
-    fn screen_cost(&self, id: ItemId, pattern: &Pattern) -> u64
-        requires valid { valid self.now }
-        requires own { IsOwn (rules self.now) id pattern.now }
-        ensures { result ≡ cost self.now (pattern.now).tree };
 
     /// An attempt of a pattern by which an item starts.
     fn attempt<T: Lines>(
@@ -93,10 +80,4 @@ pub(crate) trait Syntax {
           externals = externals.now;
           from = from;
         }))) };
-
-    // where the screen fails an attempt has no way, and looks at its line alone
-    ghost futile: { (s : Self) → valid s →
-        (tree : PatternTree) (t : Text) (ignore : Bool) (l c : ℕ) → c ≤ length (line_at t l) →
-        screen s tree ignore (line_at t l) c ≡ false →
-        IsFutile ((rules s).attempt t tree ignore no_externals (place_at l c)) (cost s tree) l };
 }

@@ -196,18 +196,3 @@ impl Asked<'_> {
         })
     }
 }
-
-/// The number behind the greatest of a list that is below another one; 0 where there is none.
-pub(crate) fn next_below(list: &[u32], left: usize) -> usize
-    ensures within { result ≤ left }
-    ensures passed { (j : ℕ) → result ≤ j → j < left → Lacks list.now j }
-{
-    let mut next = 0;
-    for id in list {
-        let id = *id as usize;
-        if next <= id && id < left {
-            next = id + 1;
-        }
-    }
-    next
-}

@@ -1,14 +1,15 @@
 //! The match of an item at a place.
-ghost use Rattle.std.specs.Prelude.{◌≡◌, ◌<◌, ◌≤◌, ◌+◌, ◌^◌, ℕ, length, IfOk, Some, pos};
+ghost use Rattle.std.specs.Prelude.{◌≡◌, ◌<◌, ◌≤◌, ◌+◌, ◌^◌, ℕ, length, IfOk, IsTrue, Some, pos};
 ghost use Rattle.syn_base.specs.Looked.{hull_of, one_line};
 ghost use Rattle.match_rules.specs.Ways.{line_at};
 ghost use Rattle.paint_rules.specs.Rules.{attempted, no_externals, place_at};
 ghost use Rattle.paint_rules.specs.ItemMatch.{item_match, match_from, starts_at};
-ghost use Rattle.item_pick.specs.Told.{IsToldAfter, EndsBefore};
+ghost use Rattle.item_pick.specs.Told.{IsToldAfter, IsToldAs, EndsBefore};
+ghost use Rattle.item_pick.specs.Tries.{HasNoStart, IsNotFrom, IsSeen, IsBeside, match_in};
 ghost use Rattle.item_pick.specs.Screens.{HoldsLine, IsLater};
-ghost use Rattle.item_pick.specs.Standing.{IsPlace, IsOwn};
+ghost use Rattle.item_pick.specs.Standing.{IsFirst, IsPlace, IsOwn};
 
-use crate::columns::{columns_of, may_start};
+use crate::columns::{Columns, columns_of, may_start};
 use crate::memo::Memo;
 use crate::picking::Picking;
 use crate::stop::Stop;
@@ -18,6 +19,25 @@ use pattern_match::{Attempt, Match};
 use region_ends::offset_place;
 use syn_base::{ItemId, Lines, Looked, Memory, Place};
 use syntax_set::Pattern;
+
+/// What an attempt gave, and the lines that it looked at.
+#[derive(Drop)]
+pub(crate) struct Seen {
+    pub(crate) found: Option<Match>,
+    pub(crate) looked: Looked,
+}
+
+/// What a column gave.
+#[derive(Drop)]
+pub(crate) enum Tried {
+    /// A match with its item start at the place.
+    Here(Match),
+    /// A match from the column has its item start at none of these columns of the line.
+    Not(Columns),
+}
+
+/// No column.
+const NO_COLUMNS: Columns = Columns { first: 0, end: 0 };
 
 /// The lines looked at, and one more.
 pub(crate) fn look_at(looked: &mut Looked, line: usize)
@@ -46,21 +66,15 @@ impl<T: Lines, S: Syntax> Picking<'_, T, S> {
     }
 
     /// One attempt of an item's pattern, from a column of the line.
-    fn attempted(
-        &self,
-        id: ItemId,
-        pattern: &Pattern,
-        col: usize,
-        looked: &mut Looked,
-    ) -> Result<Option<Match>, Stop>
+    fn attempted(&self, id: ItemId, pattern: &Pattern, col: usize) -> Result<Seen, Stop>
         requires valid { S.valid self.now.syntax.now }
         requires own { IsOwn (S.rules self.now.syntax.now) id pattern.now }
         requires place { IsPlace (T.lines self.now.lines.now) self.now.at }
         requires column { col ≤ length (line_at (T.lines self.now.lines.now) self.now.at.line) }
-        ensures told { IsToldAfter looked.old result looked.new (attempted
-            (S.rules self.now.syntax.now) (T.lines self.now.lines.now) id no_externals pattern.now
+        ensures told { IsSeen result (attempted (S.rules self.now.syntax.now)
+            (T.lines self.now.lines.now) id no_externals pattern.now
             (place_at self.now.at.line col)) }
-        ensures ends { IfOk result (EndsBefore (2 ^ 33)) }
+        ensures ends { IfOk result (λ seen. EndsBefore (2 ^ 33) seen.found) }
     {
         let start = Place {
             line: self.at.line,
@@ -70,15 +84,65 @@ impl<T: Lines, S: Syntax> Picking<'_, T, S> {
             .syntax
             .attempt(self.alloc, self.lines, id, pattern, start)?;
         match told {
-            Attempt::Found(m, seen) => {
-                *looked = looked.join(seen);
-                Ok(Some(m))
-            }
-            Attempt::Absent(seen) => {
-                *looked = looked.join(seen);
-                Ok(None)
-            }
+            Attempt::Found(m, looked) => Ok(Seen {
+                found: Some(m),
+                looked,
+            }),
+            Attempt::Absent(looked) => Ok(Seen {
+                found: None,
+                looked,
+            }),
             Attempt::TooCostly => Err(Stop::TooCostly(id)),
+        }
+    }
+
+    /// The columns of the line beside a place, around the one that is painted.
+    fn beside(&self, start: Place) -> Columns
+        ensures { IsBeside self.now.at.line start result }
+    {
+        if start.line != self.at.line {
+            return Columns {
+                first: 0,
+                end: usize::MAX,
+            };
+        }
+        if start.col < self.at.col {
+            Columns {
+                first: start.col + 1,
+                end: usize::MAX,
+            }
+        } else {
+            Columns {
+                first: 0,
+                end: start.col,
+            }
+        }
+    }
+
+    /// Whether the line that is painted was looked at alone.
+    fn is_alone(&self, looked: Looked) -> bool
+        requires { IsPlace (T.lines self.now.lines.now) self.now.at }
+        ensures { IsTrue result → looked ≡ one_line (pos self.now.at.line) }
+    {
+        looked == Looked::one(self.at.line as i64)
+    }
+
+    /// The columns of the line at which what an attempt gave hasn't its item start; none is known where
+    /// it looked at another line.
+    fn without(&self, pattern: &Pattern, seen: &Seen) -> Columns
+        requires { IsPlace (T.lines self.now.lines.now) self.now.at }
+        ensures { HasNoStart (T.lines self.now.lines.now) self.now.at.line pattern.now seen.now
+            result }
+    {
+        if !self.is_alone(seen.looked) {
+            return NO_COLUMNS;
+        }
+        match &seen.found {
+            Some(m) => self.beside(offset_place(self.lines, m, pattern, Which::Ms)),
+            None => Columns {
+                first: 0,
+                end: usize::MAX,
+            },
         }
     }
 
@@ -98,95 +162,98 @@ impl<T: Lines, S: Syntax> Picking<'_, T, S> {
         pattern: &Pattern,
         col: usize,
         looked: &mut Looked,
-    ) -> Result<Option<Match>, Stop>
+    ) -> Result<Tried, Stop>
         requires valid { S.valid self.now.syntax.now }
         requires own { IsOwn (S.rules self.now.syntax.now) id pattern.now }
         requires place { IsPlace (T.lines self.now.lines.now) self.now.at }
         requires column { col ≤ length (line_at (T.lines self.now.lines.now) self.now.at.line) }
-        ensures told { IsToldAfter looked.old result looked.new (match_from
+        ensures told { IsToldAs match_in looked.old result looked.new (match_from
             (S.rules self.now.syntax.now) (T.lines self.now.lines.now) id pattern.now self.now.at
             col) }
-        ensures ends { IfOk result (EndsBefore (2 ^ 33)) }
+        ensures ends { IfOk result (λ tried. EndsBefore (2 ^ 33) (match_in tried)) }
+        ensures settled { IfOk result (IsNotFrom (S.rules self.now.syntax.now)
+            (T.lines self.now.lines.now) self.now.at.line id pattern.now col) }
     {
         if !may_start(pattern, col, self.at.col, self.last()) {
-            return Ok(None);
+            return Ok(Tried::Not(NO_COLUMNS));
         }
-        match self.attempted(id, pattern, col, looked)? {
+        let seen = self.attempted(id, pattern, col)?;
+        *looked = looked.join(seen.looked);
+        let places = self.without(pattern, &seen);
+        match seen.found {
             Some(m) => {
                 if self.starts_here(pattern, &m) {
                     look_at(looked, m.to.line);
-                    Ok(Some(m))
+                    Ok(Tried::Here(m))
                 } else {
-                    Ok(None)
+                    Ok(Tried::Not(places))
                 }
             }
-            None => Ok(None),
+            None => Ok(Tried::Not(places)),
         }
     }
 
-    /// The first column from one on at which a match may begin, by the screen of its pattern. The
-    /// screen is asked only where the budget allows the attempts that it saves.
+    /// The first column from one on at which a match may begin.
     fn next_column<M: Memo<S>>(
         &self,
         id: ItemId,
+        start: usize,
         pattern: &Pattern,
         col: usize,
         memo: &mut M,
     ) -> Result<usize, Memory>
         requires valid { S.valid self.now.syntax.now }
         requires own { IsOwn (S.rules self.now.syntax.now) id pattern.now }
+        requires first { start ≡ 0 → IsFirst (S.rules self.now.syntax.now) id pattern.now }
         requires place { IsPlace (T.lines self.now.lines.now) self.now.at }
-        requires memo { M.stands memo.old self.now.syntax.now
-            (line_at (T.lines self.now.lines.now) self.now.at.line) }
+        requires memo { M.stands memo.old self.now.syntax.now (T.lines self.now.lines.now)
+            self.now.at.line }
         ensures next { IfOk result (IsLater (S.rules self.now.syntax.now)
             (T.lines self.now.lines.now) id pattern.now self.now.at col) }
-        ensures memo { M.stands memo.new self.now.syntax.now
-            (line_at (T.lines self.now.lines.now) self.now.at.line) }
+        ensures memo { M.stands memo.new self.now.syntax.now (T.lines self.now.lines.now)
+            self.now.at.line }
     {
-        let line = self.line();
-        let cost = self.syntax.screen_cost(id, pattern);
-        if col > line.len() || self.syntax.budget() < cost {
-            return Ok(col);
-        }
-        let next = memo.next(self.syntax, id, pattern, line, col)?;
-        match next {
-            Some(next) => Ok(next),
-            None => Ok(line.len() + 1),
-        }
+        memo.next(self, id, start, pattern, col)
     }
 
-    /// The match of an item at the place: from the first column that gives one.
+    /// The match of an item at the place, by its start pattern of a number: from the first column that
+    /// gives one.
     pub(crate) fn item_match<M: Memo<S>>(
         &self,
         id: ItemId,
+        start: usize,
         pattern: &Pattern,
         looked: &mut Looked,
         memo: &mut M,
     ) -> Result<Option<Match>, Stop>
         requires valid { S.valid self.now.syntax.now }
         requires own { IsOwn (S.rules self.now.syntax.now) id pattern.now }
+        requires first { start ≡ 0 → IsFirst (S.rules self.now.syntax.now) id pattern.now }
         requires place { IsPlace (T.lines self.now.lines.now) self.now.at }
-        requires memo { M.stands memo.old self.now.syntax.now
-            (line_at (T.lines self.now.lines.now) self.now.at.line) }
+        requires memo { M.stands memo.old self.now.syntax.now (T.lines self.now.lines.now)
+            self.now.at.line }
         requires held { HoldsLine looked.old self.now.at.line }
         ensures told { IsToldAfter looked.old result looked.new (item_match
             (S.rules self.now.syntax.now) (T.lines self.now.lines.now) id pattern.now self.now.at
             self.now.floor) }
         ensures ends { IfOk result (EndsBefore (2 ^ 33)) }
-        ensures memo { M.stands memo.new self.now.syntax.now
-            (line_at (T.lines self.now.lines.now) self.now.at.line) }
+        ensures memo { M.stands memo.new self.now.syntax.now (T.lines self.now.lines.now)
+            self.now.at.line }
     {
         let last = self.last();
         let columns = columns_of(pattern, self.at.col, last);
         let least = self.floor.saturating_sub(pattern.lc as usize);
         let first = least.max(columns.first);
         let end = columns.end.min(last + 1);
-        let mut col = self.next_column(id, pattern, first, memo)?;
+        let mut col = self.next_column(id, start, pattern, first, memo)?;
         'columns: while col < end {
-            let found = self.match_from(id, pattern, col, looked)?;
-            match found {
-                Some(m) => return Ok(Some(m)),
-                None => col = self.next_column(id, pattern, col + 1, memo)?,
+            let tried = self.match_from(id, pattern, col, looked)?;
+            match tried {
+                Tried::Here(m) => return Ok(Some(m)),
+                Tried::Not(places) => {
+                    memo.note(self, id, start, pattern, col, places)?;
+                    col = self.next_column(id, start, pattern, col + 1, memo)?;
+                }
             }
         }
         Ok(None)

@@ -1,24 +1,21 @@
 -- What is kept of the syntax tells of quiet columns, and stands in the line that is entered.
-use Rattle.std.proofs.Common.{◌≡◌, ◌<◌, ◌≤◌, ℕ, List, [], sym, subst}
-use Rattle.std.specs.Prelude.{None, Some, pos, slice_get}
+use Rattle.std.proofs.Common.{◌≡◌, ◌<◌, ◌≤◌, ℕ, [], sym, subst}
+use Rattle.std.specs.Prelude.{None, Some, pos}
 use Rattle.syn_base.specs.Looked.{one_line}
 use Rattle.syn_base.specs.declared.places.Place.{Place}
-use Rattle.match_rules.specs.Ways.{Text, line_at}
+use Rattle.match_rules.specs.Ways.{Text}
 use Rattle.paint_rules.specs.Rules.{Rules}
 use Rattle.paint_rules.specs.Painted.{Done, done, looked_first}
 use Rattle.paint_rules.specs.Pick.{Nothing, picked}
 use Rattle.paint_rules.specs.States.{Standing}
 use Rattle.paint_rules.specs.Close.{close_once}
-use Rattle.item_pick.specs.declared.memory.PickMemory.{PickMemory}
 use Rattle.item_pick.specs.Started.{here_at}
 use Rattle.item_pick.specs.QuietUntil.{IsQuietUntil}
-use Rattle.item_pick.specs.Tables.{MemoryStands}
 use Rattle.line_paint.specs.Quiet.{IsQuiet}
-use Rattle.region_ends.proofs.SearchLaws.{line_is}
 
 -- where nothing waits, closes or may start, a column is quiet
 pub quiet_where : (r : Rules) (text : Text) (at : Place) (s : Standing) (end d : ℕ) →
-    s.tried ≡ [] → s.waiting ≡ None → IsQuietUntil r text at s.stack end → at.col ≤ d → d < end →
+    s.tried ≡ [] → s.waiting ≡ None → IsQuietUntil r text at s.stack s.floor end → at.col ≤ d → d < end →
     close_once (here_at r text at) d s s.stack ≡ done None →
     IsQuiet (here_at r text at) (one_line (pos at.line)) d s
 quiet_where r text at s end d tried waits quiet from to stays = record {
@@ -27,11 +24,5 @@ quiet_where r text at s end d tried waits quiet from to stays = record {
   stays = stays;
   nothing = subst (λ (t : Standing). looked_first (Some (one_line (pos at.line))) (picked (here_at r text at) d t) ≡ Done Nothing (Some (one_line (pos at.line))))
       (λ i. record s { tried = sym tried i; waiting = sym waits i })
-      (quiet.quiet d from to s.floor s.is_over);
+      (quiet.quiet d from to s.is_over);
 }
-
--- what stands of a line stands of the same line of the text
-pub in_line : (r : Rules) (text : Text) (l : ℕ) (line : List ℕ) (memory : PickMemory) →
-    Some line ≡ slice_get text l → MemoryStands r line memory → MemoryStands r (line_at text l) memory
-in_line r text l line memory e stands =
-    subst (λ (x : List ℕ). MemoryStands r x memory) (sym (line_is text l line e)) stands

@@ -1,6 +1,7 @@
 //! What starts in a line, by what is kept of the syntax.
 use crate::painting::Painting;
 use crate::picker::Picker;
+use crate::site::Site;
 use crate::staying::closes_from;
 use item_pick::{PickMemory, Picked, pick_with, quiet_until};
 use state_stack::State;
@@ -8,12 +9,11 @@ use std::alloc::Global;
 use syn_base::{ItemId, Lines, List, Memory, Place};
 
 impl<T: Lines> Picker<Painting<'_, T>> for PickMemory {
-    ghost use Rattle.match_rules.specs.Ways.{line_at};
     ghost use Rattle.item_pick.specs.PartsSeen.{rules_in};
     ghost use Rattle.item_pick.specs.Tables.{MemoryStands};
 
     ghost stands = { λ memory p. MemoryStands (rules_in p.parts.now p.budget)
-        (line_at (T.lines p.lines.now) p.line) memory };
+        (T.lines p.lines.now) p.line memory };
 
     fn pick(
         &mut self,
@@ -36,6 +36,7 @@ impl<T: Lines> Picker<Painting<'_, T>> for PickMemory {
             state,
             floor,
             tried,
+            site.no_externals(),
             self,
             site.budget,
         )
@@ -47,7 +48,7 @@ impl<T: Lines> Picker<Painting<'_, T>> for PickMemory {
         site: &Painting<'_, T>,
         c: usize,
         state: &State,
-        _floor: usize,
+        floor: usize,
         is_over: bool,
     ) -> Result<usize, Memory> {
         if state.waiting.is_some() {
@@ -61,7 +62,17 @@ impl<T: Lines> Picker<Painting<'_, T>> for PickMemory {
             line: site.line as usize,
             col: c,
         };
-        let starts = quiet_until(alloc, site.parts, site.lines, at, state, self, site.budget)?;
+        let starts = quiet_until(
+            alloc,
+            site.parts,
+            site.lines,
+            at,
+            state,
+            floor,
+            site.no_externals(),
+            self,
+            site.budget,
+        )?;
         Ok(closes.min(starts))
     }
 }

@@ -1,5 +1,6 @@
+use Rattle.std.proofs.Common.{sym}
 use Rattle.item_pick.specs.PartsSeen.{rules_in}
-use Rattle.line_paint.proofs.RememberedLaws.{in_line}
+use Rattle.region_ends.proofs.SearchLaws.{line_is}
 use Rattle.line_paint.proofs.painting.paint_line_with.Goals as goal
 
 pub returns-in_err-enter_line-clause-memory : goal.returns-in_err-enter_line-clause-memory
@@ -8,5 +9,5 @@ returns-in_err-enter_line-clause-memory g c =
 
 pub painted_by-requires-clause-memory : goal.painted_by-requires-clause-memory
 painted_by-requires-clause-memory g c =
-    in_line (rules_in c.args.parts.now c.args.budget) (g.T.Lines.lines c.args.lines.now) c.args.line c.line.result.now c.enter_line.new.self c.line.ensures
-    (c.in_ok-enter_line.ensures.entered c.args.budget c.requires.memory)
+    let t = g.T.Lines.lines c.args.lines.now in
+    c.in_ok-enter_line.ensures.entered c.args.budget t c.args.line (sym (line_is t c.args.line c.line.result.now c.line.ensures)) c.requires.memory

@@ -1,12 +1,14 @@
 use Rattle.std.proofs.Common.{sym, subst, [], ◌∷◌}
 use Rattle.std.specs.List.{All}
 use Rattle.std.proofs.lemmas.List.Elements.{All-append, All-cons, All-nil}
-use Rattle.item_pick.specs.Tables.{RowStands}
+use Rattle.item_pick.specs.Tables.{RowStands, VainStands}
 use Rattle.item_pick.proofs.memory.PickMemory.keep.Goals as goal
 
 pub returns-clause-stands : goal.returns-clause-stands
-returns-clause-stands c r tables row =
-    subst (All (RowStands r)) (sym c.in_ok-push.ensures.items)
-    (All-append (RowStands r) c.note.new.self.rows.items (c.args.row ∷ [])
-    (subst (λ rows. All (RowStands r) rows.items) (sym c.note.ensures.rows) tables)
-    (All-cons (RowStands r) c.args.row [] row (All-nil (RowStands r))))
+returns-clause-stands c r tables row = record {
+  rows = subst (All (RowStands r)) (sym c.in_ok-push.ensures.items)
+      (All-append (RowStands r) c.note.new.self.rows.items (c.args.row ∷ [])
+      (subst (λ rows. All (RowStands r) rows.items) (sym c.note.ensures.rows) tables.rows)
+      (All-cons (RowStands r) c.args.row [] row (All-nil (RowStands r))));
+  vains = subst (λ vains. All (VainStands r) vains.list.items) (sym c.note.ensures.vains) tables.vains;
+}

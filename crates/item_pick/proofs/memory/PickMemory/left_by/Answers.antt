@@ -1,15 +1,19 @@
-use Rattle.std.proofs.Common.{◌≡◌, sym, subst, arith, true}
-use Rattle.item_pick.specs.Quiet.{item_numbered}
-use Rattle.item_pick.specs.Started.{admits}
-use Rattle.item_pick.specs.Tables.{Lacks, StaysOut}
+use Rattle.std.proofs.Common.{ℕ, List, subst}
+use Rattle.paint_rules.specs.Rules.{place_at}
+use Rattle.item_pick.specs.PartsSeen.{rules_in}
+use Rattle.item_pick.specs.Screened.{futile_by}
+use Rattle.item_pick.specs.Tables.{IsNextIn, ListStands}
+use Rattle.item_pick.proofs.TableLaws.{next_at}
 use Rattle.item_pick.proofs.memory.PickMemory.left_by.Goals as goal
 
 pub returns : goal.returns
-returns c r tables within =
-    let row = c.in_ok-row.ensures in (
-      c.next_below.ensures.within,
-      λ j a b admitted.
-          subst (λ number. StaysOut r number (item_numbered j)) row.number
-          (row.stands r tables j (omega (arith, b, within)) (subst (λ choice. admits r choice (item_numbered j) ≡ true) (sym row.choice) admitted)
-          (subst (λ list. Lacks list j) c.deref.ensures.value (c.next_below.ensures.passed j a b))),
-    )
+returns c t l memory key =
+    let sets = c.args._asked.now.parts.now.sets.now in
+    let budget = c.args._asked.now.budget in
+    let r = rules_in c.args._asked.now.parts.now budget in
+    let row = c.in_ok-row.ensures in
+    let stands =
+        subst (λ choice. ListStands r choice c.args.number c.in_ok-row.row.now.items.items) row.choice
+        (subst (λ number. ListStands r c.in_ok-row.row.now.choice number c.in_ok-row.row.now.items.items) row.number (row.stands r memory.tables)) in
+    next_at r (futile_by sets budget) t (place_at l c.args.at) c.args.number c.args.floor key c.args.choice c.in_ok-row.row.now.items.items stands
+    c.args.left c.next_open.result c.requires (subst (λ (list : List ℕ). IsNextIn r t (place_at l c.args.at) c.args.floor list c.args.left c.next_open.result) c.deref.ensures.value (c.next_open.ensures r t l memory))

@@ -1,41 +1,54 @@
-use Rattle.std.proofs.Common.{arith}
+use Rattle.std.proofs.Common.{◌≡◌, arith}
 use Rattle.item_pick.specs.PartsSeen.{rules_in}
-use Rattle.item_pick.proofs.TableLaws.{miss_goes_on, next_open}
+use Rattle.item_pick.specs.Screened.{futile_by}
+use Rattle.item_pick.proofs.TableLaws.{later_by, run_goes_on, still_stands}
 use Rattle.item_pick.proofs.memory.PickMemoryMemoAsked.next.Goals as goal
 
 pub returns-in_err-keep-clause-stands : goal.returns-in_err-keep-clause-stands
-returns-in_err-keep-clause-stands c =
-    let r = rules_in c.args.syntax.now.parts.now c.args.syntax.now.budget in
-    let line = c.args._line.now in
-    let stands = c.requires.stands in
+returns-in_err-keep-clause-stands g c =
+    let p = c.args.picking.now in
+    let s = p.syntax.now in
+    let r = rules_in s.parts.now s.budget in
+    let t = g.T.Lines.lines p.lines.now in
+    let l = p.at.line in
+    let first = c.requires.first (omega (arith, c.if-start-ne0.false)) in
+    let run = c.run_at-run.result in
+    let longer = run_goes_on r (futile_by s.parts.now.sets.now s.budget) t l c.args.id c.args.pattern.now first run c.in_ok-to.to
+        c.run_at-run.ensures.tells.same (c.run_at-run.ensures.stands t l c.requires.stands) (c.in_ok-to.ensures.missed t l c.requires.stands) in
+    let kept = still_stands r t l c.args.self.now c.first_open.new.self c.first_open.ensures.stands c.first_open.ensures.numbers c.first_open.ensures.runs c.requires.stands in
     record {
-      tables = stands.tables;
-      keys = stands.keys;
-      misses = c.keep.ensures r line stands.misses
-          (miss_goes_on r line c.args.id c.known-known.result c.first_open-to.result c.known-known.ensures.item (c.known-known.ensures.stands r line stands.misses)
-          (c.first_open-to.ensures.missed line stands));
+      tables = record { rows = kept.tables.rows; vains = kept.tables.vains };
+      keys = kept.keys;
+      runs = c.keep.ensures r t l kept.runs longer;
     }
 
 pub returns-clause-stands : goal.returns-clause-stands
-returns-clause-stands c =
-    let r = rules_in c.args.syntax.now.parts.now c.args.syntax.now.budget in
-    let line = c.args._line.now in
-    let stands = c.requires.stands in
+returns-clause-stands g c =
+    let p = c.args.picking.now in
+    let s = p.syntax.now in
+    let r = rules_in s.parts.now s.budget in
+    let t = g.T.Lines.lines p.lines.now in
+    let l = p.at.line in
+    let first = c.requires.first (omega (arith, c.if-start-ne0.false)) in
+    let run = c.run_at-run.result in
+    let longer = run_goes_on r (futile_by s.parts.now.sets.now s.budget) t l c.args.id c.args.pattern.now first run c.in_ok-to.to
+        c.run_at-run.ensures.tells.same (c.run_at-run.ensures.stands t l c.requires.stands) (c.in_ok-to.ensures.missed t l c.requires.stands) in
+    let kept = still_stands r t l c.args.self.now c.first_open.new.self c.first_open.ensures.stands c.first_open.ensures.numbers c.first_open.ensures.runs c.requires.stands in
     record {
-      tables = stands.tables;
-      keys = stands.keys;
-      misses = c.keep.ensures r line stands.misses
-          (miss_goes_on r line c.args.id c.known-known.result c.first_open-to.result c.known-known.ensures.item (c.known-known.ensures.stands r line stands.misses)
-          (c.first_open-to.ensures.missed line stands));
+      tables = record { rows = kept.tables.rows; vains = kept.tables.vains };
+      keys = kept.keys;
+      runs = c.keep.ensures r t l kept.runs longer;
     }
 
 pub returns-clause-next : goal.returns-clause-next
-returns-clause-next c =
-    let r = rules_in c.args.syntax.now.parts.now c.args.syntax.now.budget in
-    let line = c.args._line.now in
-    let stands = c.requires.stands in (
-      omega (arith, c.known-known.ensures.to, c.first_open-to.ensures.from),
-      next_open r line c.args.id c.args._pattern.now c.known-known.result c.args.col c.first_open-to.result c.known-known.ensures.item c.requires.own.1 c.known-known.ensures.from
-          (miss_goes_on r line c.args.id c.known-known.result c.first_open-to.result c.known-known.ensures.item (c.known-known.ensures.stands r line stands.misses)
-          (c.first_open-to.ensures.missed line stands)),
-    )
+returns-clause-next g c =
+    let p = c.args.picking.now in
+    let s = p.syntax.now in
+    let r = rules_in s.parts.now s.budget in
+    let t = g.T.Lines.lines p.lines.now in
+    let l = p.at.line in
+    let first = c.requires.first (omega (arith, c.if-start-ne0.false)) in
+    let run = c.run_at-run.result in
+    let longer = run_goes_on r (futile_by s.parts.now.sets.now s.budget) t l c.args.id c.args.pattern.now first run c.in_ok-to.to
+        c.run_at-run.ensures.tells.same (c.run_at-run.ensures.stands t l c.requires.stands) (c.in_ok-to.ensures.missed t l c.requires.stands) in
+    later_by r t p.at c.args.id c.args.pattern.now first run c.args.col c.run_at-run.ensures.tells c.in_ok-to.to c.in_ok-to.ensures.from longer

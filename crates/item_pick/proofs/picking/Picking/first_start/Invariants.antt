@@ -1,7 +1,6 @@
 use Rattle.std.proofs.Common.{◌≡◌, ◌≤◌, length, reverse}
 use Rattle.item_pick.specs.Started.{start_if_free}
 use Rattle.paint_rules.specs.Pick.{items_below}
-use Rattle.match_rules.specs.Ways.{line_at}
 use Rattle.item_pick.specs.Screens.{HoldsLine}
 use Rattle.item_pick.proofs.FoundLaws.{found_after}
 use Rattle.item_pick.proofs.picking.Picking.first_start.Given as goal
@@ -16,7 +15,7 @@ invariant-items g l =
       whole : found_after f l.fn.looked (items_below (length r.items)) ≡ found_after f l.looked (items_below l.left);
       within : l.left ≤ length r.items;
       held : HoldsLine l.looked l.self.at.line;
-      memo : g.M.Memo.stands l.memo l.self.syntax.now (line_at (g.T.Lines.lines l.self.lines.now) l.self.at.line);
+      memo : g.M.Memo.stands l.memo l.self.syntax.now (g.T.Lines.lines l.self.lines.now) l.self.at.line;
     }
 
 abbrev pub decreases-items : goal.decreases-items

@@ -26,34 +26,34 @@ columns-preserved g c =
     let r = g.S.Syntax.rules c.args.self.now.syntax.now in
     let t = g.T.Lines.lines c.args.self.now.lines.now in
     let f = match_from r t c.args.id c.args.pattern.now c.args.self.now.at in
-    let next = c.in_ok-col-in-None.ensures.next in
-    let absent = rw c.in-None.is at c.in_ok-found.ensures.told in
+    let next = c.in_ok-col-in-Not.ensures.next in
+    let absent = rw c.in-Not.is at c.in_ok-tried.ensures.told in
     let here : c.columns.col ≤ c.last-last.result = omega (arith, c.columns-test.true) in
     let one : c.columns.col + 1 ≡ suc c.columns.col = omega arith in
     let held = still_held c.columns.looked c.match_from.new.looked c.args.self.now.at.line (f c.columns.col) _ c.columns.invariant.held absent in
     record {
       whole = c.columns.invariant.whole
           ∙ (column_none f c.last-last.result c.columns.looked c.match_from.new.looked c.columns.col (c.columns.col + 1) here one absent
-          ∙ skip_to f c.last-last.result c.match_from.new.looked (c.columns.col + 1) c.in_ok-col-in-None.col next.ahead
+          ∙ skip_to f c.last-last.result c.match_from.new.looked (c.columns.col + 1) c.in_ok-col-in-Not.col next.ahead
           (λ x a b h. next.idle c.match_from.new.looked held x a b (omega (arith, h, c.last-last.ensures.is))));
       held = held;
-      memo = c.next_column-in-None.ensures.memo;
+      memo = c.next_column-in-Not.ensures.memo;
       from = omega (arith, next.ahead, c.columns.invariant.from);
     }
 
 pub columns-smaller : goal.columns-smaller
-columns-smaller g c = omega (arith, c.in_ok-col-in-None.ensures.next.ahead, c.columns-test.true)
+columns-smaller g c = omega (arith, c.in_ok-col-in-Not.ensures.next.ahead, c.columns-test.true)
 
-pub returns-in-Some-clause-told : goal.returns-in-Some-clause-told
-returns-in-Some-clause-told g c =
+pub returns-in-Here-clause-told : goal.returns-in-Here-clause-told
+returns-in-Here-clause-told g c =
     let h : c.columns.col ≤ c.last-last.result = omega (arith, c.columns-test.true) in
-    c.columns.invariant.whole ∙ column_some _ _ _ _ _ _ h (rw c.in-Some.is at c.in_ok-found.ensures.told)
+    c.columns.invariant.whole ∙ column_some _ _ _ _ _ _ h (rw c.in-Here.is at c.in_ok-tried.ensures.told)
 
-pub returns-in_err-found-clause-told : goal.returns-in_err-found-clause-told
-returns-in_err-found-clause-told g c =
+pub returns-in_err-tried-clause-told : goal.returns-in_err-tried-clause-told
+returns-in_err-tried-clause-told g c =
     let h : c.columns.col ≤ c.last-last.result = omega (arith, c.columns-test.true) in
-    told_stop _ c.in_err-found.field-0.0 _ _ c.from_residual-in_err-found.ensures.1
-    (stop_by _ _ _ c.columns.invariant.whole (column_stops _ _ _ _ _ h c.in_err-found.ensures.told))
+    told_stop _ c.in_err-tried.field-0.0 _ _ c.from_residual-in_err-tried.ensures.1
+    (stop_by _ _ _ c.columns.invariant.whole (column_stops _ _ _ _ _ h c.in_err-tried.ensures.told))
 
 pub returns-clause-told : goal.returns-clause-told
 returns-clause-told g c =

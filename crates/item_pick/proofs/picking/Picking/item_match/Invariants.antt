@@ -1,6 +1,5 @@
 use Rattle.std.proofs.Common.{◌≡◌, ◌≤◌, ◌-◌, suc}
 use Rattle.std.specs.Prelude.{Some}
-use Rattle.match_rules.specs.Ways.{line_at}
 use Rattle.paint_rules.specs.Painted.{looked_first}
 use Rattle.paint_rules.specs.ItemMatch.{item_match, match_from}
 use Rattle.item_pick.specs.Screens.{HoldsLine}
@@ -15,7 +14,7 @@ invariant-columns g l =
     record {
       whole : looked_first (Some l.fn.looked) (item_match r t l.id l.pattern l.self.at l.self.floor) ≡ from_column (match_from r t l.id l.pattern l.self.at) l.last l.looked l.col;
       held : HoldsLine l.looked l.self.at.line;
-      memo : g.M.Memo.stands l.memo l.self.syntax.now (line_at t l.self.at.line);
+      memo : g.M.Memo.stands l.memo l.self.syntax.now t l.self.at.line;
       from : l.first ≤ l.col;
     }
 

@@ -2,7 +2,6 @@ use Rattle.std.proofs.Common.{sym, subst}
 use Rattle.paint_rules.specs.Rules.{place_at}
 use Rattle.item_pick.specs.PartsSeen.{rules_in}
 use Rattle.item_pick.specs.QuietPlaces.{IsQuietAt}
-use Rattle.item_pick.specs.Screened.{futile_by}
 use Rattle.item_pick.proofs.QuietPlaceLaws.{none_starts}
 use Rattle.item_pick.proofs.quiet.Picking+T+Asked.is_quiet.Goals as goal
 
@@ -12,4 +11,5 @@ returns-in-NoItem-clause-quiet g c _ =
     let r = rules_in s.parts.now s.budget in
     let t = g.T.Lines.lines c.args.self.now.lines.now in
     let p = place_at c.args.self.now.at.line c.args.col in
-    subst (λ choice. IsQuietAt r t choice p) (sym c.in-NoItem.is) (none_starts r t p s.budget (futile_by s.parts.now.sets.now s.budget))
+    let floor = c.args.self.now.floor in
+    subst (λ choice. IsQuietAt r t choice floor p) (sym c.in-NoItem.is) (none_starts r t p floor)

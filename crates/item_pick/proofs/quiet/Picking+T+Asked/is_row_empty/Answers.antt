@@ -4,8 +4,7 @@ use Rattle.std.proofs.lemmas.Float.{T_from_true}
 use Rattle.keyword_table.specs.Words.{begins_word}
 use Rattle.paint_rules.specs.Rules.{place_at}
 use Rattle.item_pick.specs.PartsSeen.{rules_in}
-use Rattle.item_pick.specs.Screened.{futile_by}
-use Rattle.item_pick.specs.Tables.{IsNextIn}
+use Rattle.item_pick.specs.Tables.{IsNextAt}
 use Rattle.item_pick.proofs.QuietPlaceLaws.{row_empty}
 use Rattle.item_pick.proofs.quiet.Picking+T+Asked.is_row_empty.Goals as goal
 
@@ -14,11 +13,13 @@ returns-in_ok-left-in-Some-clause-quiet g c e =
     let s = c.args.self.now.syntax.now in
     let r = rules_in s.parts.now s.budget in
     let t = g.T.Lines.lines c.args.self.now.lines.now in
-    let p = place_at c.args.self.now.at.line c.args.col in
+    let l = c.args.self.now.at.line in
+    let p = place_at l c.args.col in
+    let floor = c.args.self.now.floor in
     let word : begins_word r.sets.keyword c.line.result.now c.args.col ≡ false = sym c.begins_word.ensures ∙ c.if-begins_word.false in
     let none : c.in_ok-left-in-Some.left ≡ 0 = eqb→eq c.in_ok-left-in-Some.left 0 (T_from_true (nat_eq c.in_ok-left-in-Some.left 0) e) in
-    row_empty r t p c.args.choice c.in-Some.number (futile_by s.parts.now.sets.now s.budget)
+    row_empty r t p floor c.args.choice
     (subst (λ (line : List ℕ). begins_word r.sets.keyword line c.args.col ≡ false) c.line.ensures word)
-    (c.in-Some.ensures r _ c.requires.memory)
-    (subst (λ (n : ℕ). IsNextIn r c.args.choice c.in-Some.number n 0) c.added-count.ensures.number
-    (subst (IsNextIn r c.args.choice c.in-Some.number c.added-count.result) none c.in_ok-left-in-Some.ensures.next))
+    (subst (λ (n : ℕ). IsNextAt r t p floor c.args.choice n 0) c.added-count.ensures.number
+    (subst (IsNextAt r t p floor c.args.choice c.added-count.result) none
+    (c.in_ok-left-in-Some.ensures.next t l c.requires.memory (c.in-Some.ensures r t l c.requires.memory))))

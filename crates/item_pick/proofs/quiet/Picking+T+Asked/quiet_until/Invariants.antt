@@ -1,5 +1,4 @@
 use Rattle.std.proofs.Common.{◌≤◌, ◌<◌, ℕ}
-use Rattle.match_rules.specs.Ways.{line_at}
 use Rattle.paint_rules.specs.Rules.{place_at}
 use Rattle.item_pick.specs.PartsSeen.{rules_in}
 use Rattle.item_pick.specs.QuietPlaces.{IsQuietAt}
@@ -13,6 +12,6 @@ invariant-loop-col g l =
     let t = g.T.Lines.lines l.self.lines.now in
     record {
       from : l.self.at.col ≤ l.col;
-      quiet : (c : ℕ) → l.self.at.col ≤ c → c < l.col → IsQuietAt r t l.choice (place_at l.self.at.line c);
-      memory : MemoryStands r (line_at t l.self.at.line) l.memory;
+      quiet : (c : ℕ) → l.self.at.col ≤ c → c < l.col → IsQuietAt r t l.choice l.self.floor (place_at l.self.at.line c);
+      memory : MemoryStands r t l.self.at.line l.memory;
     }

@@ -11,7 +11,7 @@ returns-clause-quiet g c = λ d from under.
     let s : Standing = record {
       stack = reverse c.args.state.now.stack;
       waiting = c.args.state.now.waiting;
-      floor = c.args._floor;
+      floor = c.args.floor;
       tried = [];
       is_over = c.args.is_over;
     } in

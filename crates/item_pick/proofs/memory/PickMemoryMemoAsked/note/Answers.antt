@@ -1,0 +1,23 @@
+use Rattle.std.proofs.Common.{◌≡◌, arith}
+use Rattle.item_pick.specs.PartsSeen.{rules_in}
+use Rattle.item_pick.proofs.TableLaws.{run_and}
+use Rattle.item_pick.proofs.memory.PickMemoryMemoAsked.note.Goals as goal
+
+pub returns : goal.returns
+returns g c =
+    let p = c.args.picking.now in
+    let r = rules_in p.syntax.now.parts.now p.syntax.now.budget in
+    let t = g.T.Lines.lines p.lines.now in
+    let l = p.at.line in
+    let stands = c.requires.stands in
+    let run = c.run_at-run.result in
+    let first = c.requires.first (omega (arith, c.if-start-ne0.false)) in
+    record {
+      tables = record { rows = stands.tables.rows; vains = stands.tables.vains };
+      keys = stands.keys;
+      runs = c.keep.ensures r t l stands.runs
+          (run_and r t l c.args.id c.args.pattern.now first run c.args.col c.args.places.first c.args.places.end
+          c.run_at-run.ensures.tells.same (c.run_at-run.ensures.stands t l stands) (omega (arith, c.if-run-col.false)) c.requires.settled
+          c.both-places.result.first c.both-places.result.end
+          c.both-places.ensures.first.0 c.both-places.ensures.first.1 c.both-places.ensures.end.0 c.both-places.ensures.end.1);
+    }

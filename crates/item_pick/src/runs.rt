@@ -1,0 +1,210 @@
+//! What is known of the line that is painted: from which columns an item isn't matched.
+ghost use Rattle.std.specs.Prelude.{◌≡◌, ◌<◌, ◌≤◌, ◌-◌, ◌^◌, ℕ, [], IfSome, IsTrue};
+ghost use Rattle.std.specs.List.{All};
+ghost use Rattle.match_rules.specs.Ways.{Text};
+ghost use Rattle.paint_rules.specs.Rules.{Rules, item_of};
+ghost use Rattle.item_pick.specs.PartsSeen.{rules_in};
+ghost use Rattle.item_pick.specs.Standing.{has_one_start, IsFirst, IsItem};
+ghost use Rattle.item_pick.specs.Tables.{IsEnough, RunStands};
+ghost use Rattle.item_pick.specs.Runs.{Covers, TellsOf};
+
+use crate::asked::Asked;
+use crate::columns::Columns;
+use region_ends::item_of;
+use std::alloc::Global;
+use syn_base::{ItemId, Memory};
+use syntax_set::{ItemKind, Pattern};
+
+/// No match of an item by its first start pattern, from a column up to, and without, another, has its
+/// item start at these places of the line.
+#[derive(Clone, Copy)]
+pub(crate) struct Run {
+    pub(crate) item: ItemId,
+    pub(crate) from: usize,
+    pub(crate) to: usize,
+    pub(crate) places: Columns,
+    /// The least floor from which on the item is sought from no column before; only where the item has
+    /// no other start pattern.
+    pub(crate) least: Option<usize>,
+}
+
+/// What is known of a line. An item has one place; what stands there says itself of which item it is.
+#[derive(Drop)]
+pub(crate) struct Runs {
+    list: Vec<Run>,
+}
+
+impl Run {
+    /// Whether an item isn't matched at a place from any column before an end.
+    pub(crate) fn covers(&self, item: ItemId, at: usize, floor: usize, end: usize) -> bool
+        ensures { IsTrue result → Covers self.now item at floor end }
+    {
+        let enough = match self.least {
+            Some(least) => least <= floor,
+            None => false,
+        };
+        enough
+            && self.item == item
+            && end <= self.to
+            && self.places.first <= at
+            && at < self.places.end
+    }
+}
+
+impl Asked<'_> {
+    /// Whether an item starts by one pattern at most.
+    fn has_one_start(&self, id: ItemId) -> bool
+        requires { IsItem (rules_in self.now.parts.now self.now.budget) id }
+        ensures { result
+            ≡ has_one_start (item_of (rules_in self.now.parts.now self.now.budget).items id).kind }
+    {
+        match &item_of(self.parts.items, id).kind {
+            ItemKind::Keyword => true,
+            ItemKind::Match(_) => true,
+            ItemKind::Region {
+                starts,
+                skip: _,
+                ends: _,
+            } => starts.len() == 1,
+        }
+    }
+
+    /// The least floor from which on an item is sought from no column before one.
+    fn least_floor(&self, id: ItemId, pattern: &Pattern, col: usize) -> Option<usize>
+        requires item { IsItem (rules_in self.now.parts.now self.now.budget) id }
+        requires first { IsFirst (rules_in self.now.parts.now self.now.budget) id pattern.now }
+        ensures { IfSome result (IsEnough (rules_in self.now.parts.now self.now.budget) id col) }
+    {
+        if self.has_one_start(id) {
+            floor_for(col, pattern.lc)
+        } else {
+            None
+        }
+    }
+
+    /// A run that has no column yet.
+    pub(crate) fn fresh_run(&self, id: ItemId, pattern: &Pattern, col: usize) -> Run
+        requires item { IsItem (rules_in self.now.parts.now self.now.budget) id }
+        requires first { IsFirst (rules_in self.now.parts.now self.now.budget) id pattern.now }
+        ensures stands { (t : Text) (l : ℕ) →
+            RunStands (rules_in self.now.parts.now self.now.budget) t l result }
+        ensures tells { (at : ℕ) → at < 2 ^ 62 → TellsOf id col at result }
+    {
+        Run {
+            item: id,
+            from: col,
+            to: col,
+            places: Columns {
+                first: 0,
+                end: usize::MAX,
+            },
+            least: self.least_floor(id, pattern, col),
+        }
+    }
+}
+
+/// The least floor from which on a match is sought from no column before one, by its leading context.
+fn floor_for(col: usize, context: u32) -> Option<usize>
+    ensures { IfSome result (λ least. (floor : ℕ) → least ≤ floor → col ≤ floor - context) }
+{
+    if col == 0 {
+        return Some(0);
+    }
+    col.checked_add(context as usize)
+}
+
+impl Runs {
+    /// Nothing is known.
+    pub(crate) fn new(alloc: Global) -> Runs
+        ensures { result.list.items ≡ [] }
+    {
+        Runs {
+            list: Vec::new(alloc),
+        }
+    }
+
+    /// Forgets what was known.
+    pub(crate) fn clear(&mut self)
+        ensures { self.new.list.items ≡ [] }
+    {
+        self.list.clear();
+    }
+
+    /// The run of an item that holds a column or ends there, and tells of a place.
+    pub(crate) fn known(&self, item: ItemId, col: usize, at: usize) -> Option<Run>
+        ensures tells { IfSome result (TellsOf item col at) }
+        ensures stands { (r : Rules) (t : Text) (l : ℕ) → All (RunStands r t l) self.now.list.items →
+            IfSome result (RunStands r t l) }
+    {
+        let run = *self.list.get(item.0 as usize)?;
+        let holds = run.item == item && run.from <= col && col <= run.to;
+        if holds && run.places.first <= at && at < run.places.end {
+            Some(run)
+        } else {
+            None
+        }
+    }
+
+    /// Whether it is known that an item isn't matched at a place from any column before an end.
+    pub(crate) fn covers(&self, item: ItemId, at: usize, floor: usize, end: usize) -> bool
+        ensures { IsTrue result → (r : Rules) (t : Text) (l : ℕ) →
+            All (RunStands r t l) self.now.list.items →
+            (run : Run) × RunStands r t l run × Covers run item at floor end }
+    {
+        match self.list.get(item.0 as usize) {
+            Some(run) => run.covers(item, at, floor, end),
+            None => false,
+        }
+    }
+
+    /// Keeps a run at the place of its item, unless it is empty.
+    pub(crate) fn keep(&mut self, run: Run) -> Result<(), Memory>
+        ensures { (r : Rules) (t : Text) (l : ℕ) → All (RunStands r t l) self.old.list.items →
+            RunStands r t l run → All (RunStands r t l) self.new.list.items }
+    {
+        if run.from == run.to {
+            return Ok(());
+        }
+        let place = run.item.0 as usize;
+        if place < self.list.len() {
+            self.list[place] = run;
+            return Ok(());
+        }
+        self.fill(place)?;
+        self.put(run)
+    }
+
+    /// Puts what says nothing before a place.
+    fn fill(&mut self, place: usize) -> Result<(), Memory>
+        ensures { (r : Rules) (t : Text) (l : ℕ) → All (RunStands r t l) self.old.list.items →
+            All (RunStands r t l) self.new.list.items }
+    {
+        for _ in self.list.len()..place {
+            self.put_empty()?;
+        }
+        Ok(())
+    }
+
+    /// Puts at the end what says nothing.
+    fn put_empty(&mut self) -> Result<(), Memory>
+        ensures { (r : Rules) (t : Text) (l : ℕ) → All (RunStands r t l) self.old.list.items →
+            All (RunStands r t l) self.new.list.items }
+    {
+        self.put(Run {
+            item: ItemId(0),
+            from: 0,
+            to: 0,
+            places: Columns { first: 0, end: 0 },
+            least: None,
+        })
+    }
+
+    /// Puts a run at the end.
+    fn put(&mut self, run: Run) -> Result<(), Memory>
+        ensures { (r : Rules) (t : Text) (l : ℕ) → All (RunStands r t l) self.old.list.items →
+            RunStands r t l run → All (RunStands r t l) self.new.list.items }
+    {
+        self.list.push(run)?;
+        Ok(())
+    }
+}
