@@ -1,5 +1,5 @@
 -- What a run says of a place.
-use Rattle.std.specs.Prelude.{◌≡◌, ◌<◌, ◌≤◌, ℕ, IfSome, Option, Some}
+use Rattle.std.specs.Prelude.{◌≡◌, ◌<◌, ◌≤◌, ℕ, Some}
 use Rattle.syn_base.specs.declared.places.ItemId.{ItemId}
 use Rattle.item_pick.specs.declared.runs.Run.{Run}
 

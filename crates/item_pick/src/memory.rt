@@ -163,8 +163,7 @@ impl PickMemory {
         ensures { IsTrue result → (r : Rules) (t : Text) (l : ℕ) → MemoryStands r t l self.now →
             IsQuiet r t (place_at l at) floor (item_numbered id) }
     {
-        self.runs
-            .covers(ItemId(id), at, floor, self.numbers.len())
+        self.runs.covers(ItemId(id), at, floor, self.numbers.len())
     }
 
     /// The number behind an item, or what is next without it where it is behind that already, isn't

@@ -1,4 +1,4 @@
-use Rattle.std.proofs.Common.{◌≡◌, ◌∙◌, ap, sym, refl}
+use Rattle.std.proofs.Common.{◌∙◌, ap}
 use Rattle.std.specs.Prelude.{Some, Bool}
 use Rattle.syntax_set.specs.declared.item.Item.{Item}
 use Rattle.item_pick.specs.PartsSeen.{rules_in}

@@ -13,7 +13,7 @@ returns c t l memory key =
     let r = rules_in c.args._asked.now.parts.now budget in
     let row = c.in_ok-row.ensures in
     let stands =
-        subst (λ choice. ListStands r choice c.args.number c.in_ok-row.row.now.items.items) row.choice
-        (subst (λ number. ListStands r c.in_ok-row.row.now.choice number c.in_ok-row.row.now.items.items) row.number (row.stands r memory.tables)) in
+    subst (λ choice. ListStands r choice c.args.number c.in_ok-row.row.now.items.items) row.choice
+    (subst (λ number. ListStands r c.in_ok-row.row.now.choice number c.in_ok-row.row.now.items.items) row.number (row.stands r memory.tables)) in
     next_at r (futile_by sets budget) t (place_at l c.args.at) c.args.number c.args.floor key c.args.choice c.in_ok-row.row.now.items.items stands
     c.args.left c.next_open.result c.requires (subst (λ (list : List ℕ). IsNextIn r t (place_at l c.args.at) c.args.floor list c.args.left c.next_open.result) c.deref.ensures.value (c.next_open.ensures r t l memory))

@@ -1,4 +1,4 @@
-use Rattle.std.proofs.Common.{◌+◌, inl, inr, subst, arith}
+use Rattle.std.proofs.Common.{inl, inr, subst, arith}
 use Rattle.paint_rules.specs.Rules.{place_at}
 use Rattle.item_pick.specs.Quiet.{IsQuiet, item_numbered}
 use Rattle.item_pick.proofs.TableLaws.{has_or_lacks}

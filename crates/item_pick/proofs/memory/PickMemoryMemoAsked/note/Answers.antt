@@ -1,4 +1,4 @@
-use Rattle.std.proofs.Common.{◌≡◌, arith}
+use Rattle.std.proofs.Common.{arith}
 use Rattle.item_pick.specs.PartsSeen.{rules_in}
 use Rattle.item_pick.proofs.TableLaws.{run_and}
 use Rattle.item_pick.proofs.memory.PickMemoryMemoAsked.note.Goals as goal
