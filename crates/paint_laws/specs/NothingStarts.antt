@@ -15,7 +15,12 @@ HasNoLiveItem r =
 -- a line without spans, with nothing open before and after it, which looked at itself alone
 abbrev pub blank_note : ℕ → Note
 blank_note l =
-    record { before = empty_state; spans = []; after = empty_state; looked = Some (one_line (pos l)) }
+    record {
+      before = empty_state;
+      spans = [];
+      after = empty_state;
+      looked = Some (one_line (pos l));
+    }
 
 -- such notes for some lines, from a line on
 abbrev pub blank_notes : ℕ → List (List ℕ) → List Note

@@ -1,5 +1,5 @@
--- What was refused changes nothing: the lines before it are painted as they are without it, and those
--- behind it don't matter.
+-- What was refused changes nothing: the lines before it are painted as they are without it, and
+-- those behind it don't matter.
 use Rattle.std.specs.Prelude.{◌≡◌, ◌-◌, ℕ, List, ◌++◌, take}
 use Rattle.match_rules.specs.Ways.{Text}
 use Rattle.paint_rules.specs.Rules.{Rules}

@@ -7,8 +7,8 @@ use Rattle.syn_base.specs.declared.places.ItemId.{ItemId}
 use Rattle.paint_rules.specs.Rules.{Here, same_item}
 use Rattle.paint_rules.specs.States.{Standing, stale}
 use Rattle.paint_rules.specs.Close.{closed}
-use Rattle.paint_rules.specs.Pick.{Starting, AWord, AMatch, AnEmpty, ARegion, Start, SkipOn, Nothing}
-use Rattle.paint_rules.specs.Pick.{picked, started}
+use Rattle.paint_rules.specs.Pick.{Starting, AWord, AMatch, AnEmpty, ARegion}
+use Rattle.paint_rules.specs.Pick.{Start, SkipOn, Nothing, picked, started}
 use Rattle.paint_rules.specs.Line.{column}
 use Rattle.paint_laws.specs.Outcomes.{Gives}
 
