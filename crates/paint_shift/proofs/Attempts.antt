@@ -1,4 +1,5 @@
--- The attempts of a syntax's rules are local: the law of the rules of matching, as painting asks it.
+-- The attempts of a syntax's rules are local: the law of the rules of matching, as painting asks
+-- it.
 use Rattle.std.proofs.Common.{◌≡◌, ◌≤◌, ◌+◌, ℕ, Bool, List, length, refl, ap, arith}
 use Rattle.std.specs.Prelude.{Option, Some, None, option_map}
 use Rattle.std.proofs.lemmas.Int.{ints}

@@ -7,4 +7,8 @@ pub mod CloseLaws
 pub mod PickLaws
 pub mod LineLaws
 pub mod Attempts
+pub mod StayLaws
+pub mod EndStays
 pub mod Elsewhere
+pub mod LineStays
+pub mod AboutLine

@@ -91,9 +91,9 @@ present two k j on s =
           elim s.here [ inl r ↦ r.1 | inr r ↦ absurd (omega (arith, r.0)) ];
     }
 
--- where two texts agree, under a shift, on the lines that a line's painting looks at, and the states
--- before are equal, that line is painted alike: the same spans and the same state after, or the same
--- refusal at the same column, and the same looked lines, moved
+-- where two texts agree, under a shift, on the lines that a line's painting looks at, and the
+-- states before are equal, that line is painted alike: the same spans and the same state after, or
+-- the same refusal at the same column, and the same looked lines, moved
 pub painted_line_same : (two : Two) → AttemptsAreLocal two → (k j : ℕ) → k < length two.one →
     IsMovedLine two k j → (before : State) →
     Same two (painted_line (record { rules = two.rules; text = two.one; line = k }) before)

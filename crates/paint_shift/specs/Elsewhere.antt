@@ -33,8 +33,9 @@ AgreeOn t u by (Some looked) = Agree t u by looked
 abbrev pub line_in : Rules → Text → ℕ → Here
 line_in r t l = record { rules = r; text = t; line = l }
 
--- By some rules, from the same state: where two texts agree on the lines that the painting of a line
--- of the one looks at, as far on as that line stands in the other, its painting there is the same, moved.
+-- By some rules, from the same state: where two texts agree on the lines that the painting of a
+-- line of the one looks at, as far on as that line stands in the other, its painting there is the
+-- same, moved.
 abbrev pub ArePaintedAlike : Rules → Type 0
 ArePaintedAlike r =
     (t u : Text) (by : ℤ) (k j : ℕ) (before : State) → pos j ≡ pos k +ℤ by → k < length t →

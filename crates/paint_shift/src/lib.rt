@@ -7,11 +7,20 @@
 //! rules of painting: by each rule, what the one text gives and what the other gives are alike.
 #![tactic(auto)]
 
+ghost use Rattle.paint_shift.specs.AboutLine.{PaintingsLookAboutTheirLine};
 ghost use Rattle.paint_shift.specs.Elsewhere.{LinesArePaintedAlike};
 
 /// Where two texts agree on the lines that a line's painting looks at, as far on as the line stands
-/// in the other, and the states before it are equal, that line has the same spans there and the same
-/// state after it, or the same refusal with its column and item, and looks at the same lines, moved.
+/// in the other, and the states before it are equal, that line has the same spans there and the
+/// same state after it, or the same refusal with its column and item, and looks at the same lines,
+/// moved.
 pub fn a_line_painted_elsewhere_is_painted_alike()
     ensures { LinesArePaintedAlike }
+{}
+
+/// The lines that a line's painting looks at lie about it: it is among them, none is before the
+/// line before the text's first one, and none behind the line behind its last one. So it is for a
+/// line that is refused too.
+pub fn a_painting_looks_about_its_line()
+    ensures { PaintingsLookAboutTheirLine }
 {}
