@@ -1,0 +1,10 @@
+pub mod OutcomeLaws
+pub mod TriedLaws
+pub mod AllowedLaws
+pub mod PickedLaws
+pub mod StartLaws
+pub mod TextLaws
+pub mod SpanLaws
+pub mod ClosingLaws
+pub mod NothingLaws
+pub mod OneSpansLaws

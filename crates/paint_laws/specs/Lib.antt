@@ -1,0 +1,8 @@
+-- the words of the laws, and the laws
+pub mod Outcomes
+pub mod Starts
+pub mod Closings
+pub mod Shown
+pub mod NothingStarts
+pub mod LineByLine
+pub mod Refusals

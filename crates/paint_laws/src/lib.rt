@@ -1,0 +1,55 @@
+//! Laws over the rules of painting, each in the words of the subject.
+//!
+//! The rules of `paint_rules` compute what a text shows, column by column. What stands here is said
+//! of all syntaxes, texts and states in words of its own, and proved from the rules: what starts at
+//! a place, what the spans of a line are, and how the painting of a text is made of its lines. The
+//! functions make nothing; each one's contract is a law.
+#![tactic(auto)]
+
+ghost use Rattle.paint_laws.specs.Closings.{ClosingEnds};
+ghost use Rattle.paint_laws.specs.LineByLine.{RefusedPaintings, WholePaintings};
+ghost use Rattle.paint_laws.specs.NothingStarts.{NothingIsPainted};
+ghost use Rattle.paint_laws.specs.Refusals.{RefusalsChangeNothing};
+ghost use Rattle.paint_laws.specs.Shown.{NoOtherSpansDo, OneStandsAtAColumn, SpansShowTheStack};
+ghost use Rattle.paint_laws.specs.Starts.{ColumnsRunToTheirEnd, ItemsStartOnce, KnownItemsStart};
+
+/// At a place an item starts at most once, and it is one of the syntax. What closes and starts at a
+/// column goes on until nothing more starts, and doesn't stop before (`:syn-priority`).
+pub fn an_item_starts_at_most_once()
+    ensures once { ItemsStartOnce }
+    ensures known { KnownItemsStart }
+    ensures whole { ColumnsRunToTheirEnd }
+{}
+
+/// Closing at a place goes on until nothing more closes there, and doesn't stop before.
+pub fn closing_comes_to_its_end()
+    ensures { ClosingEnds }
+{}
+
+/// The spans of a painted line fit it, are as long as they can be, and give each character the
+/// group that the stack shows there; no other spans do. The state after the line is what stands at
+/// its end.
+pub fn spans_show_the_stack()
+    ensures spans { SpansShowTheStack }
+    ensures one { OneStandsAtAColumn }
+    ensures no_others { NoOtherSpansDo }
+{}
+
+/// A syntax in which no item is live, as the empty one, paints nothing: no text is refused by it,
+/// no line has a span, nothing stays open, and no other line is looked at.
+pub fn without_live_items_nothing_is_painted()
+    ensures { NothingIsPainted }
+{}
+
+/// To paint a text is to paint its lines one after the other, each from the state that the line
+/// before it leaves; the painting is refused exactly where one of them is, as that one is.
+pub fn a_text_is_painted_line_by_line()
+    ensures whole { WholePaintings }
+    ensures refused { RefusedPaintings }
+{}
+
+/// A line that is refused changes nothing: those before it are painted as they are without it, and
+/// those behind it don't matter.
+pub fn a_refusal_changes_nothing()
+    ensures { RefusalsChangeNothing }
+{}

@@ -1,0 +1,14 @@
+pub mod Shift
+pub mod AlikeLaws
+pub mod PlaceLaws
+pub mod MatchLaws
+pub mod EndLaws
+pub mod CloseLaws
+pub mod PickLaws
+pub mod LineLaws
+pub mod Attempts
+pub mod StayLaws
+pub mod EndStays
+pub mod Elsewhere
+pub mod LineStays
+pub mod AboutLine
