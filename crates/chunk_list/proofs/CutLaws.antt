@@ -1,7 +1,8 @@
 -- Lists in chunks between cuts: what is put in at one, and what is taken out between two places.
-use Rattle.std.proofs.Common.{arith, sym, ap, ◌∙◌, ◌≡◌, ◌<◌, ◌≤◌, ◌+◌, ◌-◌, ℕ, zero, suc, List, [], ◌∷◌, ◌++◌, ◌⊎◌, inl, inr, take, drop, length, append_assoc, refl, length-append, length-drop, length-take}
-use Rattle.std.proofs.lemmas.List.{take-append-drop, take_at, drop_at, drop-drop, drop-take, take-take, drop_all, take_all, append-nil}
+use Rattle.std.proofs.Common.{arith, sym, ap, ◌∙◌, ◌≡◌, ◌<◌, ◌≤◌, ◌+◌, ◌-◌, ◌*◌, ℕ, zero, suc, List, [], ◌∷◌, ◌++◌, ◌⊎◌, inl, inr, take, drop, length, append_assoc, refl, length-append, length-drop, length-take}
+use Rattle.std.proofs.lemmas.List.{length-take-le, take-append-drop, take_at, drop_at, drop-drop, drop-take, take-take, drop_all, take_all, append-nil}
 use Rattle.chunk_list.specs.Flat.{IsCut, cut_of, flat}
+use Rattle.chunk_list.specs.Replaced.{replaced}
 use Rattle.chunk_list.proofs.FlatLaws.{flat-append}
 
 module _ {X : Type 0} (cs : List (List X)) where
@@ -79,3 +80,16 @@ flat-cut_of {X} (c ∷ cs) a b low =
     ∙ sym (append_assoc (take a c) (take (a - n) (flat cs)) (drop b c ++ drop (b - n) (flat cs)))
     ∙ ap (λ (l : List X). l ++ (drop b c ++ drop (b - n) (flat cs))) (sym (take-append c (flat cs) a))
     ∙ ap (λ (l : List X). take a (c ++ flat cs) ++ l) (sym (drop-append c (flat cs) b))
+
+-- taken out, and put in where it was
+pub replaced_is : {X : Type 0} (xs ys zs new : List X) (a b : ℕ) → a ≤ b → b ≤ length xs → ys ≡ take a xs ++ drop b xs → zs ≡ take a ys ++ new ++ drop a ys → zs ≡ replaced xs a b new
+replaced_is {X} xs ys zs new a b ordered inside without put =
+    let front : length (take a xs) ≡ a = length-take-le a xs (omega arith) in
+    let first : take a ys ≡ take a xs = ap (take a) without ∙ take_at (take a xs) (drop b xs) a front in
+    let last : drop a ys ≡ drop b xs = ap (drop a) without ∙ drop_at (take a xs) (drop b xs) a front in
+    put ∙ ap (λ (l : List X). l ++ new ++ drop a ys) first ∙ ap (λ (l : List X). take a xs ++ new ++ l) last
+
+-- there is room for where each chunk ends
+pub room_for_ends : (n before less more room : ℕ) → less ≤ before → before ≤ room → n ≤ 512 * (room - before - 1) → (n ≡ 0 → more ≡ less) → 512 * more < 512 * (less + 2) + n → more ≤ room
+room_for_ends zero before less more room low within spare none count = omega (arith, none refl)
+room_for_ends (suc n) before less more room low within spare none count = omega arith

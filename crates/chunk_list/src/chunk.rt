@@ -1,5 +1,5 @@
 //! A chunk: up to 512 elements, with room for all of them from the start.
-ghost use Rattle.std.specs.Prelude.{◌≡◌, ◌+◌, ◌<◌, ◌≤◌, [], ◌∷◌, ◌++◌, length, take, drop, slice_get, Some, IfOk, vec_capacity, vec_len};
+ghost use Rattle.std.specs.Prelude.{◌≡◌, ◌==◌, ◌+◌, ◌<◌, ◌≤◌, [], ◌∷◌, ◌++◌, length, take, drop, slice_get, Some, IfOk, vec_capacity, vec_len};
 
 use crate::moves::{cut, join, turn_over};
 use std::alloc::Global;
@@ -41,6 +41,13 @@ impl<T> Chunk<T> {
         ensures few { length self.now ≤ 512 }
     {
         self.items.len()
+    }
+
+    /// Whether it has none.
+    pub(crate) fn is_empty(&self) -> bool
+        ensures { result ≡ (length self.now == 0) }
+    {
+        self.items.is_empty()
     }
 
     /// The element at `i`, from 0.

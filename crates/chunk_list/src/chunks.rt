@@ -1,5 +1,5 @@
 //! Chunks, one after the other: what is taken out of the list that they are, and what is put in.
-ghost use Rattle.std.specs.Prelude.{◌≡◌, ◌+◌, ◌*◌, ◌-◌, ◌<◌, ◌≤◌, [], ◌++◌, length, take, drop, vec_capacity, vec_len};
+ghost use Rattle.std.specs.Prelude.{◌≡◌, ◌==◌, ◌+◌, ◌*◌, ◌-◌, ◌<◌, ◌≤◌, [], ◌++◌, length, take, drop, filter, not, vec_capacity, vec_len};
 ghost use Rattle.chunk_list.specs.Flat.{IsCut, IsPlace, cut_of, flat};
 
 use crate::chunk::{Chunk, MOST};
@@ -61,7 +61,7 @@ fn fill<T: Drop>(chunks: &mut Vec<Chunk<T>>, empty: &mut Vec<Chunk<T>>, new: Vec
     requires some { 0 < length new.items }
     requires spare { length new.items ≤ 512 * vec_len empty.old }
     requires room { length new.items ≤ 512 * (vec_capacity chunks.old - vec_len chunks.old) }
-    ensures items { flat chunks.new.items ≡ flat chunks.old.items ++ new.items }
+    ensures items { flat (drop (vec_len chunks.old) chunks.new.items) ≡ new.items }
     ensures behind { take (vec_len chunks.old) chunks.new.items ≡ chunks.old.items }
     ensures room { vec_capacity chunks.new ≡ vec_capacity chunks.old }
     ensures count { 512 * vec_len chunks.new < 512 * vec_len chunks.old + length new.items + 512 }
@@ -88,7 +88,7 @@ fn take_empty<T: Drop>(empty: &mut Vec<Chunk<T>>) -> Chunk<T>
     chunk
 }
 
-/// Puts elements in before place `at`.
+/// Puts elements in before place `at`. Without new elements no chunk is cut.
 pub(crate) fn put_in<T: Drop>(
     chunks: &mut Vec<Chunk<T>>,
     empty: &mut Vec<Chunk<T>>,
@@ -96,15 +96,17 @@ pub(crate) fn put_in<T: Drop>(
     new: Vec<T>,
 )
     requires inside { at ≤ length (flat chunks.old.items) }
-    requires some { 0 < length new.items }
     requires spare { length new.items ≤ 512 * (vec_len empty.old - 1) }
     requires room { length new.items ≤ 512 * (vec_capacity chunks.old - vec_len chunks.old - 1) }
     ensures items { flat chunks.new.items
         ≡ take at (flat chunks.old.items) ++ new.items ++ drop at (flat chunks.old.items) }
     ensures room { vec_capacity chunks.new ≡ vec_capacity chunks.old }
-    ensures count { 512 * vec_len chunks.new
-        < 512 * (vec_len chunks.old + 1) + length new.items + 512 }
+    ensures count { 512 * vec_len chunks.new < 512 * (vec_len chunks.old + 2) + length new.items }
+    ensures none { length new.items ≡ 0 → vec_len chunks.new ≡ vec_len chunks.old }
 {
+    if new.is_empty() {
+        return;
+    }
     let before = split(chunks, empty, at);
     let behind = chunks.len() - before;
     fill(chunks, empty, new);
@@ -121,8 +123,18 @@ pub(crate) fn take_out<T: Drop>(chunks: &mut Vec<Chunk<T>>, a: usize, b: usize)
 {
     if a < b {
         cut_chunks(chunks, a, b);
-        chunks.retain(|chunk| chunk.len() > 0);
+        drop_empty(chunks);
     }
+}
+
+/// Drops the chunks without elements.
+fn drop_empty<T: Drop>(chunks: &mut Vec<Chunk<T>>)
+    ensures items { chunks.new.items
+        ≡ filter (λ chunk. not (length chunk == 0)) chunks.old.items }
+    ensures room { vec_capacity chunks.new ≡ vec_capacity chunks.old }
+    ensures count { vec_len chunks.new ≤ vec_len chunks.old }
+{
+    chunks.retain(|chunk| !chunk.is_empty());
 }
 
 /// The same, where chunks without elements stay.

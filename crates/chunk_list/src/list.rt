@@ -54,10 +54,7 @@ impl<T> ChunkList<T> {
         ensures count { result ≡ length self.now.0 }
         ensures few { result < 2 ^ 32 }
     {
-        match self.ends.last() {
-            Some(end) => *end,
-            None => 0,
-        }
+        if self.ends.is_empty() { 0 } else { self.ends[self.ends.len() - 1] }
     }
 
     /// The element at `i`, from 0.
@@ -108,9 +105,7 @@ impl<T: Drop> ChunkList<T> {
     {
         let count = new.len();
         take_out(&mut self.chunks, a, b);
-        if count > 0 {
-            put_in(&mut self.chunks, &mut self.empty, a, new.into_vec());
-        }
+        put_in(&mut self.chunks, &mut self.empty, a, new.into_vec());
         join_at(&mut self.chunks, a + count);
         join_at(&mut self.chunks, a);
         note_ends(&self.chunks, &mut self.ends);
@@ -127,7 +122,7 @@ fn make_chunks<T: Drop>(
     ensures made { OnOk result (count ≤ vec_len chunks.new) }
     ensures kept { vec_len chunks.old ≤ vec_len chunks.new }
 {
-    while chunks.len() < count {
+    'more: while chunks.len() < count {
         chunks.push(Chunk::new(alloc)?)?;
     }
     Ok(())
