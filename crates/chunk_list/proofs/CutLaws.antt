@@ -36,18 +36,22 @@ module _ {X : Type 0} (cs : List (List X)) where
 
 -- two pieces of a list that is two lists
 take-append : {X : Type 0} (xs ys : List X) (a : ℕ) → take a (xs ++ ys) ≡ take a xs ++ take (a - length xs) ys
-take-append [] ys a = let e : a - 0 ≡ a = omega arith in ap (λ (k : ℕ). take k ys) (sym e)
-take-append {X} (x ∷ xs) ys zero = let e : 0 - length (x ∷ xs) ≡ 0 = omega arith in ap (λ (k : ℕ). take k ys) (sym e)
-take-append {X} (x ∷ xs) ys (suc a) = let e : suc a - suc (length xs) ≡ a - length xs = omega arith in ap (λ (l : List X). x ∷ l) (take-append xs ys a) ∙ ap (λ (k : ℕ). x ∷ take a xs ++ take k ys) (sym e)
+take-append {X} [] ys a =
+    let e : a - 0 ≡ a = omega arith in
+    let none : ◌≡◌ {A = List X} (take a []) [] = take_all {A = X} a [] (omega arith) in
+    rw (e, none) refl
+take-append (x ∷ xs) ys zero = let e : 0 - length (x ∷ xs) ≡ 0 = omega arith in ap (λ (k : ℕ). take k ys) (sym e)
+take-append {X} (x ∷ xs) ys (suc a) =
+    let e : suc a - suc (length xs) ≡ a - length xs = omega arith in
+    ap (λ (l : List X). x ∷ l) (take-append xs ys a) ∙ ap (λ (k : ℕ). x ∷ (take a xs ++ take k ys)) (sym e)
 
 drop-append : {X : Type 0} (xs ys : List X) (b : ℕ) → drop b (xs ++ ys) ≡ drop b xs ++ drop (b - length xs) ys
-drop-append [] ys b = let e : b - 0 ≡ b = omega arith in rw e (sym (drop-none b ys))
-  where
-    drop-none : (b : ℕ) (ys : List X) → drop b [] ++ drop b ys ≡ drop b ys
-    drop-none zero ys = refl
-    drop-none (suc b) ys = refl
-drop-append (x ∷ xs) ys zero = let e : 0 - length (x ∷ xs) ≡ 0 = omega arith in rw e refl
-drop-append (x ∷ xs) ys (suc b) = let e : suc b - suc (length xs) ≡ b - length xs = omega arith in rw e (drop-append xs ys b)
+drop-append {X} [] ys b =
+    let e : b - 0 ≡ b = omega arith in
+    let none : ◌≡◌ {A = List X} (drop b []) [] = drop_all {X = X} b [] (omega arith) in
+    rw (e, none) refl
+drop-append (x ∷ xs) ys zero = let e : 0 - length (x ∷ xs) ≡ 0 = omega arith in ap (λ (k : ℕ). (x ∷ xs) ++ drop k ys) (sym e)
+drop-append (x ∷ xs) ys (suc b) = let e : suc b - suc (length xs) ≡ b - length xs = omega arith in drop-append xs ys b ∙ ap (λ (k : ℕ). drop b xs ++ drop k ys) (sym e)
 
 -- where the second list is taken from, nothing of the first is left behind the piece
 one_is_empty : {X : Type 0} (c ys : List X) (a b : ℕ) → a ≤ b → drop b c ++ take (a - length c) ys ≡ take (a - length c) ys ++ drop b c
@@ -61,13 +65,10 @@ one_is_empty {X} c ys a b low = by (a - length c) refl
 
 -- chunks from which a piece was taken out are the list without it
 pub flat-cut_of : {X : Type 0} (cs : List (List X)) (a b : ℕ) → a ≤ b → flat (cut_of cs a b) ≡ take a (flat cs) ++ drop b (flat cs)
-flat-cut_of [] a b low = sym (none a b)
-  where
-    none : {X : Type 0} (a b : ℕ) → ◌≡◌ {A = List X} (take a [] ++ drop b []) []
-    none zero zero = refl
-    none zero (suc b) = refl
-    none (suc a) zero = refl
-    none (suc a) (suc b) = refl
+flat-cut_of {X} [] a b low =
+    let front : ◌≡◌ {A = List X} (take a []) [] = take_all {A = X} a [] (omega arith) in
+    let back : ◌≡◌ {A = List X} (drop b []) [] = drop_all {X = X} b [] (omega arith) in
+    rw (front, back) refl
 flat-cut_of {X} (c ∷ cs) a b low =
     let n : ℕ = length c in
     let rest : flat (cut_of cs (a - n) (b - n)) ≡ take (a - n) (flat cs) ++ drop (b - n) (flat cs) = flat-cut_of cs (a - n) (b - n) (omega arith) in

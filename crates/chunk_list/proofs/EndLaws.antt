@@ -1,7 +1,9 @@
 -- Where chunks begin and end, and the element at a place.
 use Rattle.std.proofs.Common.{arith, sym, ap, ◌∙◌, ◌≡◌, ◌<◌, ◌≤◌, ◌+◌, ◌-◌, ℕ, zero, suc, List, [], ◌∷◌, ◌++◌, take, drop, length, refl, get_or, length-append, append_assoc}
 use Rattle.std.specs.Prelude.{Some, slice_get, slice_index}
+use Rattle.std.proofs.lemmas.Option.{slice_get_read}
 use Rattle.chunk_list.specs.Flat.{Holds, ends_from, flat, start_in}
+use Rattle.chunk_list.proofs.FlatLaws.{flat_more}
 
 pub length-ends_from : {X : Type 0} (cs : List (List X)) (s : ℕ) → length (ends_from s cs) ≡ length cs
 length-ends_from [] s = refl
@@ -70,8 +72,51 @@ stand_of cs ends at i are holds =
 pub count_is : {X : Type 0} (cs : List (List X)) (ends : List ℕ) (n : ℕ) → ends ≡ ends_from 0 cs → length ends ≡ suc n → slice_index ends n ≡ length (flat cs)
 count_is cs ends n are count =
     let e : length cs ≡ suc n = omega (arith, ap length are, length-ends_from cs 0) in
-    ap (λ (l : List ℕ). slice_index l n) are ∙ last_end cs 0 n e
+    omega (arith, ap (λ (l : List ℕ). slice_index l n) are, last_end cs 0 n e)
 
 pub count_none : {X : Type 0} (cs : List (List X)) (ends : List ℕ) → ends ≡ ends_from 0 cs → length ends ≡ 0 → length (flat cs) ≡ 0
 count_none [] ends are count = refl
 count_none (c ∷ cs) ends are count = absurd (omega (arith, ap length are))
+
+-- what begins behind a place has a chunk before it, which ends there
+pub end_before : (ends : List ℕ) (at i s : ℕ) → s ≡ start_in ends i → at < s → (0 < i) × (at < slice_index ends (i - 1))
+end_before ends at zero s e before = absurd (omega arith)
+end_before ends at (suc i) s e before = let f : suc i - 1 ≡ i = omega arith in (omega arith, rw f (omega arith))
+
+-- the chunks from one on
+pub drop_here : {X : Type 0} (xs : List X) (i : ℕ) (x : X) → slice_get xs i ≡ Some x → drop i xs ≡ x ∷ drop (suc i) xs
+drop_here [] i x is = absurd cc
+drop_here {X} (y ∷ xs) zero x is = let e : y ≡ x = cc in ap (λ (z : X). z ∷ xs) e
+drop_here (y ∷ xs) (suc i) x is = drop_here xs i x is
+
+-- an element that is there has a last chunk behind it or round it
+pub last_holds : {X : Type 0} (cs : List (List X)) (ends : List ℕ) (at : ℕ) → ends ≡ ends_from 0 cs → at < length (flat cs) → (0 < length ends) × (at < slice_index ends (length ends - 1))
+last_holds cs [] at are within = absurd (omega (arith, count_none cs [] are refl))
+last_holds cs (e ∷ ends) at are within =
+    let f : suc (length ends) - 1 ≡ length ends = omega arith in
+    (omega arith, rw f (omega (arith, count_is cs (e ∷ ends) (length ends) are refl, within)))
+
+-- the element that a chunk holds
+pub record Found {X : Type 0} (cs : List (List X)) (at j start : ℕ) (c : List X) : Type 0 where
+  pub inside : j < length cs
+  pub within : at - start < length c
+  pub element : slice_get (flat cs) at ≡ slice_get c (at - start)
+
+pub found : {X : Type 0} (cs : List (List X)) (ends : List ℕ) (at j start : ℕ) (c : List X) → ends ≡ ends_from 0 cs → Holds ends at j → start ≡ start_in ends j → c ≡ get_or cs j c → Found cs at j start c
+found cs ends at j start c are holds begins own =
+    let stand = stand_of cs ends at j are holds in
+    let here : slice_get cs j ≡ Some c = slice_get_read cs (length cs) j c refl stand.inside own in
+    let s : start ≡ length (flat (take j cs)) = begins ∙ ap (λ (e : List ℕ). start_in e j) are ∙ start_is cs j (omega (arith, stand.inside)) in
+    let more = flat_more cs j c here in
+    let inside : at - start < length c = omega (arith, stand.from, stand.to, s, more) in
+    record {
+      inside = stand.inside;
+      within = inside;
+      element = element_is cs j at (at - start) c here (omega (arith, stand.from, s)) inside;
+    }
+
+-- one more end is noted
+pub ends_more : {X : Type 0} (cs : List (List X)) (ends more all : List ℕ) (i next end count : ℕ) (c : List X) → slice_get cs i ≡ Some c → next ≡ suc i → count ≡ length c → more ≡ ends ++ (end + count) ∷ [] → ends ++ ends_from end (drop i cs) ≡ all → more ++ ends_from (end + count) (drop next cs) ≡ all
+ends_more cs ends more all i next end count c here at size is so_far =
+    let split : ends_from end (drop i cs) ≡ (end + length c) ∷ ends_from (end + length c) (drop (suc i) cs) = ap (ends_from end) (drop_here cs i c here) in
+    rw (is, at, size) (append_assoc ends ((end + length c) ∷ []) (ends_from (end + length c) (drop (suc i) cs)) ∙ ap (λ (l : List ℕ). ends ++ l) (sym split) ∙ so_far)

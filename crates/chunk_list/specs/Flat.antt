@@ -1,5 +1,5 @@
 -- Chunks, and the list that they are.
-use Rattle.std.specs.Prelude.{Some, ◌≡◌, ◌+◌, ◌-◌, ◌<◌, ◌≤◌, ℕ, zero, suc, slice_get, slice_index, List, [], ◌∷◌, ◌++◌, length, take, drop}
+use Rattle.std.specs.Prelude.{Some, ◌⊎◌, ◌≡◌, ◌+◌, ◌-◌, ◌<◌, ◌≤◌, ℕ, zero, suc, slice_get, slice_index, List, [], ◌∷◌, ◌++◌, length, take, drop}
 
 -- the chunks, one after another
 abbrev pub flat : {X : Type 0} → List (List X) → List X
@@ -38,3 +38,10 @@ pub record Holds (ends : List ℕ) (at i : ℕ) : Type 0 where
   pub inside : i < length ends
   pub from : start_in ends i ≤ at
   pub to : at < slice_index ends i
+
+-- an element was put into the open chunk; or this one was full, went behind the others, and the element
+-- is the first of a new one, of which there were so many
+abbrev pub IsPut : {X : Type 0} → X → List (List X) → ℕ → List X → List (List X) → ℕ → List X → Type 0
+IsPut x chunks empty chunk chunks' empty' chunk' =
+    ((length chunk < 512) × (chunks' ≡ chunks) × (empty' ≡ empty) × (chunk' ≡ chunk ++ x ∷ []))
+    ⊎ ((length chunk ≡ 512) × (chunks' ≡ chunks ++ chunk ∷ []) × (empty' + 1 ≡ empty) × (chunk' ≡ x ∷ []))

@@ -1,6 +1,6 @@
 //! Chunks, one after the other: what is taken out of the list that they are, and what is put in.
 ghost use Rattle.std.specs.Prelude.{◌≡◌, ◌==◌, ◌+◌, ◌*◌, ◌-◌, ◌<◌, ◌≤◌, [], ◌++◌, length, take, drop, filter, not, vec_capacity, vec_len};
-ghost use Rattle.chunk_list.specs.Flat.{IsCut, IsPlace, cut_of, flat};
+ghost use Rattle.chunk_list.specs.Flat.{IsCut, IsPlace, IsPut, cut_of, flat};
 
 use crate::chunk::{Chunk, MOST};
 use crate::moves::turn;
@@ -68,13 +68,29 @@ fn fill<T: Drop>(chunks: &mut Vec<Chunk<T>>, empty: &mut Vec<Chunk<T>>, new: Vec
 {
     let mut chunk = take_empty(empty);
     for x in new {
-        if chunk.len() == MOST {
-            chunks.push_reserved(chunk);
-            chunk = take_empty(empty);
-        }
-        chunk.push(x);
+        put_one(chunks, empty, &mut chunk, x);
     }
     chunks.push_reserved(chunk);
+}
+
+/// Puts an element into the open chunk, or where this one is full into the next one.
+fn put_one<T: Drop>(
+    chunks: &mut Vec<Chunk<T>>,
+    empty: &mut Vec<Chunk<T>>,
+    chunk: &mut Chunk<T>,
+    x: T,
+)
+    requires spare { length chunk.old ≡ 512 → 0 < vec_len empty.old }
+    requires room { length chunk.old ≡ 512 → vec_len chunks.old < vec_capacity chunks.old }
+    ensures put { IsPut x chunks.old.items (vec_len empty.old) chunk.old
+        chunks.new.items (vec_len empty.new) chunk.new }
+    ensures room { vec_capacity chunks.new ≡ vec_capacity chunks.old }
+{
+    if chunk.len() == MOST {
+        let full = std::mem::replace(chunk, take_empty(empty));
+        chunks.push_reserved(full);
+    }
+    chunk.push(x);
 }
 
 /// One of the chunks that were made before.

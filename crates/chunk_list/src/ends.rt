@@ -37,7 +37,7 @@ pub(crate) fn chunk_of(ends: &[usize], at: usize) -> usize
     let last = ends.len() - 1;
     let guess = (at / MOST).min(last);
     if start_of(ends, guess) > at {
-        return search(ends, at, 0, guess);
+        return search(ends, at, 0, guess - 1);
     }
     if at < ends[guess] {
         return guess;

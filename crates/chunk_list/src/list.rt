@@ -54,7 +54,8 @@ impl<T> ChunkList<T> {
         ensures count { result ≡ length self.now.0 }
         ensures few { result < 2 ^ 32 }
     {
-        if self.ends.is_empty() { 0 } else { self.ends[self.ends.len() - 1] }
+        let count = self.ends.len();
+        if count == 0 { 0 } else { self.ends[count - 1] }
     }
 
     /// The element at `i`, from 0.

@@ -1,1 +1,3 @@
+mod ChangeLaws
+mod ReportLaws
 mod WalkLaws
