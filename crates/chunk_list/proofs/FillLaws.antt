@@ -49,10 +49,11 @@ module _ {X : Type 0} (old chunks : List (List X)) (chunk so_far : List X) (left
   -- the open chunk goes behind the others at the end
   pub filled_all : (next : List (List X)) → next ≡ chunks ++ chunk ∷ [] → (take (length old) next ≡ old) × (flat (drop (length old) next) ≡ so_far) × (length next ≡ length chunks + 1)
   filled_all next is =
-      let behind : drop (length old) next ≡ drop (length old) chunks ++ chunk ∷ [] = ap (drop (length old)) is ∙ drop-append-le (length old) chunks (chunk ∷ []) f.more in
-      (ap (take (length old)) is ∙ take-append-le (length old) chunks (chunk ∷ []) f.more ∙ f.behind,
-       ap flat behind ∙ flat_pushed (drop (length old) chunks) chunk ∙ f.items,
-       ap length is ∙ length-append chunks (chunk ∷ []))
+      let behind : drop (length old) next ≡ drop (length old) chunks ++ chunk ∷ [] = ap (drop (length old)) is ∙ drop-append-le (length old) chunks (chunk ∷ []) f.more in (
+        ap (take (length old)) is ∙ take-append-le (length old) chunks (chunk ∷ []) f.more ∙ f.behind,
+        ap flat behind ∙ flat_pushed (drop (length old) chunks) chunk ∙ f.items,
+        ap length is ∙ length-append chunks (chunk ∷ []),
+      )
 
 -- what is to come, one by one
 pub nothing_left : {X : Type 0} (ran rest all : List X) (n : ℕ) → ran ++ rest ≡ all → n ≡ length rest → n ≡ 0 → ran ≡ all

@@ -13,12 +13,11 @@ drop_here [] i x is = absurd cc
 drop_here {X} (y ∷ xs) zero x is = let e : y ≡ x = cc in ap (λ (z : X). z ∷ xs) e
 drop_here (y ∷ xs) (suc i) x is = drop_here xs i x is
 
-
 pub told_further : (old new : List (List Span)) (change : Change) (k next : ℕ) (spans : List Span) (lines more all : List ℕ) (tells : Bool) → slice_get new k ≡ Some spans → next ≡ suc k → tells ≡ differs old (old_line change k) spans → more ≡ lines ++ (if tells then k ∷ [] else []) → lines ++ report_from old change k (drop k new) ≡ all → more ++ report_from old change next (drop next new) ≡ all
 told_further old new change k next spans lines more all tells here at is grown so_far =
     let later : List ℕ = report_from old change (suc k) (drop (suc k) new) in
     let split : report_from old change k (drop k new) ≡ (if tells then k ∷ later else later) =
-      ap (report_from old change k) (drop_here new k spans here) ∙ ap (λ (b : Bool). if b then k ∷ later else later) (sym is) in
+    ap (report_from old change k) (drop_here new k spans here) ∙ ap (λ (b : Bool). if b then k ∷ later else later) (sym is) in
     let whole : lines ++ (if tells then k ∷ later else later) ≡ all = ap (λ (l : List ℕ). lines ++ l) (sym split) ∙ so_far in
     rw (at, grown) (by tells whole)
   where

@@ -6,10 +6,10 @@ ghost use Rattle.state_cache.specs.Report.{report};
 ghost use Rattle.state_cache.specs.Spans.{text_spans};
 ghost use Rattle.syn_base.specs.SpansFit.{FitLines};
 
+use crate::EditError;
 use crate::change::{Change, Changed};
 use crate::report::{Repainted, report};
 use crate::walk::paint_all;
-use crate::EditError;
 use item_pick::Parts;
 use std::alloc::Global;
 use std::marker::Model;

@@ -28,10 +28,7 @@ fn write_line(bytes: &mut Vec<u8>, line: &[char]) -> Result<(), Memory>
 }
 
 /// The same lines once more.
-pub(super) fn copy_lines(
-    alloc: Global,
-    lines: &ChunkList<Line>,
-) -> Result<ChunkList<Line>, Memory>
+pub(super) fn copy_lines(alloc: Global, lines: &ChunkList<Line>) -> Result<ChunkList<Line>, Memory>
     ensures { IfOk result (λ copy. copy.0 ≡ lines.now.0) }
 {
     let mut copy = List::new(alloc);

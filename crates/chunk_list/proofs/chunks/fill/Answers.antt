@@ -12,7 +12,7 @@ loop-x-preserved g c =
     let fewer : length (into_iter_items c.loop-x.x-iterator) ≡ suc (length rest) = ap length steps.0 in
     record {
       filled = filled_more c.args.chunks.now.items c.loop-x.chunks.items c.loop-x.chunk c.loop-x.yielded (vec_len c.loop-x.empty) (vec_len c.take_empty-chunk.new.empty) inv.filled
-        c.in-Some.x c.put_one.new.chunks.items (vec_len c.put_one.new.empty) c.put_one.new.chunk c.put_one.ensures.put;
+          c.in-Some.x c.put_one.new.chunks.items (vec_len c.put_one.new.empty) c.put_one.new.chunk c.put_one.ensures.put;
       room = c.put_one.ensures.room ∙ inv.room;
       to_come = append_assoc c.loop-x.yielded (c.in-Some.x ∷ []) rest ∙ ap (λ (l : List g.row.T.Denot). c.loop-x.yielded ++ l) (sym steps.0) ∙ inv.to_come;
       count = omega (arith, steps.1, inv.count, fewer);

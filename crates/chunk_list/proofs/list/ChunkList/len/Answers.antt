@@ -25,5 +25,5 @@ returns-else-count-eq0-clause-few g c =
     let n = c.len-count.result - 1 in
     let some : length ends ≡ suc n = omega (arith, c.self.inside.ends.ok.0, c.len-count.ensures, c.if-count-eq0.false) in
     let is = get_or_read ends n c.index.result.now (omega arith) c.index.ensures 0
-      ∙ count_is c.self.inside.chunks.items ends n c.self.invariant.ends_are some in
+    ∙ count_is c.self.inside.chunks.items ends n c.self.invariant.ends_are some in
     omega (arith, is, c.self.invariant.few)
