@@ -1,5 +1,5 @@
 -- Lists in chunks between cuts: what is put in at one, and what is taken out between two places.
-use Rattle.std.proofs.Common.{arith, sym, ap, ◌∙◌, ◌≡◌, ◌<◌, ◌≤◌, ◌+◌, ◌-◌, ◌*◌, ℕ, zero, suc, List, [], ◌∷◌, ◌++◌, ◌⊎◌, inl, inr, take, drop, length, append_assoc, refl, length-append, length-drop, length-take}
+use Rattle.std.proofs.Common.{arith, sym, ap, ◌∙◌, ◌≡◌, ◌<◌, ◌≤◌, ◌+◌, ◌-◌, ◌*◌, ℕ, zero, suc, List, [], ◌∷◌, ◌++◌, take, drop, length, append_assoc, refl}
 use Rattle.std.proofs.lemmas.List.{length-take-le, take-append-drop, take_at, drop_at, drop-drop, drop-take, take-take, drop_all, take_all, append-nil}
 use Rattle.chunk_list.specs.Flat.{IsCut, cut_of, flat}
 use Rattle.chunk_list.specs.Replaced.{replaced}

@@ -1,5 +1,5 @@
 -- Elements that are put into chunks one by one.
-use Rattle.std.proofs.Common.{arith, sym, ap, ◌∙◌, ◌≡◌, ◌<◌, ◌≤◌, ◌+◌, ◌*◌, ◌-◌, ℕ, suc, zero, List, [], ◌∷◌, ◌++◌, take, drop, length, refl, append_assoc, length-append, subst, inl, inr}
+use Rattle.std.proofs.Common.{arith, sym, ap, ◌∙◌, ◌≡◌, ◌<◌, ◌≤◌, ◌+◌, ◌*◌, ℕ, List, [], ◌∷◌, ◌++◌, take, drop, length, append_assoc, length-append, subst, inl, inr}
 use Rattle.std.proofs.lemmas.List.{append-nil, drop-append-le, take-append-le}
 use Rattle.chunk_list.specs.Flat.{IsPut, flat}
 use Rattle.chunk_list.proofs.FlatLaws.{flat_pushed}

@@ -1,3 +1,4 @@
 mod ChangeLaws
+mod ReportIs
 mod ReportLaws
 mod WalkLaws

@@ -1,17 +1,17 @@
 -- What is told of a change: the new lines, and those that show other spans than before.
-use Rattle.std.specs.Prelude.{ℕ, suc, ◌==◌, ◌&&◌, Bool, true, false, not, List, [], ◌∷◌, get_or, Option, Some, None, if◌then◌else◌}
+use Rattle.std.specs.Prelude.{◌≡◌, ◌≢◌, ◌<◌, ◌↔◌, ⊤, ℕ, suc, ◌==◌, ◌&&◌, Bool, true, false, not, List, [], ◌∷◌, length, get_or, Contains, Option, Some, None, if◌then◌else◌}
+use Rattle.std.specs.Cmp.Lexicographic.{pointwise}
+use Rattle.std.specs.List.Sorted.{IsStrictlyIncreasing}
 use Rattle.syn_base.specs.declared.places.Span.{Span}
 use Rattle.state_cache.specs.declared.change.Change.{Change}
 use Rattle.state_cache.specs.Change.{old_line}
 
 abbrev pub same_span : Span → Span → Bool
-same_span a b = (a.first == b.first) && (a.last == b.last) && (a.group.0 == b.group.0)
+same_span a b = (a.first == b.first) && ((a.last == b.last) && (a.group.0 == b.group.0))
 
+-- whether two lines show the same: each span as the other line's
 abbrev pub same_spans : List Span → List Span → Bool
-same_spans [] [] = true
-same_spans [] (b ∷ bs) = false
-same_spans (a ∷ as') [] = false
-same_spans (a ∷ as') (b ∷ bs) = same_span a b && same_spans as' bs
+same_spans = pointwise same_span
 
 -- these spans are those of a new line, or other ones than the old line showed
 abbrev pub differs : List (List Span) → Option ℕ → List Span → Bool
@@ -28,3 +28,13 @@ report_from old change k (spans ∷ rest) =
 -- the lines that are told, least first, as the changed text counts them
 abbrev pub report : List (List Span) → List (List Span) → Change → List ℕ
 report old new change = report_from old change 0 new
+
+-- a new line, or one that shows other spans than the line that it was
+abbrev pub IsChanged : List (List Span) → Option ℕ → List Span → Type 0
+IsChanged old None spans = ⊤
+IsChanged old (Some j) spans = spans ≢ get_or old j []
+
+-- in ascending order exactly the lines that are new or show other spans
+pub record IsReport (old new : List (List Span)) (change : Change) (lines : List ℕ) : Type 0 where
+  pub ascending : IsStrictlyIncreasing lines
+  pub exact : (k : ℕ) → Contains lines k ↔ ((k < length new) × IsChanged old (old_line change k) (get_or new k []))

@@ -32,21 +32,45 @@ impl Change {
 /// A text in which lines `a` to `b - 1` are replaced, with nothing of it copied.
 #[derive(Drop)]
 pub(crate) struct Changed<'a> {
-    pub(crate) text: &'a Text,
-    pub(crate) a: usize,
-    pub(crate) b: usize,
-    pub(crate) new: &'a List<Line>,
+    text: &'a Text,
+    a: usize,
+    b: usize,
+    new: &'a List<Line>,
+    /// How many lines stand behind the replaced ones.
+    behind: usize,
     ghost ordered: { a ≤ b },
-    ghost inside: { b ≤ length text.now.lines },
-    ghost some: { 0 < a + length new.now + (length text.now.lines - b) },
-    ghost few: { a + length new.now + (length text.now.lines - b) < 2 ^ 32 },
+    ghost whole: { b + behind ≡ length text.now.lines },
+    ghost small: { length text.now.lines < 2 ^ 32 },
+    ghost some: { 0 < a + length new.now + behind },
+    ghost few: { a + length new.now + behind < 2 ^ 32 },
+}
+
+impl<'a> Changed<'a> {
+    pub(crate) fn new(text: &'a Text, a: usize, b: usize, new: &'a List<Line>) -> Changed<'a>
+        requires ordered { a ≤ b }
+        requires inside { b ≤ length text.now.lines }
+        requires some { 0 < length (replaced text.now.lines a b new.now) }
+        requires few { length (replaced text.now.lines a b new.now) < 2 ^ 32 }
+        ensures text { result.text.now ≡ text.now }
+        ensures lines { replaced result.text.now.lines result.a result.b result.new.now
+            ≡ replaced text.now.lines a b new.now }
+    {
+        let behind = text.len() - b;
+        Changed {
+            text,
+            a,
+            b,
+            new,
+            behind,
+        }
+    }
 }
 
 impl<'a> Lines for Changed<'a> {
     ghost lines = { λ c. replaced c.text.now.lines c.a c.b c.new.now };
 
     fn len(&self) -> usize {
-        self.a + self.new.len() + (self.text.len() - self.b)
+        self.a + self.new.len() + self.behind
     }
 
     fn line(&self, i: usize) -> &[char] {

@@ -6,11 +6,13 @@
 #![tactic(auto)]
 
 mod change;
+mod laws;
 mod painted;
 mod refusal;
 mod report;
 mod walk;
 
+pub use laws::reports_tell_what_changed;
 pub use painted::{Painted, Unpainted};
 pub use refusal::EditError;
 pub use report::Repainted;

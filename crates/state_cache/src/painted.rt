@@ -141,12 +141,7 @@ impl Painted {
             count: new.len(),
         };
         self.text.reserve_lines(new.len())?;
-        let changed = Changed {
-            text: &self.text,
-            a,
-            b,
-            new: &new,
-        };
+        let changed = Changed::new(&self.text, a, b, &new);
         let spans = spans_of(self.alloc, &self.syntax, &changed, self.budget, steps)?;
         let lines = report(self.alloc, &self.spans, &spans, change)?;
         self.text.replace_reserved(a, b, new);

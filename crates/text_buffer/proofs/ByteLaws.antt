@@ -1,7 +1,6 @@
 -- One line more.
-use Rattle.std.proofs.Common.{◌≡◌, ◌<◌, ◌+◌, ◌∙◌, ℕ, zero, suc, List, [], ◌∷◌, ◌++◌, take, length, get_or, refl, ap, sym, append_assoc, slice_get, Some, arith}
+use Rattle.std.proofs.Common.{◌≡◌, ◌∙◌, ℕ, zero, suc, List, [], ◌∷◌, ◌++◌, take, refl, ap, sym, append_assoc, slice_get, Some}
 use Rattle.std.specs.Prelude.{encode_utf8_all}
-use Rattle.std.proofs.lemmas.List.{append-nil}
 use Rattle.text_buffer.specs.BytesOfText.{bytes_of}
 use Rattle.text_buffer.specs.TextOfBytes.{line_break}
 

@@ -1,4 +1,4 @@
-use Rattle.std.proofs.Common.{◌≡◌, ◌≤◌, ◌++◌, take, drop, length, vec_capacity, vec_len}
+use Rattle.std.proofs.Common.{◌≡◌, ◌≤◌, ◌++◌, take, drop, vec_capacity, vec_len}
 use Rattle.chunk_list.specs.Flat.{cut_of}
 use Rattle.chunk_list.proofs.chunks.cut_chunks.Given as goal
 

@@ -1,7 +1,7 @@
-use Rattle.std.proofs.Common.{arith, ap, sym, ◌∙◌, ◌≡◌, ◌+◌, ◌∷◌, ◌++◌, List, [], suc, length, inl, inr, ◌⊎◌, append_assoc, subst, vec_len, drop}
+use Rattle.std.proofs.Common.{arith, ap, sym, ◌∙◌, ◌≡◌, ◌∷◌, ◌++◌, List, [], suc, length, append_assoc, vec_len, drop}
 use Rattle.std.specs.Vec.Iter.{into_iter_items, into_iter_len}
-use Rattle.chunk_list.specs.Flat.{IsPut, flat}
-use Rattle.chunk_list.proofs.FillLaws.{Filled, filled_all, filled_more, nothing_left}
+use Rattle.chunk_list.specs.Flat.{flat}
+use Rattle.chunk_list.proofs.FillLaws.{filled_all, filled_more, nothing_left}
 use Rattle.chunk_list.proofs.chunks.fill.Goals as goal
 
 pub loop-x-preserved : goal.loop-x-preserved

@@ -1,4 +1,4 @@
-use Rattle.std.proofs.Common.{arith, ◌≡◌, ◌<◌, length}
+use Rattle.std.proofs.Common.{arith, ◌<◌, length}
 use Rattle.chunk_list.proofs.FlatLaws.{joined}
 use Rattle.chunk_list.proofs.chunks.join.Goals as goal
 

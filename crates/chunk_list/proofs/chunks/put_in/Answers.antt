@@ -1,5 +1,4 @@
-use Rattle.std.proofs.Common.{arith, ap, sym, ◌∙◌, ◌≡◌, ◌+◌, ◌-◌, ◌++◌, List, ℕ, length, take, drop}
-use Rattle.chunk_list.specs.Flat.{flat}
+use Rattle.std.proofs.Common.{ap, ◌∙◌, ◌-◌, ◌++◌, List, ℕ, take, drop}
 use Rattle.chunk_list.proofs.CutLaws.{put_at_cut}
 use Rattle.chunk_list.proofs.chunks.put_in.Goals as goal
 

@@ -1,4 +1,3 @@
-use Rattle.std.proofs.Common.{arith, ◌≡◌, ◌+◌, ◌<◌}
 use Rattle.chunk_list.proofs.EndLaws.{end_before}
 use Rattle.chunk_list.proofs.ends.chunk_of.Goals as goal
 

@@ -1,4 +1,4 @@
-use Rattle.std.proofs.Common.{arith, ap, sym, ◌∙◌, ◌≡◌, ◌+◌, ◌<◌, ◌^◌, ◌∷◌, ◌++◌, [], List, ℕ, suc, length, take, drop, refl, append_assoc, Some, slice_get, subst}
+use Rattle.std.proofs.Common.{arith, ap, ◌∙◌, ◌≡◌, ◌+◌, ◌<◌, ◌^◌, suc, length, take, refl, Some, slice_get}
 use Rattle.std.proofs.lemmas.Option.{slice_get_read}
 use Rattle.chunk_list.specs.Flat.{ends_from, flat}
 use Rattle.chunk_list.proofs.FlatLaws.{chunk_within, flat_more}

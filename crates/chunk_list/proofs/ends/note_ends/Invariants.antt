@@ -1,4 +1,4 @@
-use Rattle.std.proofs.Common.{◌≡◌, ◌≤◌, ◌++◌, take, drop, length, vec_capacity, vec_len}
+use Rattle.std.proofs.Common.{◌≡◌, ◌++◌, take, drop, length, vec_capacity, vec_len}
 use Rattle.chunk_list.specs.Flat.{ends_from, flat}
 use Rattle.chunk_list.proofs.ends.note_ends.Given as goal
 

@@ -1,6 +1,6 @@
-use Rattle.std.proofs.Common.{arith, ap, sym, ◌∙◌, ◌≡◌, ◌<◌, ◌-◌, ℕ, List, length}
+use Rattle.std.proofs.Common.{arith, ap, sym, ◌∙◌, ◌<◌, ℕ, List, length}
 use Rattle.std.specs.Prelude.{slice_get}
-use Rattle.chunk_list.specs.Flat.{ends_from, flat, start_in}
+use Rattle.chunk_list.specs.Flat.{flat, start_in}
 use Rattle.chunk_list.proofs.EndLaws.{found, last_holds, stand_of}
 use Rattle.chunk_list.proofs.list.ChunkList.get.Goals as goal
 

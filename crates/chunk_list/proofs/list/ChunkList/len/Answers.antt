@@ -1,6 +1,5 @@
-use Rattle.std.proofs.Common.{arith, ap, sym, ◌∙◌, ◌≡◌, ◌<◌, ◌-◌, suc, length}
+use Rattle.std.proofs.Common.{arith, ap, sym, ◌∙◌, ◌≡◌, ◌-◌, suc, length}
 use Rattle.std.proofs.lemmas.List.{get_or_read}
-use Rattle.chunk_list.specs.Flat.{flat}
 use Rattle.chunk_list.proofs.EndLaws.{count_is, count_none}
 use Rattle.chunk_list.proofs.list.ChunkList.len.Goals as goal
 

@@ -1,4 +1,4 @@
-use Rattle.std.proofs.Common.{arith, ap, ◌∙◌, ◌≡◌, ◌-◌, ◌*◌, ◌≤◌, length, vec_capacity, vec_len}
+use Rattle.std.proofs.Common.{arith, ap, ◌≡◌, ◌-◌, ◌*◌, ◌≤◌, length, vec_capacity, vec_len}
 use Rattle.chunk_list.proofs.CutLaws.{room_for_ends}
 use Rattle.chunk_list.proofs.EndLaws.{length-ends_from}
 use Rattle.chunk_list.proofs.list.ChunkList.replace_reserved.Goals as goal
