@@ -5,6 +5,7 @@ ghost use Rattle.state_cache.specs.PaintedText.{IsPainted, IsPaintingOf, IsRefus
 ghost use Rattle.state_cache.specs.Report.{report};
 ghost use Rattle.state_cache.specs.Spans.{text_spans};
 ghost use Rattle.syn_base.specs.SpansFit.{FitLines};
+ghost use Rattle.text_buffer.specs.TextOfBytes.{most_lines};
 
 use crate::EditError;
 use crate::change::{Change, Changed};
@@ -125,7 +126,7 @@ impl Painted {
         requires ordered { a ≤ b }
         requires inside { b ≤ length self.old.text }
         requires some { 0 < length (replaced self.old.text a b new) }
-        requires few { length (replaced self.old.text a b new) ≤ 2000000 }
+        requires few { length (replaced self.old.text a b new) ≤ most_lines }
         ensures painted { OnOk result (IsPaintingOf
             self.old.syntax (replaced self.old.text a b new) self.old.budget self.new) }
         ensures told { IfOk result (λ told. told.lines ≡ report self.old.spans self.new.spans
