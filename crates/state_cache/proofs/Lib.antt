@@ -1,1 +1,4 @@
+mod ChangeLaws
+mod ReportIs
+mod ReportLaws
 mod WalkLaws

@@ -1,0 +1,4 @@
+pub mod FlatLaws
+pub mod CutLaws
+pub mod FillLaws
+pub mod EndLaws
