@@ -1,1 +1,5 @@
-
+pub mod NumberLaws
+pub mod PieceLaws
+pub mod StandingLaws
+pub mod ReaderLaws
+pub mod TextLaws
