@@ -1,9 +1,11 @@
 -- Laws of the reader: what one more line, or more bytes of a line, do to what is kept.
-use Rattle.std.proofs.Common.{◌≡◌, ℕ, suc, ◌+◌, ◌≤◌, List, [], ◌∷◌, ◌++◌, length, drop, refl, ap, sym, ◌∙◌, append_assoc, Bool, true, false, arith, length-append}
+use Rattle.std.proofs.Common.{◌≡◌, ℕ, suc, ◌+◌, ◌-◌, ◌≤◌, List, [], ◌∷◌, ◌++◌, length, take, drop, refl, ap, sym, ◌∙◌, append_assoc, Bool, true, false, arith, length-append, length-drop}
 use Rattle.std.specs.Prelude.{Option, Some, None, Result, Ok, Err}
 use Rattle.std.specs.Prelude.{if◌then◌else◌}
 use Rattle.std.proofs.lemmas.List.{append-nil, drop-append-le, drop_all}
+use Rattle.std.proofs.lemmas.Grind.{common_steps}
 use Rattle.std.proofs.Math.Bool.{or-true}
+use Rattle.std.proofs.Math.Seq.{take-append_seam}
 use Rattle.text_buffer.specs.TextOfBytes.{line_break}
 use Rattle.edit_script.specs.declared.commands.Entry.{Entry}
 use Rattle.edit_script.specs.declared.commands.ScriptFault.{ScriptFault}
@@ -31,6 +33,9 @@ stands_more waiting lines at cut bytes more all is line stands =
 
 -- ---- one more line break
 
+abbrev kept : ℕ → List ℕ → Kept
+kept lines bytes = record { lines = lines; bytes = bytes }
+
 -- what is kept where a script stands so, behind a line break
 abbrev pub kept_at : Standing → Kept
 kept_at s = record { lines = lines_before s; bytes = broken (lines_kept s) }
@@ -53,6 +58,26 @@ pub kept_break : (number : ℕ) (bytes : List ℕ) → kept_of number (bytes ++ 
 kept_break number bytes =
     kept_parts (standing_in number (bytes ++ line_break ∷ [])) (cut_line (bytes ++ line_break ∷ [])) (cut_break bytes)
     ∙ ap kept_at (standing_break number bytes)
+
+-- the last line, as code slices it
+rest_of : (bytes : List ℕ) (at : ℕ) → take (length bytes - at) (drop at bytes) ≡ drop at bytes
+rest_of bytes at = grind (arith, common_steps)
+
+pub cut_slice : (bytes now : List ℕ) (cut : ℕ) → now ≡ bytes → drop cut bytes ≡ cut_line bytes → take (length now - cut) (drop cut now) ≡ cut_line bytes
+cut_slice bytes now cut is rest = ap (λ b. take (length b - cut) (drop cut b)) is ∙ rest_of bytes cut ∙ rest
+
+-- the same where its line break was put behind it
+pub cut_slice_broken : (bytes now : List ℕ) (cut end : ℕ) → now ≡ bytes ++ line_break ∷ [] → end ≡ length bytes → cut ≤ length bytes → drop cut bytes ≡ cut_line bytes → take (end - cut) (drop cut now) ≡ cut_line bytes
+cut_slice_broken bytes now cut end is is_end within rest =
+    let count : end - cut ≡ length (drop cut bytes) = omega (arith, is_end, length-drop cut bytes) in
+    ap (λ b. take (end - cut) (drop cut b)) is
+    ∙ ap (take (end - cut)) (drop-append-le cut bytes (line_break ∷ []) within)
+    ∙ ap (λ n. take n (drop cut bytes ++ line_break ∷ [])) count
+    ∙ take-append_seam (drop cut bytes) (line_break ∷ []) ∙ rest
+
+-- what is seen of a reader, by its parts
+pub kept_by : (lines next : ℕ) (bytes more : List ℕ) → lines ≡ next → bytes ≡ more → record { lines = lines; bytes = bytes } ≡ kept next more
+kept_by lines next bytes more is are = rw (is, are) refl
 
 -- ---- outside of a text
 
@@ -214,8 +239,8 @@ all_broken bytes =
     ∙ ap (λ b. b ++ line_break ∷ []) (joined bytes)
 
 -- a line of a text, which isn't its dot
-pub line_inside : (waiting more_text : Waiting) (number at next cut : ℕ) (bytes : List ℕ) → Stands (Some waiting) number at cut bytes → next ≡ at + 1 → is_dot (cut_line bytes) ≡ false → more_text.head ≡ waiting.head → ((text : List (List ℕ)) → IsTextOf waiting text → IsTextOf more_text (text ++ cut_line bytes ∷ [])) → (entries_of number (bytes ++ line_break ∷ []) ≡ []) × (kept_of number (bytes ++ line_break ∷ []) ≡ record { lines = number; bytes = bytes ++ line_break ∷ [] }) × Stands (Some more_text) number next (length bytes + 1) (bytes ++ line_break ∷ [])
-line_inside waiting more_text number at next cut bytes stands more dot same adds =
+pub line_inside : (waiting more_text : Waiting) (number at next cut next_cut : ℕ) (bytes all : List ℕ) → all ≡ bytes ++ line_break ∷ [] → next_cut ≡ length bytes + 1 → Stands (Some waiting) number at cut bytes → next ≡ at + 1 → is_dot (cut_line bytes) ≡ false → more_text.head ≡ waiting.head → ((text : List (List ℕ)) → IsTextOf waiting text → IsTextOf more_text (text ++ cut_line bytes ∷ [])) → (entries_of number (bytes ++ line_break ∷ []) ≡ []) × (kept_of number (bytes ++ line_break ∷ []) ≡ record { lines = number; bytes = all }) × Stands (Some more_text) number next next_cut all
+line_inside waiting more_text number at next cut next_cut bytes all is_all is_cut stands more dot same adds =
     let f = fits_some waiting number (whole_lines bytes) stands.fits in
     let whole : whole_lines (bytes ++ line_break ∷ []) ≡ f.0 ∷ (f.1 ++ cut_line bytes ∷ []) = whole_break bytes ∙ ap (λ ls. ls ++ cut_line bytes ∷ []) f.2 in
     let bytes_kept : broken (f.0 ∷ (f.1 ++ cut_line bytes ∷ [])) ≡ bytes ++ line_break ∷ [] = ap (λ ls. broken (ls ++ cut_line bytes ∷ [])) (sym f.2) ∙ all_broken bytes in
@@ -227,13 +252,13 @@ line_inside waiting more_text number at next cut bytes stands more dot same adds
       is_text = adds f.1 f.3.is_text;
     } in
     (entries_inside waiting number bytes f.0 f.1 f.2 f.3 ∙ rw dot refl,
-    kept_inside waiting number bytes f.0 f.1 f.2 f.3 ∙ rw dot (ap (λ b. record { lines = number; bytes = b }) bytes_kept),
-    record {
+    kept_inside waiting number bytes f.0 f.1 f.2 f.3 ∙ rw dot (ap (λ b. record { lines = number; bytes = b }) (bytes_kept ∙ sym is_all)),
+    rw (is_all, is_cut) (record {
       fits = rw whole waits;
       number = omega (arith, stands.number, more, ap length f.2, ap length whole, length-append f.1 (cut_line bytes ∷ []));
       rest = drop_all (length bytes + 1) (bytes ++ line_break ∷ []) (omega (arith, length-append bytes (line_break ∷ []))) ∙ sym (cut_break bytes);
       within = omega (arith, length-append bytes (line_break ∷ []));
-    })
+    }))
 
 -- ---- what is kept makes no entry whole, and is kept again
 

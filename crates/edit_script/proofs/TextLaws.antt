@@ -8,11 +8,11 @@ use Rattle.std.proofs.Math.Bool.{or-true}
 use Rattle.std.proofs.lemmas.Str.{IsUtf8-from_is_utf8, is_utf8-from_IsUtf8}
 use Rattle.text_buffer.specs.TextOfBytes.{most_chars}
 use Rattle.edit_script.specs.declared.commands.ScriptFault.{ScriptFault}
-use Rattle.edit_script.specs.declared.commands.ScriptFault.TheVariants.{BadUtf8, LongLine}
+use Rattle.edit_script.specs.declared.commands.ScriptFault.TheVariants.{BadCommand, BadAddress, UnfinishedText, BadUtf8, LongLine}
 use Rattle.edit_script.specs.declared.waiting.Waiting.{Waiting}
 use Rattle.edit_script.specs.CommandLine.{is_long, line_chars}
 use Rattle.edit_script.specs.Entries.{has_bad_line, has_long_line}
-use Rattle.edit_script.specs.Reading.{IsTextOf}
+use Rattle.edit_script.specs.Reading.{IsTextOf, with_fault}
 
 -- ---- a line
 
@@ -89,7 +89,7 @@ with_good_line waiting text line read lines is is_lines is_text =
           ∙ sym (map-append chars text (line ∷ []));
     }
 
-pub with_bad_line : (waiting : Waiting) (text : List (List ℕ)) (line : List ℕ) → line_chars line ≡ Err BadUtf8 → IsTextOf waiting text → IsTextOf (record waiting { has_bad_line = true }) (text ++ line ∷ [])
+with_bad_line : (waiting : Waiting) (text : List (List ℕ)) (line : List ℕ) → line_chars line ≡ Err BadUtf8 → IsTextOf waiting text → IsTextOf (record waiting { has_bad_line = true }) (text ++ line ∷ [])
 with_bad_line waiting text line is is_text =
     let good : is_utf8 line ≡ false = bad_tells (is_utf8 line) (is_long line) (chars line) is in
     let bad : has_bad_line (text ++ line ∷ []) ≡ true = bad_more text line ∙ ap (λ b. has_bad_line text || not b) good ∙ or-true (has_bad_line text) in
@@ -100,7 +100,7 @@ with_bad_line waiting text line is is_text =
       read = λ none_bad none_long. absurd (true_false (sym bad ∙ none_bad));
     }
 
-pub with_long_line : (waiting : Waiting) (text : List (List ℕ)) (line : List ℕ) (fault : ScriptFault) → line_chars line ≡ Err fault → (fault ≡ BadUtf8 → ⊥) → IsTextOf waiting text → IsTextOf (record waiting { has_long_line = true }) (text ++ line ∷ [])
+with_long_line : (waiting : Waiting) (text : List (List ℕ)) (line : List ℕ) (fault : ScriptFault) → line_chars line ≡ Err fault → (fault ≡ BadUtf8 → ⊥) → IsTextOf waiting text → IsTextOf (record waiting { has_long_line = true }) (text ++ line ∷ [])
 with_long_line waiting text line fault is other is_text =
     let t = long_tells (is_utf8 line) (is_long line) (chars line) fault is other in
     let bad : has_bad_line (text ++ line ∷ []) ≡ has_bad_line text = bad_more text line ∙ ap (λ b. has_bad_line text || not b) t.0 ∙ or_false (has_bad_line text) in
@@ -110,3 +110,10 @@ with_long_line waiting text line fault is other is_text =
       long = sym long;
       read = λ none_bad none_long. absurd (true_false (sym long ∙ none_long));
     }
+
+pub with_faulty_line : (waiting : Waiting) (text : List (List ℕ)) (line : List ℕ) (fault : ScriptFault) → line_chars line ≡ Err fault → IsTextOf waiting text → IsTextOf (with_fault waiting fault) (text ++ line ∷ [])
+with_faulty_line waiting text line BadUtf8 is is_text = with_bad_line waiting text line is is_text
+with_faulty_line waiting text line BadCommand is is_text = with_long_line waiting text line BadCommand is (λ same. absurd (cc)) is_text
+with_faulty_line waiting text line BadAddress is is_text = with_long_line waiting text line BadAddress is (λ same. absurd (cc)) is_text
+with_faulty_line waiting text line UnfinishedText is is_text = with_long_line waiting text line UnfinishedText is (λ same. absurd (cc)) is_text
+with_faulty_line waiting text line LongLine is is_text = with_long_line waiting text line LongLine is (λ same. absurd (cc)) is_text

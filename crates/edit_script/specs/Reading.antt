@@ -3,6 +3,7 @@ use Rattle.std.specs.Prelude.{ℕ, ◌≡◌, ◌≤◌, ◌+◌, Bool, true, fa
 use Rattle.std.specs.Str.{chars}
 use Rattle.edit_script.specs.declared.commands.Entry.{Entry}
 use Rattle.edit_script.specs.declared.commands.ScriptFault.{ScriptFault}
+use Rattle.edit_script.specs.declared.commands.ScriptFault.TheVariants.{BadUtf8}
 use Rattle.edit_script.specs.declared.head.Head.{Head}
 use Rattle.edit_script.specs.declared.waiting.Waiting.{Waiting}
 use Rattle.edit_script.specs.declared.reader.Meaning.{Meaning}
@@ -17,6 +18,11 @@ pub record IsTextOf (waiting : Waiting) (text : List (List ℕ)) : Type 0 where
   pub bad : waiting.has_bad_line ≡ has_bad_line text
   pub long : waiting.has_long_line ≡ has_long_line text
   pub read : has_bad_line text ≡ false → has_long_line text ≡ false → waiting.lines ≡ map chars text
+
+-- a line of the text that isn't UTF-8, or else one that is too long
+abbrev pub with_fault : Waiting → ScriptFault → Waiting
+with_fault waiting BadUtf8 = record waiting { has_bad_line = true }
+with_fault waiting fault = record waiting { has_long_line = true }
 
 -- the command with this line and text waits
 pub record Waits (waiting : Waiting) (number : ℕ) (line : List ℕ) (text : List (List ℕ)) : Type 0 where

@@ -142,13 +142,17 @@ fn add_text_line(
     }
     let added = waiting.add_line(alloc, &reader.bytes[reader.cut..end]);
     reader.waiting = Some(waiting);
-    if added.is_err() {
-        reader.bytes.truncate(end);
-        return Err(Memory);
+    match added {
+        Ok(()) => {
+            reader.cut = end + 1;
+            reader.at = next;
+            Ok(())
+        }
+        Err(refused) => {
+            reader.bytes.truncate(end);
+            Err(refused)
+        }
     }
-    reader.cut = end + 1;
-    reader.at = next;
-    Ok(())
 }
 
 /// The line break of the last line comes.

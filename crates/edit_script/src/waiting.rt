@@ -4,7 +4,7 @@ ghost use Rattle.std.specs.Str.{chars};
 ghost use Rattle.edit_script.specs.CommandLine as spec;
 ghost use Rattle.edit_script.specs.CommandLine.{line_head};
 ghost use Rattle.edit_script.specs.Entries.{entry, with_order};
-ghost use Rattle.edit_script.specs.Reading.{IsTextOf};
+ghost use Rattle.edit_script.specs.Reading.{IsTextOf, with_fault};
 
 use crate::head::{Head, Order, head_of};
 use crate::{EditCommand, Entry, ScriptFault};
@@ -89,6 +89,16 @@ fn with_order(order: Option<Order>, lines: List<Line>, ended: bool) -> Result<Ed
 }
 
 impl Waiting {
+    /// A line of the text has this fault.
+    fn add_fault(&mut self, fault: ScriptFault)
+        ensures { self.new ≡ with_fault self.old fault }
+    {
+        match fault {
+            ScriptFault::BadUtf8 => self.has_bad_line = true,
+            _ => self.has_long_line = true,
+        }
+    }
+
     /// One more line of the text comes. For want of memory it stays as it is.
     pub(crate) fn add_line(&mut self, alloc: Global, bytes: &[u8]) -> Result<(), Memory>
         ensures head { self.new.head ≡ self.old.head }
@@ -98,8 +108,7 @@ impl Waiting {
     {
         match line_chars(alloc, bytes)? {
             Ok(line) => self.lines.push(line)?,
-            Err(ScriptFault::BadUtf8) => self.has_bad_line = true,
-            Err(_) => self.has_long_line = true,
+            Err(fault) => self.add_fault(fault),
         }
         Ok(())
     }
