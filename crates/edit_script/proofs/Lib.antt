@@ -3,3 +3,4 @@ pub mod PieceLaws
 pub mod StandingLaws
 pub mod ReaderLaws
 pub mod TextLaws
+pub mod FeedLaws

@@ -225,6 +225,12 @@ dot_inside waiting number at next cut bytes e stands more dot makes =
     (entries_inside waiting number bytes f.0 f.1 f.2 f.3 ∙ rw dot (ap (λ x. x ∷ []) (sym made)),
     kept_inside waiting number bytes f.0 f.1 f.2 f.3 ∙ rw dot (ap (λ n. record { lines = n; bytes = [] }) count))
 
+-- a line of a text makes no entry whole
+pub silent_inside : (waiting : Waiting) (number at cut : ℕ) (bytes : List ℕ) → Stands (Some waiting) number at cut bytes → is_dot (cut_line bytes) ≡ false → entries_of number (bytes ++ line_break ∷ []) ≡ []
+silent_inside waiting number at cut bytes stands dot =
+    let f = fits_some waiting number (whole_lines bytes) stands.fits in
+    entries_inside waiting number bytes f.0 f.1 f.2 f.3 ∙ rw dot refl
+
 broken_more : (lines : List (List ℕ)) (line : List ℕ) → broken (lines ++ line ∷ []) ≡ broken lines ++ (line ++ line_break ∷ [])
 broken_more [] line = refl
 broken_more (first ∷ lines) line =
@@ -239,7 +245,7 @@ all_broken bytes =
     ∙ ap (λ b. b ++ line_break ∷ []) (joined bytes)
 
 -- a line of a text, which isn't its dot
-pub line_inside : (waiting more_text : Waiting) (number at next cut next_cut : ℕ) (bytes all : List ℕ) → all ≡ bytes ++ line_break ∷ [] → next_cut ≡ length bytes + 1 → Stands (Some waiting) number at cut bytes → next ≡ at + 1 → is_dot (cut_line bytes) ≡ false → more_text.head ≡ waiting.head → ((text : List (List ℕ)) → IsTextOf waiting text → IsTextOf more_text (text ++ cut_line bytes ∷ [])) → (entries_of number (bytes ++ line_break ∷ []) ≡ []) × (kept_of number (bytes ++ line_break ∷ []) ≡ record { lines = number; bytes = all }) × Stands (Some more_text) number next next_cut all
+pub line_inside : (waiting more_text : Waiting) (number at next cut next_cut : ℕ) (bytes all : List ℕ) → all ≡ bytes ++ line_break ∷ [] → next_cut ≡ length bytes + 1 → Stands (Some waiting) number at cut bytes → next ≡ at + 1 → is_dot (cut_line bytes) ≡ false → more_text.head ≡ waiting.head → ((text : List (List ℕ)) → IsTextOf waiting text → IsTextOf more_text (text ++ cut_line bytes ∷ [])) → (kept_of number (bytes ++ line_break ∷ []) ≡ record { lines = number; bytes = all }) × Stands (Some more_text) number next next_cut all
 line_inside waiting more_text number at next cut next_cut bytes all is_all is_cut stands more dot same adds =
     let f = fits_some waiting number (whole_lines bytes) stands.fits in
     let whole : whole_lines (bytes ++ line_break ∷ []) ≡ f.0 ∷ (f.1 ++ cut_line bytes ∷ []) = whole_break bytes ∙ ap (λ ls. ls ++ cut_line bytes ∷ []) f.2 in
@@ -251,8 +257,7 @@ line_inside waiting more_text number at next cut next_cut bytes all is_all is_cu
       silent = entries_further number f.0 f.1 (cut_line bytes) dot f.3.stands f.3.silent;
       is_text = adds f.1 f.3.is_text;
     } in
-    (entries_inside waiting number bytes f.0 f.1 f.2 f.3 ∙ rw dot refl,
-    kept_inside waiting number bytes f.0 f.1 f.2 f.3 ∙ rw dot (ap (λ b. record { lines = number; bytes = b }) (bytes_kept ∙ sym is_all)),
+    (kept_inside waiting number bytes f.0 f.1 f.2 f.3 ∙ rw dot (ap (λ b. record { lines = number; bytes = b }) (bytes_kept ∙ sym is_all)),
     rw (is_all, is_cut) (record {
       fits = rw whole waits;
       number = omega (arith, stands.number, more, ap length f.2, ap length whole, length-append f.1 (cut_line bytes ∷ []));

@@ -126,7 +126,7 @@ entries_two number bytes more =
     ∙ entries_append (Between number) (whole_lines bytes) (whole_lines (cut_line bytes ++ more))
     ∙ ap (λ es. entries_of number bytes ++ es) (sym kept)
 
-standing_of_kept : (number : ℕ) (bytes more : List ℕ) → standing_in (kept_of number bytes).lines ((kept_of number bytes).bytes ++ more) ≡ standing_in number (bytes ++ more)
+pub standing_of_kept : (number : ℕ) (bytes more : List ℕ) → standing_in (kept_of number bytes).lines ((kept_of number bytes).bytes ++ more) ≡ standing_in number (bytes ++ more)
 standing_of_kept number bytes more =
     let s = standing_in number bytes in
     ap (λ b. standing_in (lines_before s) b) (append_assoc (broken (lines_kept s)) (cut_line bytes) more)
@@ -151,7 +151,7 @@ kept_two number bytes more =
 -- ---- the script's end
 
 -- the entries that come where a script ends behind these bytes of its last line
-abbrev last_entries : Standing → List ℕ → List Entry
+abbrev pub last_entries : Standing → List ℕ → List Entry
 last_entries s [] = unfinished s
 last_entries s (byte ∷ cut) = made_whole s (byte ∷ cut) ++ unfinished (behind s (byte ∷ cut))
 
@@ -165,7 +165,7 @@ one_more number whole cut =
     ∙ append_assoc (entries_from (Between number) whole) (made_whole s cut) (unfinished (behind s cut))
 
 -- a script that ends behind a line break, or in a line
-end_at : (number : ℕ) (bytes cut : List ℕ) → cut_line bytes ≡ cut → entries_at_end number bytes ≡ entries_of number bytes ++ last_entries (standing_in number bytes) cut
+pub end_at : (number : ℕ) (bytes cut : List ℕ) → cut_line bytes ≡ cut → entries_at_end number bytes ≡ entries_of number bytes ++ last_entries (standing_in number bytes) cut
 end_at number bytes [] cut =
     elim (end_empty bytes cut) [ inl e ↦ rw (e.0, e.1, empty_begins_none) refl | inr e ↦ rw e refl ]
 end_at number bytes (byte ∷ rest) cut =

@@ -2,7 +2,7 @@
 ghost use Rattle.std.specs.Prelude.{◌≡◌, ◌+◌, ◌++◌, ◌∷◌, [], IfOk, OnOk, OnErr, Some, None, false};
 ghost use Rattle.text_buffer.specs.TextOfBytes.{line_break, pieces_of};
 ghost use Rattle.edit_script.specs.Entries as spec;
-ghost use Rattle.edit_script.specs.Entries.{cut_line, entries_of, kept_of, standing_in, unfinished};
+ghost use Rattle.edit_script.specs.Entries.{cut_line, entries_at_end, entries_of, kept_of, standing_in, unfinished};
 ghost use Rattle.edit_script.specs.Reading.{IsReading, meaning_of, seen};
 
 use crate::head::Head;
@@ -180,6 +180,24 @@ pub(crate) fn end_line(
     let entry = waiting.into_entry(reader.lines, true);
     go_on_at(reader, next);
     entries.push(entry)
+}
+
+/// The script ends, and what stands in its last line is a line.
+pub(crate) fn end_last_line(
+    alloc: Global,
+    reader: &mut Reader,
+    entries: &mut List<Entry>,
+) -> Result<(), Memory>
+    requires reading { IsReading reader.old }
+    ensures reading { IsReading reader.new }
+    ensures ends { OnOk result (entries.new
+        ++ unfinished (standing_in reader.new.lines reader.new.bytes.items)
+        ≡ entries.old ++ entries_at_end reader.old.lines reader.old.bytes.items) }
+{
+    if reader.cut < reader.bytes.len() {
+        return end_line(alloc, reader, entries);
+    }
+    Ok(())
 }
 
 /// The script ends, and the text that waits lacks its dot.

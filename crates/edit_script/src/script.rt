@@ -3,7 +3,7 @@ ghost use Rattle.std.specs.Prelude.{◌≡◌, ◌++◌, [], IfOk, List, ℕ};
 ghost use Rattle.edit_script.specs.Entries.{entries_of, entries_at_end, kept_of};
 
 use crate::Entry;
-use crate::reader::{Reader, end_line, extend, push_unfinished};
+use crate::reader::{Reader, end_last_line, end_line, extend, push_unfinished};
 use memchr::memchr;
 use std::alloc::Global;
 use std::marker::Model;
@@ -81,9 +81,7 @@ impl Script {
     {
         let Script { alloc, mut reader } = self;
         let mut entries = List::new(alloc);
-        if reader.cut < reader.bytes.len() {
-            end_line(alloc, &mut reader, &mut entries)?;
-        }
+        end_last_line(alloc, &mut reader, &mut entries)?;
         push_unfinished(reader, &mut entries)?;
         Ok(entries)
     }

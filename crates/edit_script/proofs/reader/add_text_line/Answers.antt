@@ -16,7 +16,7 @@ returns-in-Ok-clause-reading c =
     let line = cut_slice_broken r.bytes.items c.deref.result.now r.cut c.len-end.result (c.deref.ensures.value ∙ all) end c.requires.reading.within c.requires.reading.rest in
     let adds : (text : List (List ℕ)) → IsTextOf c.args.waiting text → IsTextOf c.add_line-added.new.self (text ++ cut_line r.bytes.items ∷ []) =
         λ text is_text. rw (← line) (c.in-Ok.ensures.more text is_text) in
-    (line_inside c.args.waiting c.add_line-added.new.self r.lines r.at c.args.next r.cut (c.len-end.result + 1) r.bytes.items c.push.new.self.items all next c.requires.reading c.requires.next c.requires.further c.add_line-added.ensures.head adds).2
+    (line_inside c.args.waiting c.add_line-added.new.self r.lines r.at c.args.next r.cut (c.len-end.result + 1) r.bytes.items c.push.new.self.items all next c.requires.reading c.requires.next c.requires.further c.add_line-added.ensures.head adds).1
 
 pub returns-in-Ok-clause-kept : goal.returns-in-Ok-clause-kept
 returns-in-Ok-clause-kept c =
@@ -27,4 +27,4 @@ returns-in-Ok-clause-kept c =
     let line = cut_slice_broken r.bytes.items c.deref.result.now r.cut c.len-end.result (c.deref.ensures.value ∙ all) end c.requires.reading.within c.requires.reading.rest in
     let adds : (text : List (List ℕ)) → IsTextOf c.args.waiting text → IsTextOf c.add_line-added.new.self (text ++ cut_line r.bytes.items ∷ []) =
         λ text is_text. rw (← line) (c.in-Ok.ensures.more text is_text) in
-    sym (line_inside c.args.waiting c.add_line-added.new.self r.lines r.at c.args.next r.cut (c.len-end.result + 1) r.bytes.items c.push.new.self.items all next c.requires.reading c.requires.next c.requires.further c.add_line-added.ensures.head adds).1
+    sym (line_inside c.args.waiting c.add_line-added.new.self r.lines r.at c.args.next r.cut (c.len-end.result + 1) r.bytes.items c.push.new.self.items all next c.requires.reading c.requires.next c.requires.further c.add_line-added.ensures.head adds).0
