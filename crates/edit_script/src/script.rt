@@ -1,0 +1,88 @@
+//! Scripts in pieces.
+ghost use Rattle.std.specs.Prelude.{◌≡◌, ◌++◌, [], IfOk, List, ℕ};
+ghost use Rattle.edit_script.specs.Entries.{entries_of, entries_at_end, kept_of};
+
+use crate::Entry;
+use crate::reader::{Reader, end_last_line, end_line, extend, push_unfinished};
+use memchr::memchr;
+use std::alloc::Global;
+use std::marker::Model;
+use syn_base::{List, Memory};
+use text_buffer::LINE_BREAK;
+
+/// A script that is being read. What is seen of it is the number of lines that were answered or
+/// skipped, and the bytes behind them.
+#[derive(Drop)]
+pub struct Script {
+    alloc: Global,
+    reader: Reader,
+}
+
+impl Model for Script {
+    ghost use Rattle.edit_script.specs.Kept.{Kept};
+
+    ghost Value = { Kept };
+
+    ghost use Rattle.edit_script.specs.Reading.{IsReading, seen};
+
+    ghost view = { λ s. seen s.reader };
+
+    ghost invariant = { λ s. IsReading s.reader };
+}
+
+impl Script {
+    /// A script of which nothing was read. It takes no memory.
+    pub fn new(alloc: Global) -> Script
+        ensures { result ≡ record { lines = 0; bytes = [] } }
+    {
+        Script {
+            alloc,
+            reader: Reader {
+                lines: 0,
+                at: 0,
+                bytes: Vec::new(alloc),
+                cut: 0,
+                waiting: None,
+            },
+        }
+    }
+
+    /// The entries that become whole with this piece: those whose last line is whole, with its line
+    /// break, in what is kept followed by the piece. A command whose text has no dot yet waits. Lines
+    /// are counted from 0.
+    pub fn feed(&mut self, piece: &[u8]) -> Result<List<Entry>, Memory>
+        ensures entries { IfOk result (λ entries.
+            entries ≡ entries_of self.old.lines (self.old.bytes ++ piece.now)) }
+        ensures kept { IfOk result (λ _.
+            self.new ≡ kept_of self.old.lines (self.old.bytes ++ piece.now)) }
+        // However the bytes before were cut.
+        ensures further { IfOk result (λ entries. (before : List ℕ) → self.old ≡ kept_of 0 before →
+            entries_of 0 (before ++ piece.now) ≡ entries_of 0 before ++ entries) }
+        ensures behind { IfOk result (λ _. (before : List ℕ) → self.old ≡ kept_of 0 before →
+            self.new ≡ kept_of 0 (before ++ piece.now)) }
+    {
+        let mut entries = List::new(self.alloc);
+        let mut rest = piece;
+        while let Some(end) = memchr(LINE_BREAK, rest) {
+            extend(&mut self.reader, &rest[..end])?;
+            end_line(self.alloc, &mut self.reader, &mut entries)?;
+            rest = &rest[end + 1..];
+        }
+        extend(&mut self.reader, rest)?;
+        Ok(entries)
+    }
+
+    /// The entries of what is kept, where the script ends behind it.
+    pub fn finish(self) -> Result<List<Entry>, Memory>
+        ensures entries { IfOk result (λ entries. entries ≡ entries_at_end self.lines self.bytes) }
+        // However the bytes before were cut.
+        ensures further { IfOk result (λ entries. (before : List ℕ) → self ≡ kept_of 0 before →
+            entries_at_end 0 before ≡ entries_of 0 before ++ entries) }
+    {
+        let Script { alloc, mut reader } = self;
+        let mut entries = List::new(alloc);
+        end_last_line(alloc, &mut reader, &mut entries)?;
+        push_unfinished(reader, &mut entries)?;
+        Ok(entries)
+    }
+}
