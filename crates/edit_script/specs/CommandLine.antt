@@ -1,0 +1,89 @@
+-- The line of a command: `H`, or a range, the letter of a verb and for `m` and `t` one address more, with
+-- nothing behind. Before `a` and `i` stands one address. The form is asked for first, with addresses of
+-- any number of digits.
+use Rattle.std.specs.Prelude.{ℕ, ◌==◌, nat_lt, not, Bool, true, false, List, [], ◌∷◌, length, codes, Option, Some, None, Result, Ok, Err, option_map, if◌then◌else◌}
+use Rattle.std.specs.Str.{bytes_eq, chars, is_utf8}
+use Rattle.text_buffer.specs.TextOfBytes.{most_chars}
+use Rattle.edit_script.specs.declared.commands.Last.{Last}
+use Rattle.edit_script.specs.declared.commands.Last.TheVariants.{Number, End}
+use Rattle.edit_script.specs.declared.commands.Verb.{Verb}
+pub use Rattle.edit_script.specs.declared.commands.Verb.TheVariants as does
+use Rattle.edit_script.specs.declared.commands.ScriptFault.{ScriptFault}
+use Rattle.edit_script.specs.declared.commands.ScriptFault.TheVariants.{BadCommand, BadUtf8, LongLine}
+use Rattle.edit_script.specs.declared.addresses.Range.{Range}
+use Rattle.edit_script.specs.declared.head.Head.{Head}
+use Rattle.edit_script.specs.declared.head.Order.{Order}
+use Rattle.edit_script.specs.Addresses.{address_at, range_at}
+
+-- a command beside its text, if each address names a line
+abbrev pub order_of : Option Last → Option Last → Option Verb → Option Order
+order_of None last verb = None
+order_of (Some first) None verb = None
+order_of (Some first) (Some last) None = None
+order_of (Some first) (Some last) (Some verb) = Some (record { first = first; last = last; verb = verb })
+
+-- a verb at the end of the line
+abbrev pub ended : Range → Bool → Verb → List ℕ → Option Head
+ended range takes_text verb [] = Some (record { takes_text = takes_text; order = order_of range.first range.last (Some verb) })
+ended range takes_text verb (c ∷ cs) = None
+
+-- a verb that takes one address
+abbrev pub ended_single : Range → Verb → List ℕ → Option Head
+ended_single range verb rest = if range.single then ended range true verb rest else None
+
+-- an address at the end of the line
+abbrev pub last_address : Option (Option Last × List ℕ) → Option (Option Last)
+last_address None = None
+last_address (Some (line, [])) = Some line
+last_address (Some (line, c ∷ cs)) = None
+
+abbrev pub destination : List ℕ → Option (Option Last)
+destination text = last_address (address_at text)
+
+-- a verb with its destination
+abbrev pub at_destination : Range → (Last → Verb) → Option (Option Last) → Option Head
+at_destination range verb None = None
+at_destination range verb (Some line) = Some (record { takes_text = false; order = order_of range.first range.last (option_map verb line) })
+
+-- the letters, of which 97 is `a`
+abbrev pub verb_behind : Range → List ℕ → Option Head
+verb_behind range [] = None
+verb_behind range (c ∷ cs) =
+    if c == 97 then ended_single range does.Append cs
+    else if c == 105 then ended_single range does.Insert cs
+    else if c == 99 then ended range true does.Change cs
+    else if c == 100 then ended range false does.Delete cs
+    else if c == 112 then ended range false does.Print cs
+    else if c == 109 then at_destination range does.Move (destination cs)
+    else if c == 116 then at_destination range does.CopyTo (destination cs)
+    else None
+
+abbrev pub with_range : Option (Range × List ℕ) → Option Head
+with_range None = None
+with_range (Some found) = verb_behind found.0 found.1
+
+-- `H` has the last line as its range
+abbrev pub page_head : Head
+page_head = record { takes_text = false; order = order_of (Some End) (Some End) (Some does.Page) }
+
+-- what the characters of a line say, if they are the line of a command
+abbrev pub head_of : List ℕ → Option Head
+head_of text = if bytes_eq text (codes "H") then Some page_head else with_range (range_at text)
+
+abbrev pub head_or_bad : Option Head → Result Head ScriptFault
+head_or_bad None = Err BadCommand
+head_or_bad (Some head) = Ok head
+
+abbrev pub is_long : List ℕ → Bool
+is_long bytes = nat_lt most_chars (length (chars bytes))
+
+-- what the bytes of a line say
+abbrev pub line_head : List ℕ → Result Head ScriptFault
+line_head bytes =
+    if not (is_utf8 bytes) then Err BadUtf8
+    else if is_long bytes then Err LongLine
+    else head_or_bad (head_of (chars bytes))
+
+abbrev pub takes_text : Result Head ScriptFault → Bool
+takes_text (Ok head) = head.takes_text
+takes_text (Err fault) = false

@@ -1,0 +1,2 @@
+-- Reading in the middle of a script.
+use Rattle.std.specs.Prelude.{ℕ}

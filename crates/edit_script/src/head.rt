@@ -1,0 +1,120 @@
+//! The line of a command.
+ghost use Rattle.std.specs.Prelude.{◌≡◌, Some, None, MatchOption};
+ghost use Rattle.edit_script.specs.CommandLine as spec;
+
+use crate::addresses::{Range, address_at, range_at};
+use crate::{Last, Verb};
+use text_scan::front;
+
+/// A command beside its text.
+#[derive(Drop)]
+pub(crate) struct Order {
+    pub first: Last,
+    pub last: Last,
+    pub verb: Verb,
+}
+
+/// What the line of a command says.
+#[derive(Drop)]
+pub(crate) struct Head {
+    /// Whether lines of text follow, up to a dot.
+    pub takes_text: bool,
+    /// Nothing where an address has too many digits.
+    pub order: Option<Order>,
+}
+
+fn order_of(first: Option<Last>, last: Option<Last>, verb: Option<Verb>) -> Option<Order>
+    ensures { result ≡ spec.order_of first last verb }
+{
+    let first = first?;
+    let last = last?;
+    let verb = verb?;
+    Some(Order { first, last, verb })
+}
+
+fn ended(range: Range, takes_text: bool, verb: Verb, rest: &[char]) -> Option<Head>
+    ensures { result ≡ spec.ended range takes_text verb rest.now }
+{
+    if !rest.is_empty() {
+        return None;
+    }
+    let order = order_of(range.first, range.last, Some(verb));
+    Some(Head { takes_text, order })
+}
+
+fn ended_single(range: Range, verb: Verb, rest: &[char]) -> Option<Head>
+    ensures { result ≡ spec.ended_single range verb rest.now }
+{
+    if !range.single {
+        return None;
+    }
+    ended(range, true, verb, rest)
+}
+
+/// The destination at the end of the line, and nothing else behind it.
+fn destination(text: &[char]) -> Option<Option<Last>>
+    ensures { result ≡ spec.destination text.now }
+{
+    let (line, rest) = address_at(text)?;
+    if rest.is_empty() { Some(line) } else { None }
+}
+
+fn moved(range: Range, text: &[char]) -> Option<Head>
+    ensures { result ≡ spec.at_destination range spec.does.Move (spec.destination text.now) }
+{
+    let verb = match destination(text)? {
+        Some(line) => Some(Verb::Move(line)),
+        None => None,
+    };
+    let order = order_of(range.first, range.last, verb);
+    Some(Head {
+        takes_text: false,
+        order,
+    })
+}
+
+fn copied(range: Range, text: &[char]) -> Option<Head>
+    ensures { result ≡ spec.at_destination range spec.does.CopyTo (spec.destination text.now) }
+{
+    let verb = match destination(text)? {
+        Some(line) => Some(Verb::CopyTo(line)),
+        None => None,
+    };
+    let order = order_of(range.first, range.last, verb);
+    Some(Head {
+        takes_text: false,
+        order,
+    })
+}
+
+/// The verb behind a range, up to the end of the line.
+fn verb_behind(range: Range, text: &[char]) -> Option<Head>
+    ensures { result ≡ spec.verb_behind range text.now }
+{
+    let (c, rest) = front(text)?;
+    match c {
+        'a' => ended_single(range, Verb::Append, rest),
+        'i' => ended_single(range, Verb::Insert, rest),
+        'c' => ended(range, true, Verb::Change, rest),
+        'd' => ended(range, false, Verb::Delete, rest),
+        'p' => ended(range, false, Verb::Print, rest),
+        'm' => moved(range, rest),
+        't' => copied(range, rest),
+        _ => None,
+    }
+}
+
+/// What the characters of a line say, if they are the line of a command.
+pub(crate) fn head_of(text: &[char]) -> Option<Head>
+    ensures { result ≡ spec.head_of text.now }
+{
+    if let ['H'] = text {
+        let order = order_of(Some(Last::End), Some(Last::End), Some(Verb::Page));
+        return Some(Head {
+            takes_text: false,
+            order,
+        });
+    }
+    let (range, rest) = range_at(text)?;
+    verb_behind(range, rest)
+}

@@ -1,0 +1,16 @@
+//! Scripts of line edits: bytes to commands, and what a command does to a text.
+//!
+//! A script comes in pieces of any size. What was read of it is seen as a number of lines, which
+//! are done with, and the bytes behind them; so what the pieces give together depends on the bytes
+//! alone. Inside, the lines of a text that waits for its dot are decoded already.
+#![tactic(auto)]
+
+mod addresses;
+mod commands;
+mod head;
+mod resolving;
+mod script;
+
+pub use commands::{EditCommand, Entry, Last, ResolveError, Resolved, ScriptFault, Verb};
+pub use resolving::resolve;
+pub use script::Script;
