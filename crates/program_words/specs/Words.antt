@@ -7,7 +7,9 @@ use Rattle.std.specs.List.{list_all, prefix_len, starts_with, take_while}
 use Rattle.std.specs.Str.{bytes_eq}
 use Rattle.std.specs.String.{string_bytes}
 use Rattle.program_words.specs.declared.words.Asked.{Asked}
-use Rattle.program_words.specs.declared.words.Asked.TheVariants.{Check, Edit, Html, Large, Spans}
+use Rattle.program_words.specs.declared.words.Asked.TheVariants.{Edit, Large, Print}
+use Rattle.program_words.specs.declared.words.Printing.{Printing}
+use Rattle.program_words.specs.declared.words.Printing.TheVariants.{Check, Html, Spans}
 use Rattle.program_words.specs.Given.{CheckWords, LargeWords, Options, PageWords, PaintWords, no_options}
 
 -- the bytes of the words
@@ -218,15 +220,20 @@ large_of (Some options) None = None
 large_of (Some options) (Some names) =
     if are_for_large options then large_words options (seed_of names.0) (lines_of names.1) else None
 
--- what the words ask, if they are in the table of words
-abbrev pub asked_with : List ℕ → Option Options → Option (List (List ℕ)) → Option Asked
-asked_with command options names =
+-- what a command asks that prints at once
+abbrev pub printing_with : List ℕ → Option Options → Option (List (List ℕ)) → Option Printing
+printing_with command options names =
     if bytes_eq command (codes "check") then option_map Check (check_of options (one_name names))
     else if bytes_eq command (codes "spans") then option_map Spans (spans_of options (two_names names))
     else if bytes_eq command (codes "html") then option_map Html (html_of options (two_names names))
-    else if bytes_eq command (codes "edit") then option_map Edit (html_of options (two_names names))
-    else if bytes_eq command (codes "large") then option_map Large (large_of options (two_names names))
     else None
+
+-- what the words ask, if they are in the table of words
+abbrev pub asked_with : List ℕ → Option Options → Option (List (List ℕ)) → Option Asked
+asked_with command options names =
+    if bytes_eq command (codes "edit") then option_map Edit (html_of options (two_names names))
+    else if bytes_eq command (codes "large") then option_map Large (large_of options (two_names names))
+    else option_map Print (printing_with command options names)
 
 abbrev pub asked_of : List (List ℕ) → Option Asked
 asked_of [] = None

@@ -2,7 +2,7 @@
 ghost use Rattle.std.specs.Prelude.{◌≡◌, ◌≤◌, None, Some, MatchOption};
 ghost use Rattle.std.specs.List.{list_all};
 ghost use Rattle.std.specs.String.{string_bytes};
-ghost use Rattle.program_words.specs.Words.{asked_of, check_of, has_dash, html_of, is_dashes, large_of, large_words, is_full, is_name, lines_of, names_in, one_name, options_said, paint_words, seed_of, spans_of, syntax_words, texts_of, two_names};
+ghost use Rattle.program_words.specs.Words.{asked_of, check_of, has_dash, html_of, is_dashes, large_of, large_words, is_full, is_name, lines_of, names_in, one_name, options_said, paint_words, printing_with, seed_of, spans_of, syntax_words, texts_of, two_names};
 ghost use Rattle.std.specs.Prelude.{option_map};
 
 use crate::options::{Options, lines_of, seed_of, split_options};
@@ -17,11 +17,17 @@ const USUAL_BUDGET: u64 = 1_000_000;
 /// What the words ask.
 #[derive(Drop)]
 pub enum Asked<'a> {
+    Print(Printing<'a>),
+    Edit(PageWords<'a>),
+    Large(LargeWords),
+}
+
+/// What is read from files and printed at once.
+#[derive(Drop)]
+pub enum Printing<'a> {
     Check(CheckWords<'a>),
     Spans(PaintWords<'a>),
     Html(PageWords<'a>),
-    Edit(PageWords<'a>),
-    Large(LargeWords),
 }
 
 /// Which syntax is read: the name of its file, the folder in which included files are looked for (`.`
@@ -110,20 +116,29 @@ impl<'a> Asked<'a> {
             return None;
         };
         let (front, rest) = split_options(behind);
-        if command.as_str() == "check" {
-            return Some(Asked::Check(CheckWords::read(front, rest)?));
-        }
-        if command.as_str() == "spans" {
-            return Some(Asked::Spans(PaintWords::read(front, rest)?));
-        }
-        if command.as_str() == "html" {
-            return Some(Asked::Html(PageWords::read(front, rest)?));
-        }
         if command.as_str() == "edit" {
             return Some(Asked::Edit(PageWords::read(front, rest)?));
         }
         if command.as_str() == "large" {
             return Some(Asked::Large(LargeWords::read(front, rest)?));
+        }
+        Some(Asked::Print(Printing::read(command.as_str(), front, rest)?))
+    }
+}
+
+impl<'a> Printing<'a> {
+    /// What this command with these words behind it asks.
+    fn read(command: &str, front: &'a [String], rest: &'a [String]) -> Option<Printing<'a>>
+        ensures { result ≡ printing_with command.now (options_said (texts_of front.now)) (names_in (texts_of rest.now)) }
+    {
+        if command == "check" {
+            return Some(Printing::Check(CheckWords::read(front, rest)?));
+        }
+        if command == "spans" {
+            return Some(Printing::Spans(PaintWords::read(front, rest)?));
+        }
+        if command == "html" {
+            return Some(Printing::Html(PageWords::read(front, rest)?));
         }
         None
     }
