@@ -1,1 +1,6 @@
-
+pub mod NumberLaws
+pub mod PieceLaws
+pub mod StandingLaws
+pub mod ReaderLaws
+pub mod TextLaws
+pub mod FeedLaws

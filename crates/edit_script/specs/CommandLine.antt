@@ -77,12 +77,20 @@ head_or_bad (Some head) = Ok head
 abbrev pub is_long : List ℕ → Bool
 is_long bytes = nat_lt most_chars (length (chars bytes))
 
--- what the bytes of a line say
-abbrev pub line_head : List ℕ → Result Head ScriptFault
-line_head bytes =
+-- the characters of a line, or what is wrong with it
+abbrev pub line_chars : List ℕ → Result (List ℕ) ScriptFault
+line_chars bytes =
     if not (is_utf8 bytes) then Err BadUtf8
     else if is_long bytes then Err LongLine
-    else head_or_bad (head_of (chars bytes))
+    else Ok (chars bytes)
+
+abbrev pub with_chars : Result (List ℕ) ScriptFault → Result Head ScriptFault
+with_chars (Err fault) = Err fault
+with_chars (Ok text) = head_or_bad (head_of text)
+
+-- what the bytes of a line say
+abbrev pub line_head : List ℕ → Result Head ScriptFault
+line_head bytes = with_chars (line_chars bytes)
 
 abbrev pub takes_text : Result Head ScriptFault → Bool
 takes_text (Ok head) = head.takes_text

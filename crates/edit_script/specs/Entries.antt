@@ -120,6 +120,10 @@ abbrev pub lines_kept : Standing → List (List ℕ)
 lines_kept (Between number) = []
 lines_kept (InText number line text) = line ∷ text
 
+-- where a script stands behind the whole lines of bytes that follow so many lines
+abbrev pub standing_in : ℕ → List ℕ → Standing
+standing_in number bytes = standing_behind (Between number) (whole_lines bytes)
+
 -- the entries whose last line is whole, with its line break, in bytes that follow so many lines
 abbrev pub entries_of : ℕ → List ℕ → List Entry
 entries_of number bytes = entries_from (Between number) (whole_lines bytes)
@@ -127,7 +131,7 @@ entries_of number bytes = entries_from (Between number) (whole_lines bytes)
 -- what is kept behind these entries
 abbrev pub kept_of : ℕ → List ℕ → Kept
 kept_of number bytes =
-    let standing = standing_behind (Between number) (whole_lines bytes) in
+    let standing = standing_in number bytes in
     record { lines = lines_before standing; bytes = broken (lines_kept standing) ++ cut_line bytes }
 
 -- all entries of the bytes, where the script ends behind them

@@ -1,6 +1,6 @@
 //! Addresses and ranges at the front of a command's line.
-ghost use Rattle.std.specs.Prelude.{◌≡◌, ◌≤◌, Some, None, MatchOption, length};
-ghost use Rattle.std.specs.List.{prefix_len};
+ghost use Rattle.std.specs.Prelude.{◌≡◌, ◌≤◌, Some, None, MatchOption, length, true};
+ghost use Rattle.std.specs.List.{list_all, prefix_len};
 ghost use Rattle.text_scan.specs.Characters as scan;
 ghost use Rattle.edit_script.specs.Addresses as spec;
 
@@ -29,6 +29,7 @@ fn digit_count(text: &[char]) -> usize
 
 /// The number of these digits.
 fn number_of(digits: &[char]) -> u64
+    requires digits { list_all scan.is_digit digits.now ≡ true }
     requires few { length digits.now ≤ spec.most_digits }
     ensures { result ≡ spec.number_behind 0 digits.now }
 {
@@ -40,6 +41,7 @@ fn number_of(digits: &[char]) -> u64
 }
 
 fn line_of(digits: &[char]) -> Option<Last>
+    requires { list_all scan.is_digit digits.now ≡ true }
     ensures { result ≡ spec.line_of digits.now }
 {
     if digits.len() <= MOST_DIGITS {

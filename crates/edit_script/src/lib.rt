@@ -8,8 +8,10 @@
 mod addresses;
 mod commands;
 mod head;
+mod reader;
 mod resolving;
 mod script;
+mod waiting;
 
 pub use commands::{EditCommand, Entry, Last, ResolveError, Resolved, ScriptFault, Verb};
 pub use resolving::resolve;

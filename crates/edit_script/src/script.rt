@@ -1,36 +1,21 @@
-//! Bytes to entries.
+//! Scripts in pieces.
 ghost use Rattle.std.specs.Prelude.{◌≡◌, ◌++◌, [], IfOk, List, ℕ};
-ghost use Rattle.edit_script.specs.declared.commands.Entry.{Entry};
 ghost use Rattle.edit_script.specs.Entries.{entries_of, entries_at_end, kept_of};
 
 use crate::Entry;
-use crate::head::Head;
+use crate::reader::{Reader, end_last_line, end_line, extend, push_unfinished};
 use memchr::memchr;
 use std::alloc::Global;
 use std::marker::Model;
 use syn_base::{List, Memory};
-use text_buffer::{LINE_BREAK, Line};
-
-/// The command whose text hasn't its dot yet, with the lines so far.
-#[derive(Drop)]
-struct Waiting {
-    head: Head,
-    /// The lines of the text, as long as each of them is well.
-    lines: List<Line>,
-    has_bad_line: bool,
-    has_long_line: bool,
-}
+use text_buffer::LINE_BREAK;
 
 /// A script that is being read. What is seen of it is the number of lines that were answered or
 /// skipped, and the bytes behind them.
 #[derive(Drop)]
 pub struct Script {
     alloc: Global,
-    lines: usize,
-    bytes: Vec<u8>,
-    /// Where the line begins that has no line break yet.
-    cut: usize,
-    waiting: Option<Waiting>,
+    reader: Reader,
 }
 
 impl Model for Script {
@@ -38,7 +23,11 @@ impl Model for Script {
 
     ghost Value = { Kept };
 
-    ghost view = { λ s. record { lines = s.lines; bytes = s.bytes.items } };
+    ghost use Rattle.edit_script.specs.Reading.{IsReading, seen};
+
+    ghost view = { λ s. seen s.reader };
+
+    ghost invariant = { λ s. IsReading s.reader };
 }
 
 impl Script {
@@ -48,10 +37,13 @@ impl Script {
     {
         Script {
             alloc,
-            lines: 0,
-            bytes: Vec::new(alloc),
-            cut: 0,
-            waiting: None,
+            reader: Reader {
+                lines: 0,
+                at: 0,
+                bytes: Vec::new(alloc),
+                cut: 0,
+                waiting: None,
+            },
         }
     }
 
@@ -69,7 +61,15 @@ impl Script {
         ensures behind { IfOk result (λ _. (before : List ℕ) → self.old ≡ kept_of 0 before →
             self.new ≡ kept_of 0 (before ++ piece.now)) }
     {
-        Err(Memory)
+        let mut entries = List::new(self.alloc);
+        let mut rest = piece;
+        while let Some(end) = memchr(LINE_BREAK, rest) {
+            extend(&mut self.reader, &rest[..end])?;
+            end_line(self.alloc, &mut self.reader, &mut entries)?;
+            rest = &rest[end + 1..];
+        }
+        extend(&mut self.reader, rest)?;
+        Ok(entries)
     }
 
     /// The entries of what is kept, where the script ends behind it.
@@ -79,6 +79,10 @@ impl Script {
         ensures further { IfOk result (λ entries. (before : List ℕ) → self ≡ kept_of 0 before →
             entries_at_end 0 before ≡ entries_of 0 before ++ entries) }
     {
-        Err(Memory)
+        let Script { alloc, mut reader } = self;
+        let mut entries = List::new(alloc);
+        end_last_line(alloc, &mut reader, &mut entries)?;
+        push_unfinished(reader, &mut entries)?;
+        Ok(entries)
     }
 }

@@ -1,0 +1,136 @@
+//! Lines of bytes, and the command whose text waits for its dot.
+ghost use Rattle.std.specs.Prelude.{◌≡◌, ◌++◌, ◌∷◌, [], IfOk, OnOk, OnErr, List, ℕ, Ok, length, map};
+ghost use Rattle.std.specs.Str.{chars};
+ghost use Rattle.edit_script.specs.CommandLine as spec;
+ghost use Rattle.edit_script.specs.CommandLine.{line_head};
+ghost use Rattle.edit_script.specs.Entries.{entry, with_order};
+ghost use Rattle.edit_script.specs.Reading.{IsTextOf, with_fault};
+
+use crate::head::{Head, Order, head_of};
+use crate::{EditCommand, Entry, ScriptFault};
+use std::alloc::Global;
+use syn_base::{List, Memory};
+use text_buffer::{Line, MOST_CHARS};
+
+/// The command whose text has no dot yet, with the lines so far.
+#[derive(Drop)]
+pub(crate) struct Waiting {
+    pub head: Head,
+    /// The lines of the text, while each of them is well.
+    pub lines: List<Line>,
+    pub has_bad_line: bool,
+    pub has_long_line: bool,
+}
+
+fn char_count(text: &str) -> usize
+    ensures { result ≡ length (chars text.now) }
+{
+    text.chars().count()
+}
+
+/// The characters of a line, or what is wrong with it.
+pub(crate) fn line_chars(
+    alloc: Global,
+    bytes: &[u8],
+) -> Result<Result<Line, ScriptFault>, Memory>
+    ensures { IfOk result (λ line. line ≡ spec.line_chars bytes.now) }
+{
+    let Ok(text) = simdutf8::compat::from_utf8(bytes) else {
+        return Ok(Err(ScriptFault::BadUtf8));
+    };
+    if char_count(text) > MOST_CHARS {
+        return Ok(Err(ScriptFault::LongLine));
+    }
+    Ok(Ok(List::from_chars(alloc, text)?))
+}
+
+/// What the bytes of a line say.
+pub(crate) fn line_head(alloc: Global, bytes: &[u8]) -> Result<Result<Head, ScriptFault>, Memory>
+    ensures { IfOk result (λ head. head ≡ spec.line_head bytes.now) }
+{
+    match line_chars(alloc, bytes)? {
+        Err(fault) => Ok(Err(fault)),
+        Ok(text) => match head_of(text.as_slice()) {
+            None => Ok(Err(ScriptFault::BadCommand)),
+            Some(head) => Ok(Ok(head)),
+        },
+    }
+}
+
+/// The command whose line this is, before any line of its text.
+pub(crate) fn without_text(alloc: Global, head: Head) -> Waiting
+    ensures head { result.head ≡ head }
+    ensures text { IsTextOf result [] }
+{
+    Waiting {
+        head,
+        lines: List::new(alloc),
+        has_bad_line: false,
+        has_long_line: false,
+    }
+}
+
+fn with_order(order: Option<Order>, lines: List<Line>, ended: bool) -> Result<EditCommand, ScriptFault>
+    ensures { (text : List (List ℕ)) → lines ≡ map chars text
+        → result ≡ with_order order text ended }
+{
+    let Some(Order { first, last, verb }) = order else {
+        return Err(ScriptFault::BadAddress);
+    };
+    if !ended {
+        return Err(ScriptFault::UnfinishedText);
+    }
+    Ok(EditCommand {
+        first,
+        last,
+        verb,
+        lines,
+    })
+}
+
+impl Waiting {
+    /// A line of the text has this fault.
+    fn add_fault(&mut self, fault: ScriptFault)
+        ensures { self.new ≡ with_fault self.old fault }
+    {
+        match fault {
+            ScriptFault::BadUtf8 => self.has_bad_line = true,
+            _ => self.has_long_line = true,
+        }
+    }
+
+    /// One more line of the text comes. For want of memory it stays as it is.
+    pub(crate) fn add_line(&mut self, alloc: Global, bytes: &[u8]) -> Result<(), Memory>
+        ensures head { self.new.head ≡ self.old.head }
+        ensures more { OnOk result ((text : List (List ℕ)) → IsTextOf self.old text
+            → IsTextOf self.new (text ++ bytes.now ∷ [])) }
+        ensures same { OnErr result (self.new ≡ self.old) }
+    {
+        match line_chars(alloc, bytes)? {
+            Ok(line) => self.lines.push(line)?,
+            Err(fault) => self.add_fault(fault),
+        }
+        Ok(())
+    }
+
+    /// Its entry, where the text ends with a dot or where the script ends.
+    pub(crate) fn into_entry(self, number: usize, ended: bool) -> Entry
+        ensures { (line : List ℕ) (text : List (List ℕ)) → line_head line ≡ Ok self.head
+            → IsTextOf self text → result ≡ entry number line text ended }
+    {
+        let Waiting {
+            head,
+            lines,
+            has_bad_line,
+            has_long_line,
+        } = self;
+        let what = if has_bad_line {
+            Err(ScriptFault::BadUtf8)
+        } else if has_long_line {
+            Err(ScriptFault::LongLine)
+        } else {
+            with_order(head.order, lines, ended)
+        };
+        Entry { line: number, what }
+    }
+}
