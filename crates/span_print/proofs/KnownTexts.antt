@@ -5,7 +5,7 @@ use Rattle.syn_base.specs.declared.places.Span.{Span}
 use Rattle.syntax_set.specs.Groups.{group_numbered}
 use Rattle.hi_links.specs.Highlights.{linked}
 use Rattle.hi_links.specs.FinalGroup.{final_group, followed}
-use Rattle.span_print.specs.SpanText.{line_text, refusal_text}
+use Rattle.span_print.specs.SpanText.{line_text}
 
 names : List (List ℕ)
 names = codes "String" ∷ codes "Constant" ∷ []
@@ -25,8 +25,3 @@ dashed = refl
 
 bare : line_text names [] 1 [] false ≡ []
 bare = refl
-
--- a command's number is printed as it is, a script line from 1
-refusal : refusal_text 1 0 (codes "no line 9")
-    ≡ codes "@" ++ decimal 1 ++ codes " ? " ++ decimal 1 ++ codes " " ++ codes "no line 9" ++ codes "\n"
-refusal = refl

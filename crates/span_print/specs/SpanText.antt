@@ -1,5 +1,4 @@
--- How spans, heads of commands and refusals are printed. Lines and columns count from 1 there; a
--- command's number is printed as it is.
+-- How spans are printed. Lines and columns count from 1 there.
 use Rattle.std.specs.Prelude.{ℕ, ◌+◌, Bool, true, List, [], ◌++◌, codes, decimal}
 use Rattle.std.specs.List.{flat_map}
 use Rattle.syn_base.specs.declared.places.Span.{Span}
@@ -21,16 +20,3 @@ spans_text names links number spans = flat_map (span_text names links number) sp
 abbrev pub line_text : List (List ℕ) → List Highlight → ℕ → List Span → Bool → List ℕ
 line_text names links number [] true = decimal (number + 1) ++ codes ":-\n"
 line_text names links number spans dash = spans_text names links number spans
-
--- what begins the head and the refusal of command k
-abbrev pub mark_text : ℕ → List ℕ
-mark_text k = codes "@" ++ decimal k
-
--- the head of command k
-abbrev pub head_text : ℕ → List ℕ
-head_text k = mark_text k ++ codes "\n"
-
--- the refusal of command k, which stands in the script line of this number
-abbrev pub refusal_text : ℕ → ℕ → List ℕ → List ℕ
-refusal_text k line cause =
-    mark_text k ++ codes " ? " ++ decimal (line + 1) ++ codes " " ++ cause ++ codes "\n"

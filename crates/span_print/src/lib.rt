@@ -6,4 +6,5 @@
 
 mod spans;
 
-pub use spans::{head_text, refusal_text, span_text};
+pub use command_print::{head_text, refusal_text};
+pub use spans::span_text;

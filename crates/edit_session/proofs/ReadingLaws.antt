@@ -1,0 +1,152 @@
+-- What was read so far, and what is read next.
+use Rattle.std.proofs.Common.{◌≡◌, ℕ, ◌+◌, ◌-◌, ◌<◌, ◌≤◌, Bool, true, false, List, [], ◌∷◌, ◌++◌, length, take, refl, ap, sym, subst, ◌∙◌, append_assoc, arith}
+use Rattle.std.specs.Prelude.{Option, Some, None, IfSome, nat_lt, option_map, if◌then◌else◌}
+use Rattle.std.proofs.Math.Seq.{take-append-add}
+use Rattle.std.proofs.lemmas.Bool.Decides.{nat_tests}
+use Rattle.std.proofs.lemmas.List.{append-nil}
+use Rattle.syn_base.specs.Outside.{AppendsPrefix, appended}
+use Rattle.edit_script.specs.declared.commands.Entry.{Entry}
+use Rattle.edit_script.specs.Entries.{entries_at_end, entries_of, kept_of}
+use Rattle.edit_script.specs.Kept.{Kept}
+use Rattle.edit_session.proofs.Pending.{end_two, entries_two, kept_two}
+use Rattle.edit_session.specs.Ends.{SinkChange, SourceChange, Takes}
+use Rattle.edit_session.specs.Painter.{Painter}
+use Rattle.edit_session.specs.Session.{Answer, Standing, behind, entries_read, is_too_long, most_bytes, session}
+use Rattle.edit_session.specs.Steps.{HasRead}
+use Rattle.edit_session.proofs.SessionLaws.{appended_nothing, appended_twice, appends_all, appends_behind, appends_of_more, session_joined}
+
+-- ---- sources
+
+pub takes_nothing : (left : Option (List ℕ)) → Takes [] left left
+takes_nothing None = refl
+takes_nothing (Some rest) = refl
+
+pub takes_more : (one two : List ℕ) (before middle after : Option (List ℕ)) → Takes one before middle → Takes two middle after → Takes (one ++ two) before after
+takes_more one two before middle None first second = first ∙ ap (option_map (λ rest. one ++ rest)) second
+takes_more one two before middle (Some rest) first second =
+    first ∙ ap (option_map (λ rest. one ++ rest)) second ∙ ap Some (sym (append_assoc one two rest))
+
+-- ---- entries
+
+-- the entries of more bytes, behind those of the first ones
+entries_of_more : (bytes more : List ℕ) → (entries : List Entry) × (entries_of 0 (bytes ++ more) ≡ entries_of 0 bytes ++ entries)
+entries_of_more bytes more = (entries_of (kept_of 0 bytes).lines ((kept_of 0 bytes).bytes ++ more), entries_two 0 bytes more)
+
+take_within : (most : ℕ) (bytes rest : List ℕ) → length bytes ≤ most → take most (bytes ++ rest) ≡ bytes ++ take (most - length bytes) rest
+take_within most bytes rest few =
+    let split : most ≡ length bytes + (most - length bytes) = omega arith in
+    ap (λ n. take n (bytes ++ rest)) split ∙ take-append-add bytes rest (most - length bytes)
+
+read_by_length : (long : Bool) (bytes : List ℕ) (first : List ℕ) (rest : List ℕ) → bytes ≡ first ++ rest → length first ≤ most_bytes → (entries : List Entry) × ((if long then entries_of 0 (take most_bytes bytes) else entries_at_end 0 bytes) ≡ entries_of 0 first ++ entries)
+read_by_length true bytes first rest is few =
+    let more = entries_of_more first (take (most_bytes - length first) rest) in
+    (more.0, ap (λ b. entries_of 0 (take most_bytes b)) is ∙ ap (entries_of 0) (take_within most_bytes first rest few) ∙ more.1)
+read_by_length false bytes first rest is few =
+    let more = entries_of_more first rest in
+    let last : List Entry = entries_at_end (kept_of 0 (first ++ rest)).lines (kept_of 0 (first ++ rest)).bytes in
+    (more.0 ++ last, ap (entries_at_end 0) is ∙ end_two 0 (first ++ rest) ∙ ap (λ es. es ++ last) more.1 ∙ append_assoc (entries_of 0 first) more.0 last)
+
+-- the entries that are read of a script that begins with these bytes
+entries_read_more : (bytes rest : List ℕ) → length bytes ≤ most_bytes → (entries : List Entry) × (entries_read (bytes ++ rest) ≡ entries_of 0 bytes ++ entries)
+entries_read_more bytes rest few = read_by_length (is_too_long (bytes ++ rest)) (bytes ++ rest) bytes rest refl few
+
+short : (bytes : List ℕ) → length bytes ≤ most_bytes → is_too_long bytes ≡ false
+short bytes few = grind (arith, nat_tests)
+
+entries_read_all : (bytes : List ℕ) → length bytes ≤ most_bytes → entries_read bytes ≡ entries_at_end 0 bytes
+entries_read_all bytes few = rw (short bytes few) refl
+
+-- ---- what was written is a part of what the script prints
+
+part_told : (p : Painter) (s : Standing) (bytes rest : List ℕ) (out out' : Option (List ℕ)) → length bytes ≤ most_bytes → AppendsPrefix out out' (session p s (entries_of 0 bytes)).text → AppendsPrefix out out' (session p s (entries_read (bytes ++ rest))).text
+part_told p s bytes rest out out' few part =
+    let more = entries_read_more bytes rest few in
+    let P : List ℕ → Type 0 = AppendsPrefix out out' in
+    let joined = ap (λ (a : Answer). a.text) (ap (session p s) more.1 ∙ session_joined p s (entries_of 0 bytes) more.0) in
+    subst P (sym joined) (appends_of_more out out' _ (session p (session p s (entries_of 0 bytes)).stands more.0).text part)
+
+pub part_written : (p : Painter) (s : Standing) (left left' out out' : Option (List ℕ)) (bytes : List ℕ) → length bytes ≤ most_bytes → Takes bytes left left' → AppendsPrefix out out' (session p s (entries_of 0 bytes)).text → IfSome left (λ all. AppendsPrefix out out' (session p s (entries_read all)).text)
+part_written p s None left' out out' bytes few taken part = tt
+part_written p s (Some all) None out out' bytes few taken part = absurd (cc)
+part_written p s (Some all) (Some rest) out out' bytes few taken part =
+    let is : all ≡ bytes ++ rest = cc in
+    let P : List ℕ → Type 0 = λ a. AppendsPrefix out out' (session p s (entries_read a)).text in
+    subst P (sym is) (part_told p s bytes rest out out' few part)
+
+pub end_written : (p : Painter) (s : Standing) (left left' out out' : Option (List ℕ)) (bytes : List ℕ) → length bytes ≤ most_bytes → Takes bytes left left' → IfSome left' (λ rest. rest ≡ []) → AppendsPrefix out out' (session p s (entries_at_end 0 bytes)).text → IfSome left (λ all. AppendsPrefix out out' (session p s (entries_read all)).text)
+end_written p s None left' out out' bytes few taken ended part = tt
+end_written p s (Some all) None out out' bytes few taken ended part = absurd (cc)
+end_written p s (Some all) (Some rest) out out' bytes few taken ended part =
+    let is : all ≡ bytes ++ rest = cc in
+    let whole : all ≡ bytes = is ∙ ap (λ r. bytes ++ r) ended ∙ append-nil bytes in
+    let P : List ℕ → Type 0 = λ a. AppendsPrefix out out' (session p s (entries_read a)).text in
+    let Q : List Entry → Type 0 = λ es. AppendsPrefix out out' (session p s es).text in
+    subst P (sym whole) (subst Q (sym (entries_read_all bytes few)) part)
+
+-- ---- steps
+
+abbrev pub source_of : Option (List ℕ) → Option (List ℕ) → ℕ → ℕ → SourceChange
+source_of before after faults faults_after = record { before = before; after = after; faults = faults; faults_after = faults_after }
+
+abbrev pub sink_of : Option (List ℕ) → Option (List ℕ) → ℕ → ℕ → SinkChange
+sink_of before after faults faults_after = record { before = before; after = after; faults = faults; faults_after = faults_after }
+
+-- nothing was read yet
+pub read_start : (p : Painter) (s : Standing) (kept : Kept) (left out : Option (List ℕ)) (f f' g : ℕ) → kept ≡ record { lines = 0; bytes = [] } → HasRead p s s kept (source_of left left f f') (sink_of out out g g) []
+read_start p s kept left out f f' g fresh = record {
+  few = omega arith;
+  taken = takes_nothing left;
+  keeps = fresh;
+  stands = refl;
+  written = appended_nothing out;
+  writable = refl;
+}
+
+-- a piece was read, and the commands that it made whole were answered
+pub read_further : (p : Painter) (s now next : Standing) (kept kept' : Kept) (left left' left'' out out' out'' : Option (List ℕ)) (f f' f'' g g' g'' : ℕ) (bytes piece : List ℕ) → HasRead p s now kept (source_of left left' f f') (sink_of out out' g g') bytes → Takes piece left' left'' → length (bytes ++ piece) ≤ most_bytes → kept' ≡ kept_of kept.lines (kept.bytes ++ piece) → next ≡ (session p now (entries_of kept.lines (kept.bytes ++ piece))).stands → out'' ≡ appended out' (session p now (entries_of kept.lines (kept.bytes ++ piece))).text → g'' ≡ g' → HasRead p s next kept' (source_of left left'' f f'') (sink_of out out'' g g'') (bytes ++ piece)
+read_further p s now next kept kept' left left' left'' out out' out'' f f' f'' g g' g'' bytes piece read taken few keeps stands written writable =
+    let K : Kept → Kept = λ k. kept_of k.lines (k.bytes ++ piece) in
+    let E : Kept → List Entry = λ k. entries_of k.lines (k.bytes ++ piece) in
+    let same : E kept ≡ E (kept_of 0 bytes) = ap E read.keeps in
+    let joined : session p s (entries_of 0 (bytes ++ piece)) ≡ behind (session p s (entries_of 0 bytes)).text (session p now (E kept)) =
+        ap (session p s) (entries_two 0 bytes piece)
+        ∙ session_joined p s (entries_of 0 bytes) (E (kept_of 0 bytes))
+        ∙ ap (λ es. behind (session p s (entries_of 0 bytes)).text (session p (session p s (entries_of 0 bytes)).stands es)) (sym same)
+        ∙ ap (λ t. behind (session p s (entries_of 0 bytes)).text (session p t (E kept))) (sym read.stands) in
+    record {
+      few = few;
+      taken = takes_more bytes piece left left' left'' read.taken taken;
+      keeps = keeps ∙ ap K read.keeps ∙ sym (kept_two 0 bytes piece);
+      stands = stands ∙ ap (λ (a : Answer). a.stands) (sym joined);
+      written = written ∙ ap (λ o. appended o (session p now (E kept)).text) read.written ∙ appended_twice out _ _ ∙ ap (λ (a : Answer). appended out a.text) (sym joined);
+      writable = writable ∙ read.writable;
+    }
+
+-- an answer stopped in the middle of a piece
+pub part_further : (p : Painter) (s now : Standing) (kept : Kept) (left left' left'' out out' out'' : Option (List ℕ)) (f f' g g' : ℕ) (bytes piece : List ℕ) → HasRead p s now kept (source_of left left' f f') (sink_of out out' g g') bytes → Takes piece left' left'' → length (bytes ++ piece) ≤ most_bytes → AppendsPrefix out' out'' (session p now (entries_of kept.lines (kept.bytes ++ piece))).text → IfSome left (λ all. AppendsPrefix out out'' (session p s (entries_read all)).text)
+part_further p s now kept left left' left'' out out' out'' f f' g g' bytes piece read taken few part =
+    let E : Kept → List Entry = λ k. entries_of k.lines (k.bytes ++ piece) in
+    let same : E kept ≡ E (kept_of 0 bytes) = ap E read.keeps in
+    let joined : session p s (entries_of 0 (bytes ++ piece)) ≡ behind (session p s (entries_of 0 bytes)).text (session p now (E kept)) =
+        ap (session p s) (entries_two 0 bytes piece)
+        ∙ session_joined p s (entries_of 0 bytes) (E (kept_of 0 bytes))
+        ∙ ap (λ es. behind (session p s (entries_of 0 bytes)).text (session p (session p s (entries_of 0 bytes)).stands es)) (sym same)
+        ∙ ap (λ t. behind (session p s (entries_of 0 bytes)).text (session p t (E kept))) (sym read.stands) in
+    let P : Answer → Type 0 = λ a. AppendsPrefix out out'' a.text in
+    part_written p s left left'' out out'' (bytes ++ piece) few (takes_more bytes piece left left' left'' read.taken taken)
+    (subst P (sym joined) (appends_behind out out' out'' _ (session p now (E kept)).text read.written part))
+
+-- what was written of it so far, where nothing more is read
+pub part_so_far : (p : Painter) (s now : Standing) (kept : Kept) (left left' out out' : Option (List ℕ)) (f f' g g' : ℕ) (bytes : List ℕ) → HasRead p s now kept (source_of left left' f f') (sink_of out out' g g') bytes → IfSome left (λ all. AppendsPrefix out out' (session p s (entries_read all)).text)
+part_so_far p s now kept left left' out out' f f' g g' bytes read =
+    part_written p s left left' out out' bytes read.few read.taken (appends_all out out' _ read.written)
+
+-- the commands that are left at the end
+pub joined_at_end : (p : Painter) (s now : Standing) (kept : Kept) (left left' out out' : Option (List ℕ)) (f f' g g' : ℕ) (bytes : List ℕ) → HasRead p s now kept (source_of left left' f f') (sink_of out out' g g') bytes → session p s (entries_at_end 0 bytes) ≡ behind (session p s (entries_of 0 bytes)).text (session p now (entries_at_end kept.lines kept.bytes))
+joined_at_end p s now kept left left' out out' f f' g g' bytes read =
+    let E : Kept → List Entry = λ k. entries_at_end k.lines k.bytes in
+    let same : E kept ≡ E (kept_of 0 bytes) = ap E read.keeps in
+    ap (session p s) (end_two 0 bytes)
+    ∙ session_joined p s (entries_of 0 bytes) (E (kept_of 0 bytes))
+    ∙ ap (λ es. behind (session p s (entries_of 0 bytes)).text (session p (session p s (entries_of 0 bytes)).stands es)) (sym same)
+    ∙ ap (λ t. behind (session p s (entries_of 0 bytes)).text (session p t (E kept))) (sym read.stands)

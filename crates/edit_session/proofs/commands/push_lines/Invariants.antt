@@ -1,0 +1,11 @@
+use Rattle.std.proofs.Common.{◌≡◌, ◌++◌, drop}
+use Rattle.edit_session.specs.Session.{lines_text}
+use Rattle.edit_session.proofs.commands.push_lines.Given as goal
+
+-- what was printed, with the lines to come, is the whole
+abbrev pub invariant-loop-number : goal.invariant-loop-number
+invariant-loop-number g l =
+    let painter = g.D.Document.painter l.document in
+    let shown = g.D.Document.shown l.document in
+    l.out.items ++ lines_text painter shown (drop l.number-index l.numbers)
+    ≡ l.initial.out.items ++ lines_text painter shown l.numbers

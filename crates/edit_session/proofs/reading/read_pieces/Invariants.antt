@@ -1,0 +1,26 @@
+use Rattle.std.proofs.Common.{◌≡◌, ℕ, ◌-◌, List, length}
+use Rattle.edit_session.specs.Steps.{HasRead, standing}
+use Rattle.edit_session.proofs.ReadingLaws.{sink_of, source_of}
+use Rattle.edit_session.proofs.reading.read_pieces.Given as goal
+
+-- so many bytes were taken, and the commands whose last line is whole in them were answered
+abbrev pub invariant-loop-taken : goal.invariant-loop-taken
+invariant-loop-taken g l =
+    let lines = g.D.Lines.lines in
+    let shown = g.D.Document.shown in
+    let painter = g.D.Document.painter l.fn.commands.document in
+    let left = g.I.Source.left in
+    let failed = g.I.Source.faults in
+    let written = g.O.Sink.written in
+    let refused = g.O.Sink.faults in
+    record {
+      painter : g.D.Document.painter l.commands.document ≡ painter;
+      read : (bytes : List ℕ)
+        × HasRead painter (standing lines shown l.fn.commands.document l.fn.commands.number l.fn.commands.refused) (standing lines shown l.commands.document l.commands.number l.commands.refused) l.kept (source_of (left l.fn.script) (left l.script) (failed l.fn.script) (failed l.script)) (sink_of (written l.fn.out) (written l.out) (refused l.fn.out) (refused l.out)) bytes
+        × (length bytes ≡ l.taken);
+      readable : failed l.script ≡ failed l.fn.script;
+      room : length l.buffer ≡ 65536;
+    }
+
+abbrev pub decreases-loop-taken : goal.decreases-loop-taken
+decreases-loop-taken g l = 67108864 - l.taken

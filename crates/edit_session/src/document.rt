@@ -1,0 +1,57 @@
+//! A painted text that edits change.
+ghost use Rattle.std.specs.Prelude.{◌≡◌, ◌≤◌, ◌<◌, ◌+◌, ◌++◌, ℕ, List as ListOf, All, [], get_or, length, IfOk, OnOk};
+ghost use Rattle.syn_base.specs.declared.places.Span.{Span as SpanOf};
+ghost use Rattle.text_buffer.specs.TextOfBytes.{most_lines};
+ghost use Rattle.edit_script.specs.Edits.{replaced};
+ghost use Rattle.edit_session.specs.Painter.{Edits, Painter};
+
+use crate::changes::Replacement;
+use std::alloc::Global;
+use syn_base::{Ledger, Lines, List, Memory, Steps};
+
+/// Why a text wasn't changed.
+#[derive(Drop)]
+pub enum Unedited {
+    /// The painting of the changed text is refused, for the cause that these bytes tell.
+    Refused(List<u8>),
+    Memory,
+}
+
+/// A painted text that edits change.
+pub trait Document: Lines {
+    /// By what it is painted and printed.
+    ghost painter: { Self → Painter };
+
+    /// The spans of each line.
+    ghost shown: { Self → ListOf (ListOf SpanOf) };
+
+    /// Appends the span lines of the line of this number, from 0. A line without spans is told too.
+    fn print_line(&self, alloc: Global, out: &mut Vec<u8>, number: usize) -> Result<(), Memory>
+        requires { number < length (Self.lines self.now) }
+        ensures { OnOk result (out.new.items ≡ out.old.items
+            ++ (painter self.now).line number (get_or (shown self.now) number [])) };
+
+    /// The page of the text.
+    fn page(&self, alloc: Global) -> Result<List<u8>, Memory>
+        ensures { IfOk result (λ bytes.
+            bytes ≡ (painter self.now).page (Self.lines self.now) (shown self.now)) };
+
+    /// Replaces the lines and paints the text, and answers the lines to tell, least first. On each refusal all
+    /// is as it was.
+    fn edit<L: Ledger>(
+        &mut self,
+        alloc: Global,
+        replacement: Replacement,
+        steps: &mut Steps<L>,
+    ) -> Result<List<usize>, Unedited>
+        requires ordered { replacement.a ≤ replacement.b }
+        requires within { replacement.b ≤ length (Self.lines self.old) }
+        requires some { 0 < length (replaced (Self.lines self.old) replacement) }
+        requires few { length (replaced (Self.lines self.old) replacement) ≤ most_lines }
+        ensures painter { painter self.new ≡ painter self.old }
+        ensures edits { Edits (painter self.old) replacement
+            (record { text = Self.lines self.old; spans = shown self.old })
+            (record { text = Self.lines self.new; spans = shown self.new }) result }
+        ensures within { IfOk result (All (λ number. number < length (Self.lines self.new))) }
+        ensures steps { steps.new ≤ steps.old + length (replaced (Self.lines self.old) replacement) };
+}
