@@ -12,3 +12,4 @@ pub mod EndStays
 pub mod Elsewhere
 pub mod LineStays
 pub mod AboutLine
+pub mod ChangeLaws

@@ -8,6 +8,7 @@
 #![tactic(auto)]
 
 ghost use Rattle.paint_shift.specs.AboutLine.{PaintingsLookAboutTheirLine};
+ghost use Rattle.paint_shift.specs.Change.{ChangesLeaveOtherLines};
 ghost use Rattle.paint_shift.specs.Elsewhere.{LinesArePaintedAlike};
 
 /// Where two texts agree on the lines that a line's painting looks at, as far on as the line stands
@@ -23,4 +24,11 @@ pub fn a_line_painted_elsewhere_is_painted_alike()
 /// line that is refused too.
 pub fn a_painting_looks_about_its_line()
     ensures { PaintingsLookAboutTheirLine }
+{}
+
+/// Where lines of a text are replaced, a line that looked at none of them and before which the same
+/// stands keeps its painting: where all that it looked at lies before the change, and where all
+/// lies behind it, then with its lines moved by as many as the change added.
+pub fn a_change_leaves_other_lines()
+    ensures { ChangesLeaveOtherLines }
 {}
