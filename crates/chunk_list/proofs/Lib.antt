@@ -1,4 +1,5 @@
-pub mod FlatLaws
 pub mod CutLaws
-pub mod FillLaws
 pub mod EndLaws
+pub mod FillLaws
+pub mod FlatLaws
+pub mod ReplacedLaws

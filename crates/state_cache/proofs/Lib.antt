@@ -1,4 +1,3 @@
-mod ChangeLaws
 mod ReportIs
 mod ReportLaws
 mod WalkLaws

@@ -1,13 +1,13 @@
 use Rattle.std.proofs.Common.{arith, sym, ◌∙◌, ◌≡◌, ◌<◌, ◌≤◌, ◌+◌, ◌-◌, length}
 use Rattle.state_cache.specs.Change.{replaced}
-use Rattle.state_cache.proofs.ChangeLaws.{below, length_replaced}
+use Rattle.chunk_list.proofs.ReplacedLaws.{below, length-replaced}
 use Rattle.state_cache.proofs.change.ChangedLines.line.Goals as goal
 
 pub overflow_add-below : goal.overflow_add-below
 overflow_add-below c =
     let s = c.args.self.now in
     let inside : s.b ≤ length s.text.now.lines = omega (arith, s.whole) in
-    let count = length_replaced s.text.now.lines s.a s.b s.new.now s.ordered inside in
+    let count = length-replaced s.text.now.lines s.a s.b s.new.now s.ordered inside in
     let within : c.args.i < length (replaced s.text.now.lines s.a s.b s.new.now) = c.requires in
     omega (arith, count, within, s.small, s.whole, c.if-i-self.false, c.if-below-len.false, c.len.ensures, c.len-2.ensures)
 
