@@ -4,7 +4,6 @@ use Rattle.std.specs.Prelude.{codes, Option, Some, None, Result, Ok, Err}
 use Rattle.edit_script.specs.declared.commands.EditCommand.{EditCommand}
 use Rattle.edit_script.specs.declared.commands.Last.{Last}
 use Rattle.edit_script.specs.declared.commands.Last.TheVariants.{Number, End}
-use Rattle.edit_script.specs.declared.commands.Resolved.{Resolved}
 use Rattle.edit_script.specs.declared.commands.Resolved.TheVariants as does
 use Rattle.edit_script.specs.declared.commands.ResolveError.{ResolveError}
 use Rattle.edit_script.specs.declared.commands.ResolveError.TheVariants.{NoLine, Backwards, MoveIntoSelf, TooManyLines}

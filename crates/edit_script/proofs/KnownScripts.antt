@@ -3,12 +3,11 @@ use Rattle.std.proofs.Common.{◌≡◌, ℕ, List, [], ◌∷◌, ◌++◌, ref
 use Rattle.std.specs.Prelude.{codes, Ok, Err}
 use Rattle.std.specs.Str.{chars, is_utf8}
 use Rattle.std.proofs.Math.Utf8.{encode}
-use Rattle.edit_script.specs.declared.commands.EditCommand.{EditCommand}
 use Rattle.edit_script.specs.declared.commands.Entry.{Entry}
 use Rattle.edit_script.specs.declared.commands.Last.{Last}
 use Rattle.edit_script.specs.declared.commands.Last.TheVariants.{Number, End}
 use Rattle.edit_script.specs.declared.commands.ScriptFault.{ScriptFault}
-use Rattle.edit_script.specs.declared.commands.ScriptFault.TheVariants.{BadCommand, BadAddress, UnfinishedText, BadUtf8, LongLine}
+use Rattle.edit_script.specs.declared.commands.ScriptFault.TheVariants.{BadCommand, BadAddress, UnfinishedText, BadUtf8}
 use Rattle.edit_script.specs.declared.commands.Verb.{Verb}
 use Rattle.edit_script.specs.declared.commands.Verb.TheVariants.{Append, Insert, Change, Delete, Move, CopyTo, Print, Page}
 use Rattle.edit_script.specs.Entries.{broken, entries_at_end, entries_of, kept_of}
