@@ -1,11 +1,11 @@
 -- Laws of a piece: its lines one after the other, and its rest.
-use Rattle.std.proofs.Common.{◌≡◌, ℕ, zero, suc, ◌+◌, ◌-◌, ◌<◌, ◌≤◌, List, [], ◌∷◌, ◌++◌, length, take, drop, refl, ap, sym, ◌∙◌, append_assoc, arith, length-drop}
-use Rattle.std.specs.Prelude.{Option, Some, None, Result, Ok, Err, OnOk}
+use Rattle.std.proofs.Common.{◌≡◌, ℕ, zero, suc, ◌+◌, ◌-◌, ◌<◌, ◌≤◌, List, [], ◌∷◌, ◌++◌, length, take, drop, ap, sym, ◌∙◌, append_assoc, arith, length-drop}
+use Rattle.std.specs.Prelude.{Option, Result, Ok, Err, OnOk}
 use Rattle.std.proofs.lemmas.Bool.{eqb-true}
 use Rattle.std.proofs.lemmas.Grind.{common_steps}
 use Rattle.std.proofs.lemmas.List.{append-nil, drop_all}
 use Rattle.memchr.specs.Find.{NoneBefore, Nowhere, Passes, is_byte}
-use Rattle.text_buffer.specs.TextOfBytes.{line_break, pieces_of, byte_lines}
+use Rattle.text_buffer.specs.TextOfBytes.{line_break, byte_lines}
 use Rattle.text_buffer.proofs.LineLaws.{pieces_broken, pieces_whole}
 use Rattle.edit_script.specs.declared.commands.Entry.{Entry}
 use Rattle.edit_script.specs.declared.waiting.Waiting.{Waiting}
@@ -116,11 +116,11 @@ ends_full number cut bytes now old new some rest is_now is_new =
     let all = bytes ++ line_break ∷ [] in
     let lines : byte_lines bytes ≡ whole_lines all = full_line number bytes (drop cut bytes) (omega (arith, length-drop cut bytes)) (sym rest) in
     let end : entries_at_end number bytes ≡ entries_of number all ++ unfinished (standing_in number all) =
-        ap (λ ls. entries_from (Between number) ls ++ unfinished (standing_behind (Between number) ls)) lines in
+    ap (λ ls. entries_from (Between number) ls ++ unfinished (standing_behind (Between number) ls)) lines in
     let stands : standing_in now.lines now.bytes ≡ standing_in number all =
-        ap (λ (k : Kept). standing_in k.lines k.bytes) is_now
-        ∙ ap (λ b. standing_in (kept_of number all).lines b) (sym (append-nil (kept_of number all).bytes))
-        ∙ standing_of_kept number all [] ∙ ap (λ b. standing_in number b) (append-nil all) in
+    ap (λ (k : Kept). standing_in k.lines k.bytes) is_now
+    ∙ ap (λ b. standing_in (kept_of number all).lines b) (sym (append-nil (kept_of number all).bytes))
+    ∙ standing_of_kept number all [] ∙ ap (λ b. standing_in number b) (append-nil all) in
     ap (λ es. es ++ unfinished (standing_in now.lines now.bytes)) is_new
     ∙ ap (λ s. old ++ entries_of number all ++ unfinished s) stands
     ∙ append_assoc old (entries_of number all) (unfinished (standing_in number all))
@@ -130,8 +130,8 @@ pub ends_empty : (waiting : Option Waiting) (number at cut : ℕ) (bytes : List 
 ends_empty waiting number at cut bytes old none stands =
     let empty : cut_line bytes ≡ [] = sym stands.rest ∙ drop_all cut bytes none in
     let end : entries_at_end number bytes ≡ unfinished (standing_in number bytes) =
-        end_at number bytes [] empty
-        ∙ ap (λ es. es ++ unfinished (standing_in number bytes)) (entries_standing waiting number at cut bytes stands) in
+    end_at number bytes [] empty
+    ∙ ap (λ es. es ++ unfinished (standing_in number bytes)) (entries_standing waiting number at cut bytes stands) in
     ap (λ es. old ++ es) (sym end)
 
 -- a fact that follows from two, where there is a value

@@ -4,3 +4,5 @@ pub mod StandingLaws
 pub mod ReaderLaws
 pub mod TextLaws
 pub mod FeedLaws
+mod KnownEdits
+mod KnownScripts

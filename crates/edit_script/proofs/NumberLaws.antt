@@ -2,7 +2,7 @@
 use Rattle.std.proofs.Common.{◌≡◌, ℕ, zero, suc, ◌+◌, ◌-◌, ◌*◌, ◌≤◌, ◌<◌, List, [], ◌∷◌, length, take, drop, get_or, refl, ap, sym, ◌∙◌, arith, leb-true, Bool, true, false, cond}
 use Rattle.std.specs.Prelude.{◌&&◌, nat_le}
 use Rattle.std.specs.List.{list_all, prefix_len}
-use Rattle.std.proofs.Math.Nat.{mul-le-mul_right, mul_assoc, le-mul_of_pos_right, one-le-mul}
+use Rattle.std.proofs.Math.Nat.{mul-le-mul_right, mul_assoc, le-mul_of_pos_right}
 use Rattle.std.proofs.Math.Seq.{drop-cons}
 use Rattle.text_scan.specs.Characters.{is_digit}
 use Rattle.edit_script.specs.Addresses.{number_behind}

@@ -152,15 +152,17 @@ meaning_whole number (byte ∷ line) e is =
 
 pub nothing_outside : (number at next : ℕ) (bytes : List ℕ) → whole_lines bytes ≡ [] → at ≡ number + length (whole_lines bytes) → next ≡ at + 1 → meaning_of number bytes ≡ Nothing → (entries_of number (bytes ++ line_break ∷ []) ≡ []) × (kept_of number (bytes ++ line_break ∷ []) ≡ record { lines = next; bytes = [] })
 nothing_outside number at next bytes none is more means =
-    let empty : bytes ≡ [] = meaning_nothing number bytes means in
-    (entries_outside number bytes none ∙ ap (made_whole (Between number)) empty,
-    kept_outside number bytes none ∙ ap (λ l. kept_at (behind (Between number) l)) empty ∙ rw empty_begins_none (done_with number next (next_outside number at next bytes none is more)))
+    let empty : bytes ≡ [] = meaning_nothing number bytes means in (
+      entries_outside number bytes none ∙ ap (made_whole (Between number)) empty,
+      kept_outside number bytes none ∙ ap (λ l. kept_at (behind (Between number) l)) empty ∙ rw empty_begins_none (done_with number next (next_outside number at next bytes none is more)),
+    )
 
 pub whole_outside : (number at next : ℕ) (bytes : List ℕ) (e : Entry) → whole_lines bytes ≡ [] → at ≡ number + length (whole_lines bytes) → next ≡ at + 1 → meaning_of number bytes ≡ IsWhole e → (entries_of number (bytes ++ line_break ∷ []) ≡ e ∷ []) × (kept_of number (bytes ++ line_break ∷ []) ≡ record { lines = next; bytes = [] })
 whole_outside number at next bytes e none is more means =
-    let w = meaning_whole number bytes e means in
-    (entries_outside number bytes none ∙ rw (w.1, w.2) (ap (λ x. x ∷ []) (sym w.0)),
-    kept_outside number bytes none ∙ rw w.2 (done_with number next (next_outside number at next bytes none is more)))
+    let w = meaning_whole number bytes e means in (
+      entries_outside number bytes none ∙ rw (w.1, w.2) (ap (λ x. x ∷ []) (sym w.0)),
+      kept_outside number bytes none ∙ rw w.2 (done_with number next (next_outside number at next bytes none is more)),
+    )
 
 pub text_outside : (waiting : Waiting) (number at next cut : ℕ) (bytes all : List ℕ) (head : Head) → all ≡ bytes ++ line_break ∷ [] → cut ≡ length all → whole_lines bytes ≡ [] → at ≡ number + length (whole_lines bytes) → next ≡ at + 1 → meaning_of number bytes ≡ BeginsText head → waiting.head ≡ head → IsTextOf waiting [] → (entries_of number (bytes ++ line_break ∷ []) ≡ []) × (kept_of number (bytes ++ line_break ∷ []) ≡ record { lines = number; bytes = all }) × Stands (Some waiting) number next cut all
 text_outside waiting number at next cut bytes all head is_all is_cut none is more means same is_text =
@@ -173,15 +175,16 @@ text_outside waiting number at next cut bytes all head is_all is_cut none is mor
       stands = refl;
       silent = refl;
       is_text = is_text;
-    } in
-    (entries_outside number bytes none ∙ rw (begins, or-true (is_empty bytes)) refl,
-    kept_outside number bytes none ∙ rw begins (ap (λ b. record { lines = number; bytes = b }) (sym is_all)),
-    record {
-      fits = rw whole waits;
-      number = rw whole (next_outside number at next bytes none is more ∙ add_one number);
-      rest = ap (λ n. drop n all) is_cut ∙ drop_all (length all) all (omega arith) ∙ sym (ap cut_line is_all ∙ cut_break bytes);
-      within = omega (arith, is_cut);
-    })
+    } in (
+      entries_outside number bytes none ∙ rw (begins, or-true (is_empty bytes)) refl,
+      kept_outside number bytes none ∙ rw begins (ap (λ b. record { lines = number; bytes = b }) (sym is_all)),
+      record {
+        fits = rw whole waits;
+        number = rw whole (next_outside number at next bytes none is more ∙ add_one number);
+        rest = ap (λ n. drop n all) is_cut ∙ drop_all (length all) all (omega arith) ∙ sym (ap cut_line is_all ∙ cut_break bytes);
+        within = omega (arith, is_cut);
+      },
+    )
   where
     add_one : (n : ℕ) → suc n ≡ n + 1
     add_one n = omega arith
@@ -221,9 +224,10 @@ pub dot_inside : (waiting : Waiting) (number at next cut : ℕ) (bytes : List �
 dot_inside waiting number at next cut bytes e stands more dot makes =
     let f = fits_some waiting number (whole_lines bytes) stands.fits in
     let made : e ≡ entry number f.0 f.1 true = makes f.0 f.1 f.3.says f.3.is_text in
-    let count : number + length f.1 + 2 ≡ next = omega (arith, stands.number, more, ap length f.2) in
-    (entries_inside waiting number bytes f.0 f.1 f.2 f.3 ∙ rw dot (ap (λ x. x ∷ []) (sym made)),
-    kept_inside waiting number bytes f.0 f.1 f.2 f.3 ∙ rw dot (ap (λ n. record { lines = n; bytes = [] }) count))
+    let count : number + length f.1 + 2 ≡ next = omega (arith, stands.number, more, ap length f.2) in (
+      entries_inside waiting number bytes f.0 f.1 f.2 f.3 ∙ rw dot (ap (λ x. x ∷ []) (sym made)),
+      kept_inside waiting number bytes f.0 f.1 f.2 f.3 ∙ rw dot (ap (λ n. record { lines = n; bytes = [] }) count),
+    )
 
 -- a line of a text makes no entry whole
 pub silent_inside : (waiting : Waiting) (number at cut : ℕ) (bytes : List ℕ) → Stands (Some waiting) number at cut bytes → is_dot (cut_line bytes) ≡ false → entries_of number (bytes ++ line_break ∷ []) ≡ []
@@ -256,14 +260,15 @@ line_inside waiting more_text number at next cut next_cut bytes all is_all is_cu
       stands = standing_further number f.0 f.1 (cut_line bytes) dot f.3.stands;
       silent = entries_further number f.0 f.1 (cut_line bytes) dot f.3.stands f.3.silent;
       is_text = adds f.1 f.3.is_text;
-    } in
-    (kept_inside waiting number bytes f.0 f.1 f.2 f.3 ∙ rw dot (ap (λ b. record { lines = number; bytes = b }) (bytes_kept ∙ sym is_all)),
-    rw (is_all, is_cut) (record {
-      fits = rw whole waits;
-      number = omega (arith, stands.number, more, ap length f.2, ap length whole, length-append f.1 (cut_line bytes ∷ []));
-      rest = drop_all (length bytes + 1) (bytes ++ line_break ∷ []) (omega (arith, length-append bytes (line_break ∷ []))) ∙ sym (cut_break bytes);
-      within = omega (arith, length-append bytes (line_break ∷ []));
-    }))
+    } in (
+      kept_inside waiting number bytes f.0 f.1 f.2 f.3 ∙ rw dot (ap (λ b. record { lines = number; bytes = b }) (bytes_kept ∙ sym is_all)),
+      rw (is_all, is_cut) (record {
+        fits = rw whole waits;
+        number = omega (arith, stands.number, more, ap length f.2, ap length whole, length-append f.1 (cut_line bytes ∷ []));
+        rest = drop_all (length bytes + 1) (bytes ++ line_break ∷ []) (omega (arith, length-append bytes (line_break ∷ []))) ∙ sym (cut_break bytes);
+        within = omega (arith, length-append bytes (line_break ∷ []));
+      }),
+    )
 
 -- ---- what is kept makes no entry whole, and is kept again
 

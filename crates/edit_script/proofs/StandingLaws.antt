@@ -1,18 +1,18 @@
 -- Laws of where a script stands: lines in two parts, and what is kept of a command that waits.
-use Rattle.std.proofs.Common.{◌≡◌, ℕ, suc, ◌+◌, List, [], ◌∷◌, ◌++◌, length, refl, ap, sym, ◌∙◌, append_assoc, Bool, true, false, arith}
-use Rattle.std.proofs.Common.{◌⊎◌, inl, inr}
-use Rattle.std.specs.Prelude.{not, ◌||◌, Result, Ok, Err, if◌then◌else◌}
+use Rattle.std.proofs.Common.{◌≡◌, ℕ, suc, ◌+◌, List, [], ◌∷◌, ◌++◌, length, refl, ap, sym, ◌∙◌, append_assoc, Bool, true, false}
+use Rattle.std.proofs.Common.{inl, inr}
+use Rattle.std.specs.Prelude.{not, Ok, Err, if◌then◌else◌}
 use Rattle.std.specs.Str.{chars, is_utf8}
 use Rattle.std.proofs.lemmas.List.{append-nil}
 use Rattle.std.proofs.lemmas.Str.{chars-nil}
 use Rattle.std.proofs.Math.Bool.{or-true}
-use Rattle.text_buffer.specs.TextOfBytes.{line_break, byte_lines, pieces_of}
+use Rattle.text_buffer.specs.TextOfBytes.{byte_lines}
 use Rattle.edit_script.specs.declared.commands.Entry.{Entry}
 use Rattle.edit_script.specs.declared.commands.ScriptFault.TheVariants.{BadUtf8, LongLine}
 use Rattle.edit_script.specs.CommandLine.{is_long, takes_text, with_chars}
 use Rattle.edit_script.specs.Kept.{Kept}
 use Rattle.edit_script.specs.Entries.{Standing, Between, InText, behind, made_whole, standing_behind, standing_in, entries_from, entries_of, entries_at_end, kept_of, unfinished, begins_text, is_dot, is_empty, broken, lines_before, lines_kept, whole_lines, cut_line}
-use Rattle.edit_script.proofs.PieceLaws.{IsLine, AllLines, whole_append, cut_append, whole_behind, cut_behind, whole_are_lines, cut_is_line, whole_break, cut_break, end_full, end_empty, no_whole}
+use Rattle.edit_script.proofs.PieceLaws.{IsLine, AllLines, whole_append, cut_append, whole_behind, cut_behind, whole_are_lines, end_full, end_empty, no_whole}
 
 pub standing_append : (s : Standing) (lines more : List (List ℕ)) → standing_behind s (lines ++ more) ≡ standing_behind (standing_behind s lines) more
 standing_append s [] more = refl
@@ -60,9 +60,12 @@ entries_further number line text next test stands silent =
 
 held_text : (number : ℕ) (line : List ℕ) (text : List (List ℕ)) (next : List ℕ) (dot : Bool) → is_dot next ≡ dot → Held (InText number line text) → IsLine next → Held (if dot then Between (number + length text + 2) else InText number line (text ++ next ∷ []))
 held_text number line text next true test held is = tt
-held_text number line text next false test held is =
-    (held.0, standing_further number line text next test held.1, entries_further number line text next test held.1 held.2,
-    (held.3.0, lines_append text (next ∷ []) held.3.1 (is, tt)))
+held_text number line text next false test held is = (
+  held.0,
+  standing_further number line text next test held.1,
+  entries_further number line text next test held.1 held.2,
+  (held.3.0, lines_append text (next ∷ []) held.3.1 (is, tt)),
+)
 
 held_behind : (s : Standing) (line : List ℕ) → Held s → IsLine line → Held (behind s line)
 held_behind (Between number) line held is = held_between number line (begins_text line) refl is
@@ -121,7 +124,7 @@ pub entries_two : (number : ℕ) (bytes more : List ℕ) → entries_of number (
 entries_two number bytes more =
     let s = standing_in number bytes in
     let kept : entries_of (lines_before s) (broken (lines_kept s) ++ cut_line bytes ++ more) ≡ entries_from s (whole_lines (cut_line bytes ++ more)) =
-        ap (λ b. entries_of (lines_before s) b) (append_assoc (broken (lines_kept s)) (cut_line bytes) more) ∙ entries_kept s (cut_line bytes) more (held_in number bytes) in
+    ap (λ b. entries_of (lines_before s) b) (append_assoc (broken (lines_kept s)) (cut_line bytes) more) ∙ entries_kept s (cut_line bytes) more (held_in number bytes) in
     ap (λ ls. entries_from (Between number) ls) (whole_append bytes more)
     ∙ entries_append (Between number) (whole_lines bytes) (whole_lines (cut_line bytes ++ more))
     ∙ ap (λ es. entries_of number bytes ++ es) (sym kept)
@@ -159,7 +162,7 @@ one_more : (number : ℕ) (whole : List (List ℕ)) (cut : List ℕ) → entries
 one_more number whole cut =
     let s = standing_behind (Between number) whole in
     let first : entries_from (Between number) (whole ++ cut ∷ []) ≡ entries_from (Between number) whole ++ made_whole s cut =
-        entries_append (Between number) whole (cut ∷ []) ∙ ap (λ es. entries_from (Between number) whole ++ es) (append-nil (made_whole s cut)) in
+    entries_append (Between number) whole (cut ∷ []) ∙ ap (λ es. entries_from (Between number) whole ++ es) (append-nil (made_whole s cut)) in
     ap (λ es. es ++ unfinished (standing_behind (Between number) (whole ++ cut ∷ []))) first
     ∙ ap (λ t. entries_from (Between number) whole ++ made_whole s cut ++ unfinished t) (standing_append (Between number) whole (cut ∷ []))
     ∙ append_assoc (entries_from (Between number) whole) (made_whole s cut) (unfinished (behind s cut))
@@ -183,14 +186,14 @@ end_two number bytes =
     let silent : entries_of kept.lines kept.bytes ≡ [] = silent_kept number bytes in
     end_at number bytes (cut_line bytes) refl
     ∙ ap (λ es. entries_of number bytes ++ es)
-      (sym (end_at kept.lines kept.bytes (cut_line bytes) cut
-        ∙ ap (λ es. es ++ last_entries (standing_in kept.lines kept.bytes) (cut_line bytes)) silent
-        ∙ ap (λ s. last_entries s (cut_line bytes)) stands))
+    (sym (end_at kept.lines kept.bytes (cut_line bytes) cut
+    ∙ ap (λ es. es ++ last_entries (standing_in kept.lines kept.bytes) (cut_line bytes)) silent
+    ∙ ap (λ s. last_entries s (cut_line bytes)) stands))
   where
     silent_kept : (number : ℕ) (bytes : List ℕ) → entries_of (kept_of number bytes).lines (kept_of number bytes).bytes ≡ []
     silent_kept number bytes =
         let s = standing_in number bytes in
         let whole : whole_lines (broken (lines_kept s) ++ cut_line bytes) ≡ lines_kept s =
-            whole_behind (lines_kept s) (cut_line bytes) (kept_lines s (held_in number bytes))
-            ∙ ap (λ ls. lines_kept s ++ ls) (no_whole bytes) ∙ append-nil (lines_kept s) in
+        whole_behind (lines_kept s) (cut_line bytes) (kept_lines s (held_in number bytes))
+        ∙ ap (λ ls. lines_kept s ++ ls) (no_whole bytes) ∙ append-nil (lines_kept s) in
         ap (λ ls. entries_from (Between (lines_before s)) ls) whole ∙ silent_again s (held_in number bytes)

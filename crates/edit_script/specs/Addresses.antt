@@ -1,7 +1,7 @@
--- Addresses and ranges (Vim's help, :range). An address is digits, or `$` for the last line. A range is
--- an address, two with a comma, or `%`, which is `1,$`. There are no blanks. An address of more than 18
--- digits has its form, and names no line.
-use Rattle.std.specs.Prelude.{ℕ, ◌+◌, ◌-◌, ◌*◌, ◌==◌, nat_le, Bool, true, false, List, [], ◌∷◌, length, drop, Option, Some, None, if◌then◌else◌}
+-- Addresses and ranges (Vim's help, :range). An address is digits, or `$` for the last line. A
+-- range is an address, two with a comma, or `%`, which is `1,$`. There are no blanks. An address of
+-- more than 18 digits has its form, and names no line.
+use Rattle.std.specs.Prelude.{ℕ, ◌+◌, ◌-◌, ◌*◌, ◌==◌, nat_le, true, false, List, [], ◌∷◌, length, drop, Option, Some, None, if◌then◌else◌}
 use Rattle.std.specs.List.{prefix_len, take_while}
 use Rattle.text_scan.specs.Characters.{is_digit}
 use Rattle.edit_script.specs.declared.commands.Last.{Last}
@@ -35,7 +35,8 @@ number_behind number (digit ∷ digits) = number_behind (number * 10 + (digit - 
 
 -- the line that digits name, if they aren't too many
 abbrev pub line_of : List ℕ → Option Last
-line_of digits = if nat_le (length digits) most_digits then Some (Number (number_behind 0 digits)) else None
+line_of digits =
+    if nat_le (length digits) most_digits then Some (Number (number_behind 0 digits)) else None
 
 -- the address at the front of a text, and what follows it
 abbrev pub address_at : List ℕ → Option (Option Last × List ℕ)
@@ -60,7 +61,8 @@ with_last first (Some found) = Some (lines_between first found.0, found.1)
 -- a range that begins with this address, before this text
 abbrev pub range_from : Option Last → List ℕ → Option (Range × List ℕ)
 range_from first [] = Some (one_line first, [])
-range_from first (c ∷ cs) = if c == comma then with_last first (address_at cs) else Some (one_line first, c ∷ cs)
+range_from first (c ∷ cs) =
+    if c == comma then with_last first (address_at cs) else Some (one_line first, c ∷ cs)
 
 abbrev pub with_first : Option (Option Last × List ℕ) → Option (Range × List ℕ)
 with_first None = None

@@ -1,11 +1,11 @@
--- The line of a command: `H`, or a range, the letter of a verb and for `m` and `t` one address more, with
--- nothing behind. Before `a` and `i` stands one address. The form is asked for first, with addresses of
--- any number of digits.
+-- The line of a command: `H`, or a range, the letter of a verb and for `m` and `t` one address
+-- more, with nothing behind. Before `a` and `i` stands one address. The form is asked for first,
+-- with addresses of any number of digits.
 use Rattle.std.specs.Prelude.{ℕ, ◌==◌, nat_lt, not, Bool, true, false, List, [], ◌∷◌, length, codes, Option, Some, None, Result, Ok, Err, option_map, if◌then◌else◌}
 use Rattle.std.specs.Str.{bytes_eq, chars, is_utf8}
 use Rattle.text_buffer.specs.TextOfBytes.{most_chars}
 use Rattle.edit_script.specs.declared.commands.Last.{Last}
-use Rattle.edit_script.specs.declared.commands.Last.TheVariants.{Number, End}
+use Rattle.edit_script.specs.declared.commands.Last.TheVariants.{End}
 use Rattle.edit_script.specs.declared.commands.Verb.{Verb}
 pub use Rattle.edit_script.specs.declared.commands.Verb.TheVariants as does
 use Rattle.edit_script.specs.declared.commands.ScriptFault.{ScriptFault}
@@ -20,11 +20,15 @@ abbrev pub order_of : Option Last → Option Last → Option Verb → Option Ord
 order_of None last verb = None
 order_of (Some first) None verb = None
 order_of (Some first) (Some last) None = None
-order_of (Some first) (Some last) (Some verb) = Some (record { first = first; last = last; verb = verb })
+order_of (Some first) (Some last) (Some verb) =
+    Some (record { first = first; last = last; verb = verb })
 
 -- a verb at the end of the line
 abbrev pub ended : Range → Bool → Verb → List ℕ → Option Head
-ended range takes_text verb [] = Some (record { takes_text = takes_text; order = order_of range.first range.last (Some verb) })
+ended range takes_text verb [] = Some (record {
+  takes_text = takes_text;
+  order = order_of range.first range.last (Some verb);
+})
 ended range takes_text verb (c ∷ cs) = None
 
 -- a verb that takes one address
@@ -43,7 +47,10 @@ destination text = last_address (address_at text)
 -- a verb with its destination
 abbrev pub at_destination : Range → (Last → Verb) → Option (Option Last) → Option Head
 at_destination range verb None = None
-at_destination range verb (Some line) = Some (record { takes_text = false; order = order_of range.first range.last (option_map verb line) })
+at_destination range verb (Some line) = Some (record {
+  takes_text = false;
+  order = order_of range.first range.last (option_map verb line);
+})
 
 -- the letters, of which 97 is `a`
 abbrev pub verb_behind : Range → List ℕ → Option Head

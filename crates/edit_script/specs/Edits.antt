@@ -1,7 +1,7 @@
--- What a command does to a text. Lines are meant from 1; line 0 stands before the first one, and only what
--- puts lines behind a line takes it, and `i`, where it is as 1. The result speaks of lines from 0, half
--- open.
-use Rattle.std.specs.Prelude.{ℕ, ◌+◌, ◌-◌, ◌<◌, nat_eq, nat_le, nat_lt, Bool, true, false, not, ◌&&◌, ◌||◌, List, [], ◌∷◌, ◌++◌, length, take, drop, slice_range, Option, Some, None, Result, Ok, Err, if◌then◌else◌}
+-- What a command does to a text. Addresses count lines from 1; line 0 stands before the first one,
+-- and only what puts lines behind a line takes it, and `i`, for which it is as 1. The result speaks
+-- of lines from 0, half open.
+use Rattle.std.specs.Prelude.{ℕ, ◌+◌, ◌-◌, nat_eq, nat_le, nat_lt, ◌&&◌, ◌||◌, List, [], ◌∷◌, ◌++◌, length, take, drop, slice_range, Option, Some, None, Result, Ok, Err, if◌then◌else◌}
 use Rattle.text_buffer.specs.TextOfBytes.{most_lines}
 use Rattle.edit_script.specs.declared.commands.Last.{Last}
 use Rattle.edit_script.specs.declared.commands.Last.TheVariants.{Number, End}
@@ -48,7 +48,9 @@ backwards first last = if nat_lt last first then Some Backwards else None
 -- the destination is at least the first and below the last line of the range
 abbrev pub into_self : Verb → ℕ → ℕ → ℕ → Option ResolveError
 into_self (Move to) first last count =
-    if nat_le first (line_named to count) && nat_lt (line_named to count) last then Some MoveIntoSelf else None
+    if nat_le first (line_named to count) && nat_lt (line_named to count) last
+    then Some MoveIntoSelf
+    else None
 into_self verb first last count = None
 
 -- what the command does, if no cause stands against it: `first - 1` is 0 also for line 0
@@ -73,7 +75,7 @@ too_many_lines (does.CopyTo a b dest) new count = too_many (count + (b - a))
 too_many_lines (does.Print a b) new count = None
 too_many_lines does.Page new count = None
 
--- the first cause from the left: the addresses, then the range, then the destination, then the count
+-- the first cause: the addresses from the left, then the range, the destination in it, the count
 abbrev pub first_cause : EditCommand → ℕ → Option ResolveError
 first_cause command count =
     let first = line_named command.first count in
@@ -103,31 +105,39 @@ pub record Replacement : Type 0 where
   pub b : ℕ
   pub new : List (List ℕ)
 
+abbrev pub lines_become : ℕ → ℕ → List (List ℕ) → Replacement
+lines_become a b new = record { a = a; b = b; new = new }
+
 -- a text left without lines is one empty line, which is new
 abbrev pub put_in_place : List (List ℕ) → ℕ → ℕ → List (List ℕ) → Replacement
-put_in_place text a b [] = record { a = a; b = b; new = if nat_eq (length text) (b - a) then [] ∷ [] else [] }
-put_in_place text a b (line ∷ lines) = record { a = a; b = b; new = line ∷ lines }
+put_in_place text a b [] =
+    lines_become a b (if nat_eq (length text) (b - a) then [] ∷ [] else [])
+put_in_place text a b (line ∷ lines) = lines_become a b (line ∷ lines)
 
--- the lines from the first to the last that change their place; none where the lines come where they stand
+-- the lines from the first to the last that change their place; none where they come where they
+-- stand
 abbrev pub moved : List (List ℕ) → ℕ → ℕ → ℕ → Replacement
 moved text a b dest =
-    if nat_lt dest a then record { a = dest; b = b; new = slice_range text a b ++ slice_range text dest a }
-    else if nat_lt b dest then record { a = a; b = dest; new = slice_range text b dest ++ slice_range text a b }
-    else record { a = a; b = a; new = [] }
+    if nat_lt dest a then lines_become dest b (slice_range text a b ++ slice_range text dest a)
+    else if nat_lt b dest then lines_become a dest (slice_range text b dest ++ slice_range text a b)
+    else lines_become a a []
 
 -- the replacement of the lines of a text, where the command is an edit
 abbrev pub replacement : List (List ℕ) → Resolved → List (List ℕ) → Option Replacement
 replacement text (does.Replace a b) new = Some (put_in_place text a b new)
 replacement text (does.Move a b dest) new = Some (moved text a b dest)
-replacement text (does.CopyTo a b dest) new = Some (record { a = dest; b = dest; new = slice_range text a b })
+replacement text (does.CopyTo a b dest) new = Some (lines_become dest dest (slice_range text a b))
 replacement text (does.Print a b) new = None
 replacement text does.Page new = None
 
-abbrev pub replacement_or_cause : List (List ℕ) → Result Resolved ResolveError → List (List ℕ) → Result (Option Replacement) ResolveError
+abbrev pub replacement_or_cause :
+    List (List ℕ) → Result Resolved ResolveError → List (List ℕ)
+    → Result (Option Replacement) ResolveError
 replacement_or_cause text (Ok resolved) new = Ok (replacement text resolved new)
 replacement_or_cause text (Err cause) new = Err cause
 
--- what a command does to a text, which has at least one line: a replacement, nothing, or its first cause
+-- what a command does to a text, which has at least one line: a replacement, nothing, or the first
+-- cause against it
 abbrev pub edit_of : List (List ℕ) → EditCommand → Result (Option Replacement) ResolveError
 edit_of text command = replacement_or_cause text (resolved_of command (length text)) command.lines
 

@@ -1,6 +1,6 @@
--- What stands in a script. Line by line, an empty line is skipped, the line of an `a`, `i` or `c` begins a
--- text, which goes on up to its dot, and each other line is a command by itself. A line that isn't a
--- command begins no text.
+-- What stands in a script. Line by line, an empty line is skipped, the line of an `a`, `i` or `c`
+-- begins a text, which goes on up to its dot, and each other line is a command by itself. A line
+-- that isn't a command begins no text.
 use Rattle.std.specs.Prelude.{ℕ, suc, ◌+◌, Bool, true, false, not, ◌&&◌, ◌||◌, List, [], ◌∷◌, ◌++◌, length, map, codes, Option, Some, None, Result, Ok, Err, if◌then◌else◌}
 use Rattle.std.specs.Str.{bytes_eq, chars, is_utf8}
 use Rattle.text_buffer.specs.TextOfBytes.{byte_lines, line_break, pieces_of}
@@ -25,15 +25,22 @@ has_long_line [] = false
 has_long_line (line ∷ lines) = (is_utf8 line && is_long line) || has_long_line lines
 
 abbrev pub command_of : Order → List (List ℕ) → EditCommand
-command_of order text = record { first = order.first; last = order.last; verb = order.verb; lines = map chars text }
+command_of order text = record {
+  first = order.first;
+  last = order.last;
+  verb = order.verb;
+  lines = map chars text;
+}
 
 -- a command whose lines are well: its addresses come before its missing dot
 abbrev pub with_order : Option Order → List (List ℕ) → Bool → Result EditCommand ScriptFault
 with_order None text ended = Err BadAddress
-with_order (Some order) text ended = if ended then Ok (command_of order text) else Err UnfinishedText
+with_order (Some order) text ended =
+    if ended then Ok (command_of order text) else Err UnfinishedText
 
 -- a command with the lines of its text, and whether its dot stands behind them
-abbrev pub with_text : Result Head ScriptFault → List (List ℕ) → Bool → Result EditCommand ScriptFault
+abbrev pub with_text :
+    Result Head ScriptFault → List (List ℕ) → Bool → Result EditCommand ScriptFault
 with_text (Err fault) text ended = Err fault
 with_text (Ok head) text ended =
     if has_bad_line text then Err BadUtf8
@@ -42,12 +49,15 @@ with_text (Ok head) text ended =
 
 -- the entry of a command in line `number`, from 0
 abbrev pub entry : ℕ → List ℕ → List (List ℕ) → Bool → Entry
-entry number line text ended = record { line = number; what = with_text (line_head line) text ended }
+entry number line text ended = record {
+  line = number;
+  what = with_text (line_head line) text ended;
+}
 
 -- ---- line by line
 
--- where a script stands: before the line of a command, the number of which is told; or in the text of
--- the command whose line has this number, whose line this is, and that has these lines so far
+-- where a script stands: before the line of a command, which has this number; or in the text of the
+-- command whose line has this number, whose line this is, and that has these lines so far
 pub data Standing : Type 0 where
   Between : ℕ → Standing
   InText : ℕ → List ℕ → List (List ℕ) → Standing
@@ -64,15 +74,18 @@ begins_text line = takes_text (line_head line)
 
 -- where it stands behind one line more
 abbrev pub behind : Standing → List ℕ → Standing
-behind (Between number) line = if begins_text line then InText number line [] else Between (suc number)
+behind (Between number) line =
+    if begins_text line then InText number line [] else Between (suc number)
 behind (InText number line text) next =
-    if is_dot next then Between (number + length text + 2) else InText number line (text ++ next ∷ [])
+    if is_dot next then Between (number + length text + 2)
+    else InText number line (text ++ next ∷ [])
 
 -- the entry that one line more makes whole, if it does
 abbrev pub made_whole : Standing → List ℕ → List Entry
 made_whole (Between number) line =
     if is_empty line || begins_text line then [] else entry number line [] true ∷ []
-made_whole (InText number line text) next = if is_dot next then entry number line text true ∷ [] else []
+made_whole (InText number line text) next =
+    if is_dot next then entry number line text true ∷ [] else []
 
 abbrev pub standing_behind : Standing → List (List ℕ) → Standing
 standing_behind standing [] = standing
@@ -80,7 +93,8 @@ standing_behind standing (line ∷ lines) = standing_behind (behind standing lin
 
 abbrev pub entries_from : Standing → List (List ℕ) → List Entry
 entries_from standing [] = []
-entries_from standing (line ∷ lines) = made_whole standing line ++ entries_from (behind standing line) lines
+entries_from standing (line ∷ lines) =
+    made_whole standing line ++ entries_from (behind standing line) lines
 
 -- where the script ends, a text lacks its dot
 abbrev pub unfinished : Standing → List Entry

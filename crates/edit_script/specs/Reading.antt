@@ -1,7 +1,6 @@
 -- Reading in the middle of a script: what is known of the command that waits for its dot.
-use Rattle.std.specs.Prelude.{ℕ, ◌≡◌, ◌≤◌, ◌+◌, Bool, true, false, List, [], ◌∷◌, ◌++◌, length, drop, map, Option, Some, None, Result, Ok, Err, if◌then◌else◌}
+use Rattle.std.specs.Prelude.{ℕ, ◌≡◌, ◌≤◌, ◌+◌, true, false, List, [], ◌∷◌, length, drop, map, Option, Some, None, Result, Ok, Err, if◌then◌else◌}
 use Rattle.std.specs.Str.{chars}
-use Rattle.edit_script.specs.declared.commands.Entry.{Entry}
 use Rattle.edit_script.specs.declared.commands.ScriptFault.{ScriptFault}
 use Rattle.edit_script.specs.declared.commands.ScriptFault.TheVariants.{BadUtf8}
 use Rattle.edit_script.specs.declared.head.Head.{Head}
@@ -11,7 +10,7 @@ use Rattle.edit_script.specs.declared.reader.Meaning.TheVariants.{Nothing, Begin
 use Rattle.edit_script.specs.declared.reader.Reader.{Reader}
 use Rattle.edit_script.specs.CommandLine.{line_head}
 use Rattle.edit_script.specs.Kept.{Kept}
-use Rattle.edit_script.specs.Entries.{Standing, Between, InText, standing_behind, entries_from, entry, has_bad_line, has_long_line, whole_lines, cut_line}
+use Rattle.edit_script.specs.Entries.{InText, standing_behind, entries_from, entry, has_bad_line, has_long_line, whole_lines, cut_line}
 
 -- these lines of bytes are those of the text that was read
 pub record IsTextOf (waiting : Waiting) (text : List (List ℕ)) : Type 0 where
@@ -25,7 +24,8 @@ with_fault waiting BadUtf8 = record waiting { has_bad_line = true }
 with_fault waiting fault = record waiting { has_long_line = true }
 
 -- the command with this line and text waits
-pub record Waits (waiting : Waiting) (number : ℕ) (line : List ℕ) (text : List (List ℕ)) : Type 0 where
+pub record Waits (waiting : Waiting) (number : ℕ) (line : List ℕ) (text : List (List ℕ))
+    : Type 0 where
   pub says : line_head line ≡ Ok waiting.head
   pub takes : waiting.head.takes_text ≡ true
   pub stands : standing_behind (InText number line []) text ≡ InText number line text
@@ -54,7 +54,8 @@ seen reader = record { lines = reader.lines; bytes = reader.bytes.items }
 -- what a line means that stands outside of a text
 abbrev pub head_meaning : ℕ → List ℕ → Result Head ScriptFault → Meaning
 head_meaning number line (Err fault) = IsWhole (entry number line [] true)
-head_meaning number line (Ok head) = if head.takes_text then BeginsText head else IsWhole (entry number line [] true)
+head_meaning number line (Ok head) =
+    if head.takes_text then BeginsText head else IsWhole (entry number line [] true)
 
 abbrev pub meaning_of : ℕ → List ℕ → Meaning
 meaning_of number [] = Nothing

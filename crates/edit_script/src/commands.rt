@@ -1,6 +1,6 @@
 //! The commands of a script, their faults, and what a command does to a text of so many lines.
-use text_buffer::Line;
 use syn_base::List;
+use text_buffer::Line;
 
 /// An address: a line by its number, from 1, where 0 stands before the first one; or the last line.
 #[derive(Clone, Copy, Debug, PartialEq, Eq)]

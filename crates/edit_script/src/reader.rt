@@ -5,8 +5,8 @@ ghost use Rattle.edit_script.specs.Entries as spec;
 ghost use Rattle.edit_script.specs.Entries.{cut_line, entries_at_end, entries_of, kept_of, standing_in, unfinished};
 ghost use Rattle.edit_script.specs.Reading.{IsReading, meaning_of, seen};
 
-use crate::head::Head;
 use crate::Entry;
+use crate::head::Head;
 use crate::waiting::{Waiting, line_head, without_text};
 use std::alloc::Global;
 use syn_base::{List, Memory};

@@ -92,7 +92,8 @@ fn has_too_many_lines(resolved: Resolved, new: usize, count: usize) -> bool
     }
 }
 
-/// What the command does to a text of `count` lines, or the first cause against it. It takes no memory.
+/// What the command does to a text of `count` lines, or the first cause against it. It takes no
+/// memory.
 pub fn resolve(command: &EditCommand, count: usize) -> Result<Resolved, ResolveError>
     requires { 1 ≤ count }
     ensures { result ≡ spec.resolved_of command.now count }

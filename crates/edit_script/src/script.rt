@@ -48,8 +48,8 @@ impl Script {
     }
 
     /// The entries that become whole with this piece: those whose last line is whole, with its line
-    /// break, in what is kept followed by the piece. A command whose text has no dot yet waits. Lines
-    /// are counted from 0.
+    /// break, in what is kept followed by the piece. A command whose text has no dot yet waits.
+    /// Lines are counted from 0. For want of memory a part of the piece may have been taken.
     pub fn feed(&mut self, piece: &[u8]) -> Result<List<Entry>, Memory>
         ensures entries { IfOk result (λ entries.
             entries ≡ entries_of self.old.lines (self.old.bytes ++ piece.now)) }

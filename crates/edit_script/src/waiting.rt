@@ -29,10 +29,7 @@ fn char_count(text: &str) -> usize
 }
 
 /// The characters of a line, or what is wrong with it.
-pub(crate) fn line_chars(
-    alloc: Global,
-    bytes: &[u8],
-) -> Result<Result<Line, ScriptFault>, Memory>
+pub(crate) fn line_chars(alloc: Global, bytes: &[u8]) -> Result<Result<Line, ScriptFault>, Memory>
     ensures { IfOk result (λ line. line ≡ spec.line_chars bytes.now) }
 {
     let Ok(text) = simdutf8::compat::from_utf8(bytes) else {
@@ -70,7 +67,11 @@ pub(crate) fn without_text(alloc: Global, head: Head) -> Waiting
     }
 }
 
-fn with_order(order: Option<Order>, lines: List<Line>, ended: bool) -> Result<EditCommand, ScriptFault>
+fn with_order(
+    order: Option<Order>,
+    lines: List<Line>,
+    ended: bool,
+) -> Result<EditCommand, ScriptFault>
     ensures { (text : List (List ℕ)) → lines ≡ map chars text
         → result ≡ with_order order text ended }
 {

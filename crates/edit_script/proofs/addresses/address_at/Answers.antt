@@ -1,4 +1,3 @@
-use Rattle.std.proofs.Common.{◌≡◌}
 use Rattle.edit_script.proofs.NumberLaws.{all_in_front}
 use Rattle.edit_script.proofs.addresses.address_at.Goals as goal
 

@@ -1,5 +1,5 @@
-use Rattle.std.proofs.Common.{◌≡◌, ◌+◌, ◌-◌, ◌*◌, ◌≤◌, suc, ap, ◌∙◌, arith}
-use Rattle.edit_script.proofs.NumberLaws.{tens, fits_now, fits_next, digit_read, digit_small}
+use Rattle.std.proofs.Common.{◌≡◌, ◌+◌, ◌-◌, ◌≤◌, suc, ◌∙◌, arith}
+use Rattle.edit_script.proofs.NumberLaws.{fits_now, fits_next, digit_read, digit_small}
 use Rattle.edit_script.proofs.addresses.number_of.Goals as goal
 
 pub overflow_mul-number : goal.overflow_mul-number

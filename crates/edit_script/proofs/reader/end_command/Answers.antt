@@ -1,7 +1,6 @@
-use Rattle.std.proofs.Common.{◌≡◌, ◌++◌, ◌∷◌, [], length, ap, sym, ◌∙◌, rules}
+use Rattle.std.proofs.Common.{◌≡◌, ◌++◌, [], length, ap, sym, ◌∙◌, rules}
 use Rattle.std.proofs.lemmas.List.{append-nil}
-use Rattle.text_buffer.specs.TextOfBytes.{line_break}
-use Rattle.edit_script.specs.Entries.{entries_of, whole_lines}
+use Rattle.edit_script.specs.Entries.{whole_lines}
 use Rattle.edit_script.specs.Reading.{meaning_of}
 use Rattle.edit_script.specs.declared.reader.Meaning.TheVariants.{Nothing, BeginsText, IsWhole}
 use Rattle.edit_script.proofs.ReaderLaws.{kept_by, nothing_outside, whole_outside, text_outside}

@@ -1,4 +1,4 @@
-use Rattle.std.proofs.Common.{◌≡◌, ◌≤◌, ◌<◌, length, rules}
+use Rattle.std.proofs.Common.{◌≤◌, ◌<◌, length, rules}
 use Rattle.edit_script.specs.Reading.{seen}
 use Rattle.edit_script.proofs.FeedLaws.{ends_full, ends_empty, on_ok_two}
 use Rattle.edit_script.proofs.reader.end_last_line.Goals as goal

@@ -1,8 +1,8 @@
-use Rattle.std.proofs.Common.{◌≡◌, ◌++◌, ◌∷◌, [], ap, sym, ◌∙◌}
+use Rattle.std.proofs.Common.{◌≡◌, ◌++◌, [], ap, sym, ◌∙◌}
 use Rattle.std.specs.Prelude.{Some, true, false}
 use Rattle.std.proofs.lemmas.List.{append-nil}
 use Rattle.std.proofs.lemmas.Result.{on_ok_weaker}
-use Rattle.edit_script.specs.Entries.{cut_line, entries_of, is_dot}
+use Rattle.edit_script.specs.Entries.{cut_line, is_dot}
 use Rattle.edit_script.specs.Reading.{Stands}
 use Rattle.edit_script.proofs.ReaderLaws.{cut_slice, dot_inside, kept_by, silent_inside}
 use Rattle.edit_script.proofs.reader.end_line.Goals as goal

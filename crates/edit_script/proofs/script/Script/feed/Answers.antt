@@ -1,4 +1,4 @@
-use Rattle.std.proofs.Common.{◌≡◌, ◌++◌, ◌∷◌, [], refl, ap, sym, ◌∙◌}
+use Rattle.std.proofs.Common.{◌≡◌, ◌++◌, ◌∷◌, [], refl, ap, sym}
 use Rattle.text_buffer.specs.TextOfBytes.{line_break}
 use Rattle.edit_script.specs.Entries.{entries_of, kept_of}
 use Rattle.edit_script.specs.Kept.{Kept}
@@ -38,9 +38,9 @@ returns c =
     let e = c.in_ok-extend-2.ensures in
     let old = c.args.self.now in
     let entries : c.loop-end.entries ≡ entries_of old.lines (old.bytes ++ c.args.piece.now) =
-        entries_last n.waiting n.lines r.lines n.at n.cut r.bytes.items c.loop-end.rest.now n.bytes.items _ c.loop-end.entries e.lines e.more e.reading c.loop-end.invariant.entries in
+    entries_last n.waiting n.lines r.lines n.at n.cut r.bytes.items c.loop-end.rest.now n.bytes.items _ c.loop-end.entries e.lines e.more e.reading c.loop-end.invariant.entries in
     let kept : seen n ≡ kept_of old.lines (old.bytes ++ c.args.piece.now) =
-        kept_last n.waiting n.lines r.lines n.at n.cut r.bytes.items c.loop-end.rest.now n.bytes.items _ e.lines e.more e.reading c.loop-end.invariant.kept in
+    kept_last n.waiting n.lines r.lines n.at n.cut r.bytes.items c.loop-end.rest.now n.bytes.items _ e.lines e.more e.reading c.loop-end.invariant.kept in
     record {
       entries = entries;
       kept = kept;

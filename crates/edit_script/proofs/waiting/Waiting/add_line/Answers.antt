@@ -1,7 +1,6 @@
-use Rattle.std.proofs.Common.{◌≡◌, sym, ◌∙◌, ap}
-use Rattle.std.specs.Prelude.{◌++◌, ◌∷◌, [], Ok, Err}
+use Rattle.std.proofs.Common.{◌≡◌, sym, ◌∙◌}
+use Rattle.std.specs.Prelude.{Ok, Err}
 use Rattle.edit_script.specs.CommandLine.{line_chars}
-use Rattle.edit_script.specs.Reading.{IsTextOf}
 use Rattle.edit_script.proofs.TextLaws.{with_good_line, with_faulty_line}
 use Rattle.edit_script.proofs.waiting.Waiting.add_line.Goals as goal
 

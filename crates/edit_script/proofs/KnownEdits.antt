@@ -1,0 +1,142 @@
+-- Commands, and what they do to texts.
+use Rattle.std.proofs.Common.{◌≡◌, ℕ, List, [], ◌∷◌, refl}
+use Rattle.std.specs.Prelude.{codes, Option, Some, None, Result, Ok, Err}
+use Rattle.edit_script.specs.declared.commands.EditCommand.{EditCommand}
+use Rattle.edit_script.specs.declared.commands.Last.{Last}
+use Rattle.edit_script.specs.declared.commands.Last.TheVariants.{Number, End}
+use Rattle.edit_script.specs.declared.commands.Resolved.TheVariants as does
+use Rattle.edit_script.specs.declared.commands.ResolveError.{ResolveError}
+use Rattle.edit_script.specs.declared.commands.ResolveError.TheVariants.{NoLine, Backwards, MoveIntoSelf, TooManyLines}
+use Rattle.edit_script.specs.declared.commands.Verb.{Verb}
+use Rattle.edit_script.specs.declared.commands.Verb.TheVariants.{Append, Insert, Change, Delete, Move, CopyTo, Print, Page}
+use Rattle.edit_script.specs.Edits.{Replacement, edit_of, replaced, resolved_of}
+
+abbrev of : Last → Last → Verb → EditCommand
+of first last verb = record { first = first; last = last; verb = verb; lines = [] }
+
+abbrev at : ℕ → Verb → EditCommand
+at n verb = of (Number n) (Number n) verb
+
+abbrev with : ℕ → Verb → List (List ℕ) → EditCommand
+with n verb lines = record { first = Number n; last = Number n; verb = verb; lines = lines }
+
+-- ---- in numbers
+
+no_line : resolved_of (at 9 Delete) 3 ≡ Err (NoLine 9)
+no_line = refl
+
+-- of two addresses outside the first from the left; and before the range is looked at
+first_outside : resolved_of (of (Number 2) (Number 1) (Move (Number 9))) 1 ≡ Err (NoLine 2)
+first_outside = refl
+
+last_outside : resolved_of (of (Number 1) (Number 7) (Move (Number 9))) 3 ≡ Err (NoLine 7)
+last_outside = refl
+
+destination_outside : resolved_of (of (Number 2) (Number 1) (Move (Number 9))) 3 ≡ Err (NoLine 9)
+destination_outside = refl
+
+backwards : resolved_of (of (Number 2) (Number 1) Delete) 4 ≡ Err Backwards
+backwards = refl
+
+into_self : resolved_of (of (Number 1) (Number 3) (Move (Number 2))) 4 ≡ Err MoveIntoSelf
+into_self = refl
+
+into_its_first_line : resolved_of (of (Number 1) (Number 3) (Move (Number 1))) 4 ≡ Err MoveIntoSelf
+into_its_first_line = refl
+
+behind_its_last_line : resolved_of (of (Number 1) (Number 3) (Move (Number 3))) 4 ≡ Ok (does.Move 0 3 3)
+behind_its_last_line = refl
+
+to_the_end : resolved_of (of (Number 1) (Number 2) (Move (Number 4))) 4 ≡ Ok (does.Move 0 2 4)
+to_the_end = refl
+
+-- `0i` is as `1i`
+before_line_0 : resolved_of (with 0 Insert (codes "x" ∷ [])) 3 ≡ Ok (does.Replace 0 0)
+before_line_0 = refl
+
+before_line_1 : resolved_of (with 1 Insert (codes "x" ∷ [])) 3 ≡ Ok (does.Replace 0 0)
+before_line_1 = refl
+
+behind_line_0 : resolved_of (with 0 Append (codes "x" ∷ [])) 3 ≡ Ok (does.Replace 0 0)
+behind_line_0 = refl
+
+behind_the_last_line : resolved_of (of End End Append) 3 ≡ Ok (does.Replace 3 3)
+behind_the_last_line = refl
+
+line_0_in_place : resolved_of (at 0 Change) 3 ≡ Err (NoLine 0)
+line_0_in_place = refl
+
+copy_to_the_front : resolved_of (at 1 (CopyTo (Number 0))) 1 ≡ Ok (does.CopyTo 0 1 0)
+copy_to_the_front = refl
+
+all_lines : resolved_of (of (Number 1) End Delete) 5 ≡ Ok (does.Replace 0 5)
+all_lines = refl
+
+a_page : resolved_of (of End End Page) 1 ≡ Ok does.Page
+a_page = refl
+
+lines_printed : resolved_of (of (Number 2) End Print) 3 ≡ Ok (does.Print 1 3)
+lines_printed = refl
+
+one_line_too_many : resolved_of (with 1 Append (codes "x" ∷ [])) 2000000 ≡ Err TooManyLines
+one_line_too_many = refl
+
+as_many_as_fit : resolved_of (with 1 Append (codes "x" ∷ [])) 1999999 ≡ Ok (does.Replace 1 1)
+as_many_as_fit = refl
+
+one_for_one : resolved_of (with 1 Change (codes "x" ∷ [])) 2000000 ≡ Ok (does.Replace 0 1)
+one_for_one = refl
+
+too_many_copies : resolved_of (of (Number 1) End (CopyTo End)) 1000001 ≡ Err TooManyLines
+too_many_copies = refl
+
+-- ---- in texts
+
+abbrev a : List ℕ
+a = codes "a"
+
+abbrev b : List ℕ
+b = codes "b"
+
+abbrev c : List ℕ
+c = codes "c"
+
+abbrev three : List (List ℕ)
+three = a ∷ b ∷ c ∷ []
+
+abbrev replaces : ℕ → ℕ → List (List ℕ) → Result (Option Replacement) ResolveError
+replaces from to new = Ok (Some (record { a = from; b = to; new = new }))
+
+-- a text left without lines is one empty line
+nothing_left : edit_of three (of (Number 1) End Delete) ≡ replaces 0 3 ([] ∷ [])
+nothing_left = refl
+
+nothing_in_place_of_all : edit_of three (of (Number 1) End Change) ≡ replaces 0 3 ([] ∷ [])
+nothing_in_place_of_all = refl
+
+one_line_less : edit_of three (at 2 Delete) ≡ replaces 1 2 []
+one_line_less = refl
+
+nothing_put : edit_of three (at 1 Append) ≡ replaces 1 1 []
+nothing_put = refl
+
+moved_down : edit_of three (at 1 (Move End)) ≡ replaces 0 3 (b ∷ c ∷ a ∷ [])
+moved_down = refl
+
+moved_up : edit_of three (at 3 (Move (Number 1))) ≡ replaces 1 3 (c ∷ b ∷ [])
+moved_up = refl
+
+stays_behind_the_line_before : edit_of three (of (Number 2) (Number 3) (Move (Number 1))) ≡ replaces 1 1 []
+stays_behind_the_line_before = refl
+
+stays_behind_its_last_line : edit_of three (of (Number 1) (Number 2) (Move (Number 2))) ≡ replaces 0 0 []
+stays_behind_its_last_line = refl
+
+copied : edit_of three (of (Number 1) (Number 2) (CopyTo (Number 3))) ≡ replaces 3 3 (a ∷ b ∷ [])
+copied = refl
+
+printed : edit_of three (of (Number 1) (Number 2) Print) ≡ Ok None
+printed = refl
+
+swapped : replaced three (record { a = 1; b = 3; new = c ∷ b ∷ [] }) ≡ a ∷ c ∷ b ∷ []
+swapped = refl
