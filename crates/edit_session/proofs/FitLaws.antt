@@ -1,6 +1,7 @@
 -- What a command that is resolved does fits the text.
-use Rattle.std.proofs.Common.{◌≡◌, ℕ, ◌+◌, ◌-◌, ◌≤◌, ◌<◌, List, length, Bool, true, false, refl, arith, subst, sym}
-use Rattle.std.specs.Prelude.{Option, Some, None, Result, Ok, Err, nat_lt, ◌||◌, if◌then◌else◌}
+use Rattle.std.proofs.Common.{◌≡◌, ℕ, ◌+◌, ◌-◌, ◌≤◌, ◌<◌, List, [], ◌++◌, length, take, drop, Bool, true, false, refl, arith, subst, sym}
+use Rattle.std.specs.Prelude.{Option, Some, None, Result, Ok, Err, nat_lt, slice_range, ◌||◌, if◌then◌else◌}
+use Rattle.std.proofs.lemmas.List.{length-append, length-drop, length-take-le}
 use Rattle.std.proofs.lemmas.Bool.Decides.{nat_tests}
 use Rattle.text_buffer.specs.TextOfBytes.{most_lines}
 use Rattle.edit_script.specs.declared.commands.Last.{Last}
@@ -9,7 +10,7 @@ use Rattle.edit_script.specs.declared.commands.Verb.TheVariants.{Append, Insert,
 use Rattle.edit_script.specs.declared.commands.EditCommand.{EditCommand}
 use Rattle.edit_script.specs.declared.commands.Resolved.{Resolved}
 use Rattle.edit_script.specs.declared.commands.ResolveError.{ResolveError}
-use Rattle.edit_script.specs.Edits.{backwards, destination_outside, does_of, first_cause, into_self, least_line, line_named, or_else, outside, resolved_of, too_many, too_many_lines, unless}
+use Rattle.edit_script.specs.Edits.{backwards, destination_outside, does_of, first_cause, into_self, least_line, line_named, moved, or_else, outside, Replacement, replaced, resolved_of, too_many, too_many_lines, unless}
 use Rattle.edit_session.specs.Steps.{FitsText}
 
 -- no cause stands against it
@@ -60,3 +61,50 @@ fits_of command count resolved is =
     let P : Resolved → Type 0 = FitsText count (length command.lines) in
     subst P whole.1
     (fits_does verb first last count (length command.lines) (within_of (least_line verb) command.first count a.0).1 (within_of (least_line verb) command.last count b.0).1 c.0 (ordered_of first last d.0) e.1)
+
+pub fits_text : (command : EditCommand) (text : List (List ℕ)) (count : ℕ) (resolved : Resolved) → count ≡ length text → resolved_of command count ≡ Ok resolved → FitsText (length text) (length command.lines) resolved
+fits_text command text count resolved counted is =
+    let P : ℕ → Type 0 = λ n. FitsText n (length command.lines) resolved in
+    subst P counted (fits_of command count resolved is)
+
+-- ---- texts keep some line
+
+length_range : (text : List (List ℕ)) (a b : ℕ) → a ≤ b → b ≤ length text → length (slice_range text a b) ≡ b - a
+length_range text a b ordered within =
+    length-take-le (b - a) (drop a text) (omega (arith, length-drop a text))
+
+length_replaced : (text new : List (List ℕ)) (a b : ℕ) → a ≤ b → b ≤ length text → length (take a text ++ new ++ drop b text) ≡ a + length new + (length text - b)
+length_replaced text new a b ordered within =
+    let first = length-append (take a text ++ new) (drop b text) in
+    let second = length-append (take a text) new in
+    let front = length-take-le a text (omega arith) in
+    let back = length-drop b text in
+    omega arith
+
+some_exchanged : (text : List (List ℕ)) (a middle b : ℕ) → a ≤ middle → middle ≤ b → b ≤ length text → 0 < length text → 0 < length (take a text ++ (slice_range text middle b ++ slice_range text a middle) ++ drop b text)
+some_exchanged text a middle b one two within some =
+    let new = slice_range text middle b ++ slice_range text a middle in
+    let whole = length_replaced text new a b (omega arith) within in
+    let both = length-append (slice_range text middle b) (slice_range text a middle) in
+    let second = length_range text middle b two within in
+    let first = length_range text a middle one (omega arith) in
+    omega arith
+
+some_same : (text : List (List ℕ)) (a : ℕ) → a ≤ length text → 0 < length text → 0 < length (take a text ++ [] ++ drop a text)
+some_same text a within some = let whole = length_replaced text [] a a (omega arith) within in omega arith
+
+some_by_tests : (before behind : Bool) (text : List (List ℕ)) (a b dest : ℕ) → nat_lt dest a ≡ before → nat_lt b dest ≡ behind → a ≤ b → b ≤ length text → dest ≤ length text → 0 < length text → 0 < length (replaced text (if before then record { a = dest; b = b; new = slice_range text a b ++ slice_range text dest a } else if behind then record { a = a; b = dest; new = slice_range text b dest ++ slice_range text a b } else record { a = a; b = a; new = [] }))
+some_by_tests true behind text a b dest one two ordered within place some = some_exchanged text dest a b (grind (arith, nat_tests)) ordered within some
+some_by_tests false true text a b dest one two ordered within place some = some_exchanged text a b dest ordered (grind (arith, nat_tests)) place some
+some_by_tests false false text a b dest one two ordered within place some = some_same text a (omega arith) some
+
+pub some_moved : (text : List (List ℕ)) (a b dest : ℕ) (r : Replacement) → r ≡ moved text a b dest → a ≤ b → b ≤ length text → dest ≤ length text → 0 < length text → 0 < length (replaced text r)
+some_moved text a b dest r is ordered within place some =
+    let P : Replacement → Type 0 = λ s. 0 < length (replaced text s) in
+    subst P (sym is) (some_by_tests (nat_lt dest a) (nat_lt b dest) text a b dest refl refl ordered within place some)
+
+pub some_copied : (text : List (List ℕ)) (a b dest : ℕ) (r : Replacement) → r ≡ record { a = dest; b = dest; new = slice_range text a b } → dest ≤ length text → 0 < length text → 0 < length (replaced text r)
+some_copied text a b dest r is place some =
+    let P : Replacement → Type 0 = λ s. 0 < length (replaced text s) in
+    let whole = length_replaced text (slice_range text a b) dest dest (omega arith) place in
+    subst P (sym is) (omega arith)

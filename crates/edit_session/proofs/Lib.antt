@@ -1,5 +1,5 @@
 pub mod FitLaws
 pub mod SessionLaws
 pub mod ReadingLaws
-pub mod Pending
 pub mod LineLaws
+pub mod EndLaws

@@ -13,9 +13,10 @@ take_one_more (y ∷ xs) zero x is = ap (λ z. z ∷ []) (cc)
 take_one_more (y ∷ xs) (suc n) x is = ap (λ l. y ∷ l) (take_one_more xs n x is)
 
 get_in_drop : (xs : List (List ℕ)) (a n : ℕ) → slice_get (drop a xs) n ≡ slice_get xs (a + n)
-get_in_drop xs zero n = ap (slice_get xs) (omega arith)
+get_in_drop xs zero n = let same : n ≡ 0 + n = omega arith in ap (slice_get xs) same
 get_in_drop [] (suc a) n = refl
-get_in_drop (x ∷ xs) (suc a) n = get_in_drop xs a n ∙ ap (slice_get (x ∷ xs)) (omega arith)
+get_in_drop (x ∷ xs) (suc a) n =
+    let same : suc (a + n) ≡ suc a + n = omega arith in get_in_drop xs a n ∙ ap (slice_get (x ∷ xs)) same
 
 -- one line more was copied
 pub range_one_more : (xs : List (List ℕ)) (a n : ℕ) (x : List ℕ) → a ≤ n → Some x ≡ slice_get xs n → slice_range xs a (n + 1) ≡ slice_range xs a n ++ x ∷ []

@@ -1,18 +1,21 @@
 -- What was read so far, and what is read next.
 use Rattle.std.proofs.Common.{◌≡◌, ℕ, ◌+◌, ◌-◌, ◌<◌, ◌≤◌, Bool, true, false, List, [], ◌∷◌, ◌++◌, length, take, refl, ap, sym, subst, ◌∙◌, append_assoc, arith}
-use Rattle.std.specs.Prelude.{Option, Some, None, IfSome, nat_lt, option_map, if◌then◌else◌}
+use Rattle.std.specs.Prelude.{Option, Some, None, IfSome, Result, Ok, Err, nat_lt, option_map, if◌then◌else◌}
 use Rattle.std.proofs.Math.Seq.{take-append-add}
 use Rattle.std.proofs.lemmas.Bool.Decides.{nat_tests}
-use Rattle.std.proofs.lemmas.List.{append-nil}
+use Rattle.std.proofs.lemmas.List.{append-nil, length-append}
+use Rattle.syn_base.specs.Causes.{Rose}
 use Rattle.syn_base.specs.Outside.{AppendsPrefix, appended}
 use Rattle.edit_script.specs.declared.commands.Entry.{Entry}
 use Rattle.edit_script.specs.Entries.{entries_at_end, entries_of, kept_of}
 use Rattle.edit_script.specs.Kept.{Kept}
-use Rattle.edit_session.proofs.Pending.{end_two, entries_two, kept_two}
-use Rattle.edit_session.specs.Ends.{SinkChange, SourceChange, Takes}
+use Rattle.edit_script.proofs.StandingLaws.{end_two, entries_two, kept_two}
+use Rattle.edit_session.specs.Ends.{FailsBehind, ReadsOver, ReadsToEnd, SinkChange, SourceChange, Takes}
 use Rattle.edit_session.specs.Painter.{Painter}
 use Rattle.edit_session.specs.Session.{Answer, Standing, behind, entries_read, is_too_long, most_bytes, session}
-use Rattle.edit_session.specs.Steps.{HasRead}
+use Rattle.edit_session.specs.declared.reading.End.{End}
+use Rattle.edit_session.specs.declared.reading.End.TheVariants.{Done, Refused, TooLong, Unread, Unwritten, Memory}
+use Rattle.edit_session.specs.Steps.{Answers, EndsReading, HasRead, ReachesEnd, ReadsPiece, ReadsPieces, StandsAt, StopsSo, WritesPart}
 use Rattle.edit_session.proofs.SessionLaws.{appended_nothing, appended_twice, appends_all, appends_behind, appends_of_more, session_joined}
 
 -- ---- sources
@@ -109,10 +112,10 @@ read_further p s now next kept kept' left left' left'' out out' out'' f f' f'' g
     let E : Kept → List Entry = λ k. entries_of k.lines (k.bytes ++ piece) in
     let same : E kept ≡ E (kept_of 0 bytes) = ap E read.keeps in
     let joined : session p s (entries_of 0 (bytes ++ piece)) ≡ behind (session p s (entries_of 0 bytes)).text (session p now (E kept)) =
-        ap (session p s) (entries_two 0 bytes piece)
-        ∙ session_joined p s (entries_of 0 bytes) (E (kept_of 0 bytes))
-        ∙ ap (λ es. behind (session p s (entries_of 0 bytes)).text (session p (session p s (entries_of 0 bytes)).stands es)) (sym same)
-        ∙ ap (λ t. behind (session p s (entries_of 0 bytes)).text (session p t (E kept))) (sym read.stands) in
+    ap (session p s) (entries_two 0 bytes piece)
+    ∙ session_joined p s (entries_of 0 bytes) (E (kept_of 0 bytes))
+    ∙ ap (λ es. behind (session p s (entries_of 0 bytes)).text (session p (session p s (entries_of 0 bytes)).stands es)) (sym same)
+    ∙ ap (λ t. behind (session p s (entries_of 0 bytes)).text (session p t (E kept))) (sym read.stands) in
     record {
       few = few;
       taken = takes_more bytes piece left left' left'' read.taken taken;
@@ -128,10 +131,10 @@ part_further p s now kept left left' left'' out out' out'' f f' g g' bytes piece
     let E : Kept → List Entry = λ k. entries_of k.lines (k.bytes ++ piece) in
     let same : E kept ≡ E (kept_of 0 bytes) = ap E read.keeps in
     let joined : session p s (entries_of 0 (bytes ++ piece)) ≡ behind (session p s (entries_of 0 bytes)).text (session p now (E kept)) =
-        ap (session p s) (entries_two 0 bytes piece)
-        ∙ session_joined p s (entries_of 0 bytes) (E (kept_of 0 bytes))
-        ∙ ap (λ es. behind (session p s (entries_of 0 bytes)).text (session p (session p s (entries_of 0 bytes)).stands es)) (sym same)
-        ∙ ap (λ t. behind (session p s (entries_of 0 bytes)).text (session p t (E kept))) (sym read.stands) in
+    ap (session p s) (entries_two 0 bytes piece)
+    ∙ session_joined p s (entries_of 0 bytes) (E (kept_of 0 bytes))
+    ∙ ap (λ es. behind (session p s (entries_of 0 bytes)).text (session p (session p s (entries_of 0 bytes)).stands es)) (sym same)
+    ∙ ap (λ t. behind (session p s (entries_of 0 bytes)).text (session p t (E kept))) (sym read.stands) in
     let P : Answer → Type 0 = λ a. AppendsPrefix out out'' a.text in
     part_written p s left left'' out out'' (bytes ++ piece) few (takes_more bytes piece left left' left'' read.taken taken)
     (subst P (sym joined) (appends_behind out out' out'' _ (session p now (E kept)).text read.written part))
@@ -150,3 +153,161 @@ joined_at_end p s now kept left left' out out' f f' g g' bytes read =
     ∙ session_joined p s (entries_of 0 bytes) (E (kept_of 0 bytes))
     ∙ ap (λ es. behind (session p s (entries_of 0 bytes)).text (session p (session p s (entries_of 0 bytes)).stands es)) (sym same)
     ∙ ap (λ t. behind (session p s (entries_of 0 bytes)).text (session p t (E kept))) (sym read.stands)
+
+-- ---- pieces
+
+-- a piece more was read
+pub pieces_further : (p p' : Painter) → p' ≡ p → (s now next : Standing) (kept kept' : Kept) (room count taken : ℕ) (left left' left'' out out' out'' : Option (List ℕ)) (f f' f'' g g' g'' : ℕ) (bytes : List ℕ) → HasRead p s now kept (source_of left left' f f') (sink_of out out' g g') bytes → length bytes ≡ taken → ReadsPiece p' now next kept kept' room (source_of left' left'' f' f'') (sink_of out' out'' g' g'') (Ok count) → taken + room ≤ most_bytes → (more : List ℕ) × HasRead p s next kept' (source_of left left'' f f'') (sink_of out out'' g g'') more × (length more ≡ taken + count)
+pieces_further p p' painters s now next kept kept' room count taken left left' left'' out out' out'' f f' f'' g g' g'' bytes read size given fits =
+    let R : Painter → Type 0 = λ q. ReadsPiece q now next kept kept' room (source_of left' left'' f' f'') (sink_of out' out'' g' g'') (Ok count) in
+    let piece : R p = subst R painters given in
+    let joined = length-append bytes piece.0 in
+    let total : length (bytes ++ piece.0) ≡ taken + count = omega (arith, piece.2) in (
+      bytes ++ piece.0,
+      read_further p s now next kept kept' left left' left'' out out' out'' f f' f'' g g' g'' bytes piece.0 read piece.1 (omega (arith, total, piece.3)) piece.5 piece.6 piece.7 piece.9,
+      total,
+    )
+
+-- reading stopped in a piece
+stopped_by : (p : Painter) (s now next : Standing) (kept kept' : Kept) (room taken : ℕ) (left left' left'' out out' out'' : Option (List ℕ)) (f f' f'' g g' g'' : ℕ) (bytes : List ℕ) (end : End) → HasRead p s now kept (source_of left left' f f') (sink_of out out' g g') bytes → length bytes ≡ taken → taken + room ≤ most_bytes → f' ≡ f → ReadsPiece p now next kept kept' room (source_of left' left'' f' f'') (sink_of out' out'' g' g'') (Err end) → StopsSo p s (source_of left left'' f f'') (sink_of out out'' g g'') end
+stopped_by p s now next kept kept' room taken left left' left'' out out' out'' f f' f'' g g' g'' bytes Unread read size fits readable piece =
+    let same_left : left'' ≡ left' = piece.0 in
+    let same_out : out'' ≡ out' = piece.2 in
+    let T : Option (List ℕ) → Type 0 = λ l. Takes bytes left l in
+    let W : Option (List ℕ) → Type 0 = λ o. WritesPart p s left out o in (
+      record {
+        bytes = bytes;
+        few = read.few;
+        taken = subst T (sym same_left) read.taken;
+        written = same_out ∙ read.written;
+        writable = piece.3 ∙ read.writable;
+        unreadable = subst (λ (n : ℕ). Rose n f'') readable piece.1;
+      },
+      subst W (sym same_out) (part_so_far p s now kept left left' out out' f f' g g' bytes read),
+    )
+stopped_by p s now next kept kept' room taken left left' left'' out out' out'' f f' f'' g g' g'' bytes Unwritten read size fits readable piece =
+    let joined = length-append bytes piece.0 in (
+      piece.4 ∙ readable,
+      subst (λ (n : ℕ). Rose n g'') read.writable piece.5,
+      part_further p s now kept left left' left'' out out' out'' f f' g g' bytes piece.0 read piece.1 (omega (arith, joined, piece.2)) piece.3,
+    )
+stopped_by p s now next kept kept' room taken left left' left'' out out' out'' f f' f'' g g' g'' bytes Memory read size fits readable piece =
+    let joined = length-append bytes piece.0 in (
+      piece.4 ∙ readable,
+      piece.5 ∙ read.writable,
+      part_further p s now kept left left' left'' out out' out'' f f' g g' bytes piece.0 read piece.1 (omega (arith, joined, piece.2)) piece.3,
+    )
+stopped_by p s now next kept kept' room taken left left' left'' out out' out'' f f' f'' g g' g'' bytes Done read size fits readable piece = absurd piece
+stopped_by p s now next kept kept' room taken left left' left'' out out' out'' f f' f'' g g' g'' bytes Refused read size fits readable piece = absurd piece
+stopped_by p s now next kept kept' room taken left left' left'' out out' out'' f f' f'' g g' g'' bytes TooLong read size fits readable piece = absurd piece
+
+pub pieces_stopped : (p p' : Painter) → p' ≡ p → (s now next : Standing) (kept kept' : Kept) (room taken : ℕ) (left left' left'' out out' out'' : Option (List ℕ)) (f f' f'' g g' g'' : ℕ) (bytes : List ℕ) (end : End) (result : Result Bool End) → HasRead p s now kept (source_of left left' f f') (sink_of out out' g g') bytes → length bytes ≡ taken → f' ≡ f → ReadsPiece p' now next kept kept' room (source_of left' left'' f' f'') (sink_of out' out'' g' g'') (Err end) → taken + room ≤ most_bytes → result ≡ Err end → ReadsPieces p s next kept' (source_of left left'' f f'') (sink_of out out'' g g'') result
+pieces_stopped p p' painters s now next kept kept' room taken left left' left'' out out' out'' f f' f'' g g' g'' bytes end result read size readable given fits at =
+    let R : Painter → Type 0 = λ q. ReadsPiece q now next kept kept' room (source_of left' left'' f' f'') (sink_of out' out'' g' g'') (Err end) in
+    rw at (stopped_by p s now next kept kept' room taken left left' left'' out out' out'' f f' f'' g g' g'' bytes end read size fits readable (subst R painters given))
+
+-- ---- the end
+
+pub stops_end : (U : Type 0) (p : Painter) (s : Standing) (refused : Bool) (source : SourceChange) (sink : SinkChange) (end : End) → StopsSo p s source sink end → EndsReading {U = U} p s refused source sink (Err end)
+stops_end U p s refused source sink Unread stops = stops.0
+stops_end U p s refused source sink Unwritten stops = (stops.0, stops.1)
+stops_end U p s refused source sink Memory stops = (stops.0, stops.1)
+stops_end U p s refused source sink Done stops = absurd stops
+stops_end U p s refused source sink Refused stops = absurd stops
+stops_end U p s refused source sink TooLong stops = absurd stops
+
+pub stops_part : (p : Painter) (s : Standing) (source : SourceChange) (sink : SinkChange) (end : End) → StopsSo p s source sink end → WritesPart p s source.before sink.before sink.after
+stops_part p s source sink Unread stops = stops.1
+stops_part p s source sink Unwritten stops = stops.2
+stops_part p s source sink Memory stops = stops.2
+stops_part p s source sink Done stops = absurd stops
+stops_part p s source sink Refused stops = absurd stops
+stops_part p s source sink TooLong stops = absurd stops
+
+takes_none : (before after : Option (List ℕ)) → Takes [] before after → before ≡ after
+takes_none before None taken = taken
+takes_none before (Some rest) taken = taken
+
+-- the end wasn't reached: there are more bytes, or the next read failed
+pub over_end : (U V : Type 0) (p : Painter) (s now : Standing) (refused ended : Bool) (kept : Kept) (left left' left'' out out' : Option (List ℕ)) (f f' f'' g g' : ℕ) (bytes : List ℕ) (end : End) → HasRead p s now kept (source_of left left' f f') (sink_of out out' g g') bytes → StandsAt ended (source_of left left' f f') bytes → f' ≡ f → ReachesEnd {U = V} ended left' left'' f' f'' (Err end) → EndsReading {U = U} p s refused (source_of left left'' f f'') (sink_of out out' g g') (Err end)
+over_end U V p s now refused true kept left left' left'' out out' f f' f'' g g' bytes end read at readable reached = absurd reached
+over_end U V p s now refused false kept left left' left'' out out' f f' f'' g g' bytes TooLong read at readable reached = record {
+  bytes = bytes;
+  more = reached.0;
+  most = at;
+  some = reached.1;
+  taken = takes_more bytes reached.0 left left' left'' read.taken reached.2;
+  written = read.written;
+  readable = reached.3 ∙ readable;
+  writable = read.writable;
+}
+over_end U V p s now refused false kept left left' left'' out out' f f' f'' g g' bytes Unread read at readable reached =
+    let T : Option (List ℕ) → Type 0 = λ l. Takes bytes left l in
+    record {
+      bytes = bytes;
+      few = read.few;
+      taken = subst T (sym reached.0) read.taken;
+      written = read.written;
+      writable = read.writable;
+      unreadable = subst (λ (n : ℕ). Rose n f'') readable reached.1;
+    }
+over_end U V p s now refused false kept left left' left'' out out' f f' f'' g g' bytes Done read at readable reached = absurd reached
+over_end U V p s now refused false kept left left' left'' out out' f f' f'' g g' bytes Refused read at readable reached = absurd reached
+over_end U V p s now refused false kept left left' left'' out out' f f' f'' g g' bytes Unwritten read at readable reached = absurd reached
+over_end U V p s now refused false kept left left' left'' out out' f f' f'' g g' bytes Memory read at readable reached = absurd reached
+
+-- the end was reached
+pub reached_end : (V : Type 0) (p : Painter) (s now : Standing) (ended : Bool) (kept : Kept) (left left' left'' out out' : Option (List ℕ)) (f f' f'' g g' : ℕ) (bytes : List ℕ) (done : V) → HasRead p s now kept (source_of left left' f f') (sink_of out out' g g') bytes → StandsAt ended (source_of left left' f f') bytes → f' ≡ f → ReachesEnd ended left' left'' f' f'' (Ok done) → HasRead p s now kept (source_of left left'' f f'') (sink_of out out' g g') bytes × IfSome left'' (λ rest. rest ≡ []) × (f'' ≡ f)
+reached_end V p s now true kept left left' left'' out out' f f' f'' g g' bytes done read at readable reached =
+    let same : left'' ≡ left' = reached.0 in
+    let T : Option (List ℕ) → Type 0 = λ l. Takes bytes left l in
+    let E : Option (List ℕ) → Type 0 = λ l. IfSome l (λ rest. rest ≡ []) in
+    (record { few = read.few; taken = subst T (sym same) read.taken; keeps = read.keeps; stands = read.stands; written = read.written; writable = read.writable }, subst E (sym same) at, reached.1 ∙ readable)
+reached_end V p s now false kept left left' left'' out out' f f' f'' g g' bytes done read at readable reached =
+    let same : left' ≡ left'' = takes_none left' left'' reached.0 in
+    let T : Option (List ℕ) → Type 0 = λ l. Takes bytes left l in
+    (record { few = read.few; taken = subst T same read.taken; keeps = read.keeps; stands = read.stands; written = read.written; writable = read.writable }, reached.1, reached.2 ∙ readable)
+
+end_part : (p : Painter) (s now : Standing) (kept : Kept) (left left' out out' out'' : Option (List ℕ)) (f f' g g' : ℕ) (bytes : List ℕ) → HasRead p s now kept (source_of left left' f f') (sink_of out out' g g') bytes → IfSome left' (λ rest. rest ≡ []) → AppendsPrefix out' out'' (session p now (entries_at_end kept.lines kept.bytes)).text → WritesPart p s left out out''
+end_part p s now kept left left' out out' out'' f f' g g' bytes read ended part =
+    let P : Answer → Type 0 = λ a. AppendsPrefix out out'' a.text in
+    end_written p s left left' out out'' bytes read.few read.taken ended
+    (subst P (sym (joined_at_end p s now kept left left' out out' f f' g g' bytes read)) (appends_behind out out' out'' _ (session p now (entries_at_end kept.lines kept.bytes)).text read.written part))
+
+-- the commands that are left were answered
+finished_by : (U : Type 0) (p : Painter) (s now next : Standing) (kept : Kept) (left left' out out' out'' : Option (List ℕ)) (f f' g g' g'' : ℕ) (bytes : List ℕ) (result : Result U End) → HasRead p s now kept (source_of left left' f f') (sink_of out out' g g') bytes → IfSome left' (λ rest. rest ≡ []) → f' ≡ f → Answers (session p now (entries_at_end kept.lines kept.bytes)) next (sink_of out' out'' g' g'') result → EndsReading p s next.refused (source_of left left' f f') (sink_of out out'' g g'') result × WritesPart p s left out out''
+finished_by U p s now next kept left left' out out' out'' f f' g g' g'' bytes (Ok done) read ended readable answered =
+    let joined = joined_at_end p s now kept left left' out out' f f' g g' bytes read in
+    let rest = session p now (entries_at_end kept.lines kept.bytes) in
+    let whole : out'' ≡ appended out (session p s (entries_at_end 0 bytes)).text =
+    answered.0 ∙ ap (λ o. appended o rest.text) read.written ∙ appended_twice out _ _ ∙ ap (λ (a : Answer). appended out a.text) (sym joined) in (
+      record {
+        bytes = bytes;
+        few = read.few;
+        taken = read.taken;
+        ended = ended;
+        written = whole;
+        refusals = ap (λ (a : Answer). a.stands.refused) joined ∙ ap (λ (t : Standing). t.refused) (sym answered.1);
+        readable = readable;
+        writable = answered.2 ∙ read.writable;
+      },
+      end_written p s left left' out out'' bytes read.few read.taken ended (appends_all out out'' _ whole),
+    )
+finished_by U p s now next kept left left' out out' out'' f f' g g' g'' bytes (Err Unwritten) read ended readable answered =
+    ((readable, subst (λ (n : ℕ). Rose n g'') read.writable answered.1), end_part p s now kept left left' out out' out'' f f' g g' bytes read ended answered.0)
+finished_by U p s now next kept left left' out out' out'' f f' g g' g'' bytes (Err Memory) read ended readable answered =
+    ((readable, answered.1 ∙ read.writable), end_part p s now kept left left' out out' out'' f f' g g' bytes read ended answered.0)
+finished_by U p s now next kept left left' out out' out'' f f' g g' g'' bytes (Err Done) read ended readable answered = absurd answered
+finished_by U p s now next kept left left' out out' out'' f f' g g' g'' bytes (Err Refused) read ended readable answered = absurd answered
+finished_by U p s now next kept left left' out out' out'' f f' g g' g'' bytes (Err TooLong) read ended readable answered = absurd answered
+finished_by U p s now next kept left left' out out' out'' f f' g g' g'' bytes (Err Unread) read ended readable answered = absurd answered
+
+pub finished : (U : Type 0) (p p' : Painter) → p' ≡ p → (s now next : Standing) (kept : Kept) (left left' out out' out'' : Option (List ℕ)) (f f' g g' g'' : ℕ) (bytes : List ℕ) (result : Result U End) → HasRead p s now kept (source_of left left' f f') (sink_of out out' g g') bytes → IfSome left' (λ rest. rest ≡ []) → f' ≡ f → Answers (session p' now (entries_at_end kept.lines kept.bytes)) next (sink_of out' out'' g' g'') result → EndsReading p s next.refused (source_of left left' f f') (sink_of out out'' g g'') result × WritesPart p s left out out''
+finished U p p' painters s now next kept left left' out out' out'' f f' g g' g'' bytes result read ended readable answered =
+    let A : Painter → Type 0 = λ q. Answers (session q now (entries_at_end kept.lines kept.bytes)) next (sink_of out' out'' g' g'') result in
+    finished_by U p s now next kept left left' out out' out'' f f' g g' g'' bytes result read ended readable (subst A painters answered)
+
+-- nothing was read, for want of memory
+pub unread_part : (p : Painter) (s : Standing) (left out : Option (List ℕ)) → WritesPart p s left out out
+unread_part p s None out = tt
+unread_part p s (Some bytes) out = (0, appended_nothing out)

@@ -1,11 +1,15 @@
 -- A session goes on where its part before left off.
-use Rattle.std.proofs.Common.{◌≡◌, ℕ, zero, suc, ◌+◌, List, [], ◌∷◌, ◌++◌, length, take, refl, ap, sym, ◌∙◌, append_assoc}
-use Rattle.std.specs.Prelude.{Option, Some, None}
+use Rattle.std.proofs.Common.{◌≡◌, ℕ, zero, suc, ◌+◌, List, [], ◌∷◌, ◌++◌, length, take, refl, ap, sym, subst, ◌∙◌, append_assoc, zero-add, arith}
+use Rattle.std.specs.Prelude.{Option, Some, None, Result, Ok, Err}
 use Rattle.std.proofs.Math.Seq.{take-length}
 use Rattle.std.proofs.lemmas.List.{append-nil}
 use Rattle.syn_base.specs.Outside.{AppendsPrefix, appended}
 use Rattle.edit_script.specs.declared.commands.Entry.{Entry}
+use Rattle.syn_base.specs.Causes.{Rose}
+use Rattle.edit_session.specs.declared.reading.End.{End}
+use Rattle.edit_session.specs.declared.reading.End.TheVariants.{Done, Refused, TooLong, Unread, Unwritten, Memory}
 use Rattle.edit_session.specs.Painter.{Painter}
+use Rattle.edit_session.specs.Steps.{Answers}
 use Rattle.edit_session.specs.Session.{Answer, Standing, answers, behind, session}
 
 behind_behind : (one two : List ℕ) (answer : Answer) → behind one (behind two answer) ≡ behind (one ++ two) answer
@@ -33,7 +37,8 @@ appends_all before after bytes is = (length bytes, is ∙ ap (λ b. appended bef
 
 -- a part from the front of some bytes is one of more bytes
 take_of_more : (n : ℕ) (one two : List ℕ) → (m : ℕ) × (take n one ≡ take m (one ++ two))
-take_of_more n [] two = (0, refl)
+take_of_more zero [] two = (0, refl)
+take_of_more (suc n) [] two = (0, refl)
 take_of_more zero (x ∷ one) two = (0, refl)
 take_of_more (suc n) (x ∷ one) two = let more = take_of_more n one two in (suc more.0, ap (λ l. x ∷ l) more.1)
 
@@ -43,9 +48,42 @@ appends_of_more before after one two part =
     (more.0, part.1 ∙ ap (λ b. appended before b) more.1)
 
 take_past : (one two : List ℕ) (n : ℕ) → one ++ take n two ≡ take (length one + n) (one ++ two)
-take_past [] two n = refl
-take_past (x ∷ one) two n = ap (λ l. x ∷ l) (take_past one two n)
+take_past [] two n = ap (λ k. take k two) (sym (zero-add n))
+take_past (x ∷ one) two n =
+    let next : suc (length one) + n ≡ suc (length one + n) = omega arith in
+    ap (λ l. x ∷ l) (take_past one two n) ∙ ap (λ k. take k (x ∷ (one ++ two))) (sym next)
 
 pub appends_behind : (before middle after : Option (List ℕ)) (one two : List ℕ) → middle ≡ appended before one → AppendsPrefix middle after two → AppendsPrefix before after (one ++ two)
 appends_behind before middle after one two is part =
     (length one + part.0, part.1 ∙ ap (λ m. appended m (take part.0 two)) is ∙ appended_twice before one (take part.0 two) ∙ ap (λ b. appended before b) (take_past one two part.0))
+
+-- ---- one command more
+
+-- a command was answered in the middle of a session
+pub answered_further : (p : Painter) (now next : Standing) (entry : Entry) (rest : List Entry) (text : List ℕ) (whole : Answer) (out0 out out' : Option (List ℕ)) → whole ≡ behind text (session p now (entry ∷ rest)) → out ≡ appended out0 text → out' ≡ appended out (answers p now entry.line entry.what).text → next ≡ (answers p now entry.line entry.what).stands → (more : List ℕ) × (out' ≡ appended out0 more) × (whole ≡ behind more (session p next rest))
+answered_further p now next entry rest text whole out0 out out' is so_far written stands =
+    let own = answers p now entry.line entry.what in (
+      text ++ own.text,
+      written ∙ ap (λ o. appended o own.text) so_far ∙ appended_twice out0 text own.text,
+      is ∙ behind_behind text own.text (session p own.stands rest) ∙ ap (λ s. behind (text ++ own.text) (session p s rest)) (sym stands),
+    )
+
+-- it was stopped in the middle of a command
+pub answered_part : (p : Painter) (now : Standing) (entry : Entry) (rest : List Entry) (text : List ℕ) (whole : Answer) (out0 out out' : Option (List ℕ)) → whole ≡ behind text (session p now (entry ∷ rest)) → out ≡ appended out0 text → AppendsPrefix out out' (answers p now entry.line entry.what).text → AppendsPrefix out0 out' whole.text
+answered_part p now entry rest text whole out0 out out' is so_far part =
+    let own = answers p now entry.line entry.what in
+    let P : Answer → Type 0 = λ a. AppendsPrefix out0 out' a.text in
+    subst P (sym is) (appends_behind out0 out out' text (own.text ++ (session p own.stands rest).text) so_far (appends_of_more out out' own.text (session p own.stands rest).text part))
+
+-- a stop of one command is one of all
+pub stopped_part : (U V : Type 0) (p p' : Painter) → p' ≡ p → (now next : Standing) (entry : Entry) (rest : List Entry) (text : List ℕ) (whole : Answer) (out0 out out' : Option (List ℕ)) (g0 g g' : ℕ) (end : End) (result : Result V End) → whole ≡ behind text (session p now (entry ∷ rest)) → out ≡ appended out0 text → g ≡ g0 → Answers {U = U} (answers p' now entry.line entry.what) next (record { before = out; after = out'; faults = g; faults_after = g' }) (Err end) → result ≡ Err end → Answers {U = V} whole next (record { before = out0; after = out'; faults = g0; faults_after = g' }) result
+stopped_part U V p p' painters now next entry rest text whole out0 out out' g0 g g' Unwritten result is so_far same stops at =
+    let P : Painter → Type 0 = λ q. AppendsPrefix out out' (answers q now entry.line entry.what).text in
+    rw at (answered_part p now entry rest text whole out0 out out' is so_far (subst P painters stops.0), subst (λ (n : ℕ). Rose n g') same stops.1)
+stopped_part U V p p' painters now next entry rest text whole out0 out out' g0 g g' Memory result is so_far same stops at =
+    let P : Painter → Type 0 = λ q. AppendsPrefix out out' (answers q now entry.line entry.what).text in
+    rw at (answered_part p now entry rest text whole out0 out out' is so_far (subst P painters stops.0), stops.1 ∙ same)
+stopped_part U V p p' painters now next entry rest text whole out0 out out' g0 g g' Done result is so_far same stops at = absurd stops
+stopped_part U V p p' painters now next entry rest text whole out0 out out' g0 g g' Refused result is so_far same stops at = absurd stops
+stopped_part U V p p' painters now next entry rest text whole out0 out out' g0 g g' TooLong result is so_far same stops at = absurd stops
+stopped_part U V p p' painters now next entry rest text whole out0 out out' g0 g g' Unread result is so_far same stops at = absurd stops

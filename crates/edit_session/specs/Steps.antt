@@ -68,27 +68,69 @@ pub record HasRead (p : Painter) (s now : Standing) (kept : Kept) (source : Sour
   pub writable : sink.faults_after ≡ sink.faults
 
 -- where the source tells, a part of what its script prints was written
-abbrev pub WritesPart : Painter → Standing → SourceChange → SinkChange → Type 0
-WritesPart p s source sink = IfSome source.before (λ bytes. AppendsPrefix sink.before sink.after (session p s (entries_read bytes)).text)
+abbrev pub WritesPart : Painter → Standing → Option (List ℕ) → Option (List ℕ) → Option (List ℕ) → Type 0
+WritesPart p s left out out' = IfSome left (λ bytes. AppendsPrefix out out' (session p s (entries_read bytes)).text)
+
+-- a piece was taken and fed, and the commands that became whole were answered; or something failed in it
+abbrev pub ReadsPiece : Painter → Standing → Standing → Kept → Kept → ℕ → SourceChange → SinkChange → Result ℕ End → Type 0
+ReadsPiece p now next kept kept' room source sink (Ok count) =
+    (piece : List ℕ)
+    × Takes piece source.before source.after
+    × (length piece ≡ count)
+    × (count ≤ room)
+    × (count ≡ 0 → IfSome source.after (λ rest. rest ≡ []))
+    × (kept' ≡ kept_of kept.lines (kept.bytes ++ piece))
+    × (next ≡ (session p now (entries_of kept.lines (kept.bytes ++ piece))).stands)
+    × (sink.after ≡ appended sink.before (session p now (entries_of kept.lines (kept.bytes ++ piece))).text)
+    × (source.faults_after ≡ source.faults)
+    × (sink.faults_after ≡ sink.faults)
+ReadsPiece p now next kept kept' room source sink (Err Unread) =
+    (source.after ≡ source.before) × Rose source.faults source.faults_after × (sink.after ≡ sink.before) × (sink.faults_after ≡ sink.faults)
+ReadsPiece p now next kept kept' room source sink (Err Unwritten) =
+    (piece : List ℕ)
+    × Takes piece source.before source.after
+    × (length piece ≤ room)
+    × AppendsPrefix sink.before sink.after (session p now (entries_of kept.lines (kept.bytes ++ piece))).text
+    × (source.faults_after ≡ source.faults)
+    × Rose sink.faults sink.faults_after
+ReadsPiece p now next kept kept' room source sink (Err Memory) =
+    (piece : List ℕ)
+    × Takes piece source.before source.after
+    × (length piece ≤ room)
+    × AppendsPrefix sink.before sink.after (session p now (entries_of kept.lines (kept.bytes ++ piece))).text
+    × (source.faults_after ≡ source.faults)
+    × (sink.faults_after ≡ sink.faults)
+ReadsPiece p now next kept kept' room source sink (Err end) = ⊥
 
 -- the end of the script was reached, or as many bytes were read as are read of one
-abbrev pub ReachesEnd : Bool → SourceChange → List ℕ → Type 0
-ReachesEnd true source bytes = IfSome source.after (λ rest. rest ≡ [])
-ReachesEnd false source bytes = length bytes ≡ most_bytes
+abbrev pub StandsAt : Bool → SourceChange → List ℕ → Type 0
+StandsAt true source bytes = IfSome source.after (λ rest. rest ≡ [])
+StandsAt false source bytes = length bytes ≡ most_bytes
 
 -- a read or a write failed, or memory ran out, before the end of the script
 abbrev pub StopsSo : Painter → Standing → SourceChange → SinkChange → End → Type 0
-StopsSo p s source sink Unread = FailsBehind p s source sink × WritesPart p s source sink
+StopsSo p s source sink Unread = FailsBehind p s source sink × WritesPart p s source.before sink.before sink.after
 StopsSo p s source sink Unwritten =
-    (source.faults_after ≡ source.faults) × Rose sink.faults sink.faults_after × WritesPart p s source sink
+    (source.faults_after ≡ source.faults) × Rose sink.faults sink.faults_after × WritesPart p s source.before sink.before sink.after
 StopsSo p s source sink Memory =
-    (source.faults_after ≡ source.faults) × (sink.faults_after ≡ sink.faults) × WritesPart p s source sink
+    (source.faults_after ≡ source.faults) × (sink.faults_after ≡ sink.faults) × WritesPart p s source.before sink.before sink.after
 StopsSo p s source sink end = ⊥
 
 abbrev pub ReadsPieces : Painter → Standing → Standing → Kept → SourceChange → SinkChange → Result Bool End → Type 0
 ReadsPieces p s now kept source sink (Ok ended) =
-    (bytes : List ℕ) × HasRead p s now kept source sink bytes × ReachesEnd ended source bytes × (source.faults_after ≡ source.faults)
+    (bytes : List ℕ) × HasRead p s now kept source sink bytes × StandsAt ended source bytes × (source.faults_after ≡ source.faults)
 ReadsPieces p s now kept source sink (Err end) = StopsSo p s source sink end
+
+-- behind the end nothing is taken; behind the most bytes of a script a further one is too much
+abbrev pub ReachesEnd : {U : Type 0} → Bool → Option (List ℕ) → Option (List ℕ) → ℕ → ℕ → Result U End → Type 0
+ReachesEnd true before after faults faults_after (Ok done) = (after ≡ before) × (faults_after ≡ faults)
+ReachesEnd true before after faults faults_after (Err end) = ⊥
+ReachesEnd false before after faults faults_after (Ok done) =
+    Takes [] before after × IfSome after (λ rest. rest ≡ []) × (faults_after ≡ faults)
+ReachesEnd false before after faults faults_after (Err TooLong) =
+    (more : List ℕ) × (0 < length more) × Takes more before after × (faults_after ≡ faults)
+ReachesEnd false before after faults faults_after (Err Unread) = (after ≡ before) × Rose faults faults_after
+ReachesEnd false before after faults faults_after (Err end) = ⊥
 
 abbrev pub EndsReading : {U : Type 0} → Painter → Standing → Bool → SourceChange → SinkChange → Result U End → Type 0
 EndsReading p s refused source sink (Ok done) = ReadsToEnd p s refused source sink

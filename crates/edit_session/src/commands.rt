@@ -13,8 +13,8 @@ use crate::changes::{Replacement, copied, moved, put_in_place};
 use crate::document::{Document, Unedited};
 use crate::reading::End;
 use byte_text::push_bytes;
-use edit_script::{EditCommand, Entry, Resolved, ScriptFault, resolve};
 use command_print::{head_text, refusal_text};
+use edit_script::{EditCommand, Entry, Resolved, ScriptFault, resolve};
 use std::alloc::Global;
 use syn_base::{Ledger, Lines, List, Memory, Sink, Steps, put_all};
 use text_buffer::Line;
@@ -138,6 +138,7 @@ impl<D: Document + Drop> Commands<D> {
         lines: List<Line>,
         steps: &mut Steps<L>,
     ) -> Result<List<u8>, Memory>
+        requires some { 0 < length (D.lines self.old.document) }
         requires fits { FitsText (length (D.lines self.old.document)) (length lines) resolved }
         ensures painter { D.painter self.new.document ≡ D.painter self.old.document }
         ensures answer { GivesAnswer result

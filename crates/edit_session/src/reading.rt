@@ -3,8 +3,8 @@ ghost use Rattle.std.specs.Prelude.{◌≡◌, ◌<◌, ◌++◌, [], length, If
 ghost use Rattle.syn_base.specs.Outside.{AppendsPrefix};
 ghost use Rattle.edit_script.specs.Entries.{entries_at_end, entries_of, kept_of};
 ghost use Rattle.edit_session.specs.Ends.{EndsSo};
-ghost use Rattle.edit_session.specs.Session.{entries_read, script_session, session};
-ghost use Rattle.edit_session.specs.Steps.{Answers, EndsReading, ReadsPieces, TakesBytes, end_of, standing};
+ghost use Rattle.edit_session.specs.Session.{script_session, session};
+ghost use Rattle.edit_session.specs.Steps.{Answers, EndsReading, ReachesEnd, ReadsPiece, ReadsPieces, TakesBytes, WritesPart, end_of, standing};
 
 use crate::commands::Commands;
 use crate::document::Document;
@@ -123,27 +123,50 @@ fn read_script<D: Document + Drop, I: Source, O: Sink, L: Ledger>(
           faults = O.faults out.old;
           faults_after = O.faults out.new;
         }) result }
-    ensures part { IfSome (I.left script.old) (λ bytes.
-        AppendsPrefix (O.written out.old) (O.written out.new)
-        (session (D.painter commands.old.document)
+    ensures part { WritesPart (D.painter commands.old.document)
         (standing D.lines D.shown commands.old.document commands.old.number commands.old.refused)
-        (entries_read bytes)).text) }
+        (I.left script.old) (O.written out.old) (O.written out.new) }
 {
     let mut buffer = vec![in alloc; 0u8; PIECE]?;
+    read_with(alloc, commands, buffer.as_mut_slice(), script, out, steps)
+}
+
+/// The same, with a buffer for the bytes that are taken at a time.
+fn read_with<D: Document + Drop, I: Source, O: Sink, L: Ledger>(
+    alloc: Global,
+    commands: &mut Commands<D>,
+    buffer: &mut [u8],
+    script: &mut I,
+    out: &mut O,
+    steps: &mut Steps<L>,
+) -> Result<(), End>
+    requires { length buffer.old ≡ 65536 }
+    ensures ends { EndsReading (D.painter commands.old.document)
+        (standing D.lines D.shown commands.old.document commands.old.number commands.old.refused)
+        commands.new.refused
+        (record {
+          before = I.left script.old;
+          after = I.left script.new;
+          faults = I.faults script.old;
+          faults_after = I.faults script.new;
+        })
+        (record {
+          before = O.written out.old;
+          after = O.written out.new;
+          faults = O.faults out.old;
+          faults_after = O.faults out.new;
+        }) result }
+    ensures part { WritesPart (D.painter commands.old.document)
+        (standing D.lines D.shown commands.old.document commands.old.number commands.old.refused)
+        (I.left script.old) (O.written out.old) (O.written out.new) }
+{
     let mut kept = Script::new(alloc);
-    let ended = read_pieces(
-        alloc,
-        commands,
-        &mut kept,
-        buffer.as_mut_slice(),
-        script,
-        out,
-        steps,
-    )?;
-    if ended || take_bytes(script, &mut buffer[..1])? == 0 {
-        finish(alloc, commands, kept, out, steps)
-    } else {
-        Err(End::TooLong)
+    match read_pieces(alloc, commands, &mut kept, buffer, script, out, steps) {
+        Err(end) => Err(end),
+        Ok(ended) => match reach_end(ended, script) {
+            Err(end) => Err(end),
+            Ok(()) => finish(alloc, commands, kept, out, steps),
+        },
     }
 }
 
@@ -180,14 +203,60 @@ fn read_pieces<D: Document + Drop, I: Source, O: Sink, L: Ledger>(
     let mut taken = 0;
     while taken < MOST_BYTES {
         let room = PIECE.min(MOST_BYTES - taken);
-        let count = take_bytes(script, &mut buffer[..room])?;
+        let count = read_piece(
+            alloc,
+            commands,
+            kept,
+            &mut buffer[..room],
+            script,
+            out,
+            steps,
+        )?;
         if count == 0 {
             return Ok(true);
         }
-        feed(alloc, commands, kept, &buffer[..count], out, steps)?;
         taken += count;
     }
     Ok(false)
+}
+
+/// Reads a piece, and carries out the commands whose last line is whole with it. It answers how many
+/// bytes there were, none at the end.
+fn read_piece<D: Document + Drop, I: Source, O: Sink, L: Ledger>(
+    alloc: Global,
+    commands: &mut Commands<D>,
+    kept: &mut Script,
+    buffer: &mut [u8],
+    script: &mut I,
+    out: &mut O,
+    steps: &mut Steps<L>,
+) -> Result<usize, End>
+    requires { 0 < length buffer.old }
+    ensures painter { D.painter commands.new.document ≡ D.painter commands.old.document }
+    ensures piece { ReadsPiece (D.painter commands.old.document)
+        (standing D.lines D.shown commands.old.document commands.old.number commands.old.refused)
+        (standing D.lines D.shown commands.new.document commands.new.number commands.new.refused)
+        kept.old kept.new (length buffer.old)
+        (record {
+          before = I.left script.old;
+          after = I.left script.new;
+          faults = I.faults script.old;
+          faults_after = I.faults script.new;
+        })
+        (record {
+          before = O.written out.old;
+          after = O.written out.new;
+          faults = O.faults out.old;
+          faults_after = O.faults out.new;
+        }) result }
+{
+    match take_bytes(script, buffer) {
+        Err(end) => Err(end),
+        Ok(count) => match feed(alloc, commands, kept, &buffer[..count], out, steps) {
+            Err(end) => Err(end),
+            Ok(()) => Ok(count),
+        },
+    }
 }
 
 /// Takes bytes into the buffer, and answers how many; none at the end.
@@ -199,6 +268,22 @@ fn take_bytes<I: Source>(script: &mut I, buffer: &mut [u8]) -> Result<usize, End
     match script.take(buffer) {
         Taken::Bytes(count) => Ok(count),
         Taken::Failed => Err(End::Unread),
+    }
+}
+
+/// Behind as many bytes as are read of a script: whether it ends there.
+fn reach_end<I: Source>(ended: bool, script: &mut I) -> Result<(), End>
+    ensures { ReachesEnd ended (I.left script.old) (I.left script.new) (I.faults script.old)
+        (I.faults script.new) result }
+{
+    if ended {
+        return Ok(());
+    }
+    let mut byte = [0u8; 1];
+    match take_bytes(script, &mut byte) {
+        Err(end) => Err(end),
+        Ok(0) => Ok(()),
+        Ok(_) => Err(End::TooLong),
     }
 }
 

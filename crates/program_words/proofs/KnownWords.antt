@@ -1,10 +1,9 @@
 -- Words, and what they ask.
 use Rattle.std.proofs.Common.{◌≡◌, ℕ, Bool, List, true, false, [], ◌∷◌, refl}
 use Rattle.std.specs.Prelude.{codes, Some, None}
-use Rattle.program_words.specs.declared.words.Asked.TheVariants.{Edit, Large, Print}
-use Rattle.program_words.specs.declared.words.Printing.TheVariants.{Check, Html, Spans}
-use Rattle.program_words.specs.Given.{CheckWords, LargeWords, PaintWords}
-use Rattle.program_words.specs.Words.{asked_of, budget_of, lines_of, seed_of}
+use Rattle.program_words.specs.declared.words.Asked.TheVariants.{Check, Html, Spans}
+use Rattle.program_words.specs.Given.{CheckWords, PaintWords}
+use Rattle.program_words.specs.Words.{asked_of, budget_of}
 
 abbrev checked : List ℕ → List ℕ → Bool → CheckWords
 checked syntax folder fromstart = record { syntax = syntax; folder = folder; assume_fromstart = fromstart }
@@ -15,17 +14,17 @@ painted syntax text budget = record { syntax = syntax; text = text; budget = bud
 abbrev plain : CheckWords
 plain = checked (codes "s") (codes ".") false
 
-two_names : asked_of (codes "spans" ∷ codes "s" ∷ codes "t" ∷ []) ≡ Some (Print (Spans (painted plain (codes "t") 1000000)))
+two_names : asked_of (codes "spans" ∷ codes "s" ∷ codes "t" ∷ []) ≡ Some (Spans (painted plain (codes "t") 1000000))
 two_names = refl
 
 -- behind `--` each word is a name
-behind_dashes : asked_of (codes "spans" ∷ codes "--" ∷ codes "-s" ∷ codes "--" ∷ []) ≡ Some (Print (Spans (painted (checked (codes "-s") (codes ".") false) (codes "--") 1000000)))
+behind_dashes : asked_of (codes "spans" ∷ codes "--" ∷ codes "-s" ∷ codes "--" ∷ []) ≡ Some (Spans (painted (checked (codes "-s") (codes ".") false) (codes "--") 1000000))
 behind_dashes = refl
 
 dashes_behind_a_name : asked_of (codes "spans" ∷ codes "s" ∷ codes "--" ∷ codes "t" ∷ []) ≡ None
 dashes_behind_a_name = refl
 
-a_budget : asked_of (codes "spans" ∷ codes "--budget=12" ∷ codes "--assume-fromstart" ∷ codes "s" ∷ codes "t" ∷ []) ≡ Some (Print (Spans (painted (checked (codes "s") (codes ".") true) (codes "t") 12)))
+a_budget : asked_of (codes "spans" ∷ codes "--budget=12" ∷ codes "--assume-fromstart" ∷ codes "s" ∷ codes "t" ∷ []) ≡ Some (Spans (painted (checked (codes "s") (codes ".") true) (codes "t") 12))
 a_budget = refl
 
 the_greatest_budget : budget_of (codes "1000000000") ≡ Some 1000000000
@@ -52,17 +51,17 @@ a_budget_twice = refl
 numbered_spans : asked_of (codes "spans" ∷ codes "--number" ∷ codes "s" ∷ codes "t" ∷ []) ≡ None
 numbered_spans = refl
 
-a_page : asked_of (codes "html" ∷ codes "--no-pre" ∷ codes "--number" ∷ codes "s" ∷ codes "t" ∷ []) ≡ Some (Print (Html (record { painting = painted plain (codes "t") 1000000; number = true; pre = false })))
+a_page : asked_of (codes "html" ∷ codes "--no-pre" ∷ codes "--number" ∷ codes "s" ∷ codes "t" ∷ []) ≡ Some (Html (record { painting = painted plain (codes "t") 1000000; number = true; pre = false }))
 a_page = refl
 
-a_plain_page : asked_of (codes "html" ∷ codes "s" ∷ codes "t" ∷ []) ≡ Some (Print (Html (record { painting = painted plain (codes "t") 1000000; number = false; pre = true })))
+a_plain_page : asked_of (codes "html" ∷ codes "s" ∷ codes "t" ∷ []) ≡ Some (Html (record { painting = painted plain (codes "t") 1000000; number = false; pre = true }))
 a_plain_page = refl
 
-one_name : asked_of (codes "check" ∷ codes "s" ∷ []) ≡ Some (Print (Check plain))
+one_name : asked_of (codes "check" ∷ codes "s" ∷ []) ≡ Some (Check plain)
 one_name = refl
 
 both_options : asked_of (codes "check" ∷ codes "--folder=a" ∷ codes "--assume-fromstart" ∷ codes "--" ∷ codes "--" ∷ [])
-    ≡ Some (Print (Check (checked (codes "--") (codes "a") true)))
+    ≡ Some (Check (checked (codes "--") (codes "a") true))
 both_options = refl
 
 empty_folder : asked_of (codes "check" ∷ codes "--folder=" ∷ codes "s" ∷ []) ≡ None
@@ -85,37 +84,3 @@ a_budget_of_check = refl
 
 one_dash : asked_of (codes "check" ∷ codes "-" ∷ codes "s" ∷ []) ≡ None
 one_dash = refl
-
--- a session of edits has what a page has
-a_session : asked_of (codes "edit" ∷ codes "--number" ∷ codes "s" ∷ codes "t" ∷ []) ≡ Some (Edit (record { painting = painted plain (codes "t") 1000000; number = true; pre = true }))
-a_session = refl
-
-a_session_of_one_name : asked_of (codes "edit" ∷ codes "s" ∷ []) ≡ None
-a_session_of_one_name = refl
-
-abbrev drawn : ℕ → ℕ → ℕ → LargeWords
-drawn seed lines budget = record { seed = seed; lines = lines; budget = budget }
-
-large_of_no_seed : asked_of (codes "large" ∷ codes "0" ∷ codes "2" ∷ []) ≡ Some (Large (drawn 0 2 1000000))
-large_of_no_seed = refl
-
-the_greatest_numbers : asked_of (codes "large" ∷ codes "--budget=7" ∷ codes "4294967295" ∷ codes "100000" ∷ []) ≡ Some (Large (drawn 4294967295 100000 7))
-the_greatest_numbers = refl
-
-a_seed_more : seed_of (codes "4294967296") ≡ None
-a_seed_more = refl
-
-a_seed_with_a_zero : seed_of (codes "00") ≡ None
-a_seed_with_a_zero = refl
-
-a_line_more : lines_of (codes "100001") ≡ None
-a_line_more = refl
-
-no_line : lines_of (codes "0") ≡ None
-no_line = refl
-
-a_large_page : asked_of (codes "large" ∷ codes "--no-pre" ∷ codes "7" ∷ codes "2000" ∷ []) ≡ None
-a_large_page = refl
-
-a_large_folder : asked_of (codes "large" ∷ codes "--folder=a" ∷ codes "7" ∷ codes "2000" ∷ []) ≡ None
-a_large_folder = refl

@@ -2,10 +2,10 @@
 ghost use Rattle.std.specs.Prelude.{◌≡◌, ◌≤◌, None, Some, MatchOption};
 ghost use Rattle.std.specs.List.{list_all};
 ghost use Rattle.std.specs.String.{string_bytes};
-ghost use Rattle.program_words.specs.Words.{asked_of, check_of, has_dash, html_of, is_dashes, large_of, large_words, is_full, is_name, lines_of, names_in, one_name, options_said, paint_words, printing_with, seed_of, spans_of, syntax_words, texts_of, two_names};
+ghost use Rattle.program_words.specs.Words.{asked_of, check_of, has_dash, html_of, is_dashes, is_full, is_name, names_in, one_name, options_said, paint_words, spans_of, syntax_words, texts_of, two_names};
 ghost use Rattle.std.specs.Prelude.{option_map};
 
-use crate::options::{Options, lines_of, seed_of, split_options};
+use crate::options::{Options, split_options};
 use std::marker::Model;
 
 /// The folder where the program runs.
@@ -17,14 +17,6 @@ const USUAL_BUDGET: u64 = 1_000_000;
 /// What the words ask.
 #[derive(Drop)]
 pub enum Asked<'a> {
-    Print(Printing<'a>),
-    Edit(PageWords<'a>),
-    Large(LargeWords),
-}
-
-/// What is read from files and printed at once.
-#[derive(Drop)]
-pub enum Printing<'a> {
     Check(CheckWords<'a>),
     Spans(PaintWords<'a>),
     Html(PageWords<'a>),
@@ -85,27 +77,6 @@ impl<'a> Model for PageWords<'a> {
     ghost view = { λ w. record { painting = w.painting; number = w.number; pre = w.pre } };
 }
 
-/// The large mode: the seed of its draws, the lines of its text at the start, 1 to 100,000, and the most
-/// ticks of one attempt, which are 1 at least.
-#[derive(Drop)]
-pub struct LargeWords {
-    seed: u64,
-    lines: u64,
-    budget: u64,
-}
-
-impl Model for LargeWords {
-    ghost use Rattle.program_words.specs.Given as given;
-
-    ghost Value = { given.LargeWords };
-
-    ghost use Rattle.std.specs.Prelude.{◌≤◌};
-
-    ghost view = { λ w. record { seed = w.seed; lines = w.lines; budget = w.budget } };
-
-    ghost invariant = { λ w. (w.seed ≤ 4294967295) × (1 ≤ w.lines) × (w.lines ≤ 100000) × (1 ≤ w.budget) };
-}
-
 impl<'a> Asked<'a> {
     /// What the words ask, if they are in the table of words (this profile). `words` are those behind
     /// the program's name.
@@ -116,29 +87,14 @@ impl<'a> Asked<'a> {
             return None;
         };
         let (front, rest) = split_options(behind);
-        if command.as_str() == "edit" {
-            return Some(Asked::Edit(PageWords::read(front, rest)?));
+        if command.as_str() == "check" {
+            return Some(Asked::Check(CheckWords::read(front, rest)?));
         }
-        if command.as_str() == "large" {
-            return Some(Asked::Large(LargeWords::read(front, rest)?));
+        if command.as_str() == "spans" {
+            return Some(Asked::Spans(PaintWords::read(front, rest)?));
         }
-        Some(Asked::Print(Printing::read(command.as_str(), front, rest)?))
-    }
-}
-
-impl<'a> Printing<'a> {
-    /// What this command with these words behind it asks.
-    fn read(command: &str, front: &'a [String], rest: &'a [String]) -> Option<Printing<'a>>
-        ensures { result ≡ printing_with command.now (options_said (texts_of front.now)) (names_in (texts_of rest.now)) }
-    {
-        if command == "check" {
-            return Some(Printing::Check(CheckWords::read(front, rest)?));
-        }
-        if command == "spans" {
-            return Some(Printing::Spans(PaintWords::read(front, rest)?));
-        }
-        if command == "html" {
-            return Some(Printing::Html(PageWords::read(front, rest)?));
+        if command.as_str() == "html" {
+            return Some(Asked::Html(PageWords::read(front, rest)?));
         }
         None
     }
@@ -238,7 +194,7 @@ impl<'a> PaintWords<'a> {
 }
 
 impl<'a> PageWords<'a> {
-    /// What the words behind `html` or `edit` ask.
+    /// What the words behind `html` ask.
     fn read(front: &'a [String], rest: &'a [String]) -> Option<PageWords<'a>>
         ensures { result ≡ html_of (options_said (texts_of front.now)) (two_names (names_in (texts_of rest.now))) }
     {
@@ -270,58 +226,6 @@ impl<'a> PageWords<'a> {
         ensures { result ≡ self.now.pre }
     {
         self.pre
-    }
-}
-
-impl LargeWords {
-    /// What the words behind `large` ask.
-    fn read(front: &[String], rest: &[String]) -> Option<LargeWords>
-        ensures { result ≡ large_of (options_said (texts_of front.now)) (two_names (names_in (texts_of rest.now))) }
-    {
-        let options = Options::read(front)?;
-        let (seed, lines) = two_names(rest)?;
-        if !options.are_for_large() {
-            return None;
-        }
-        LargeWords::of(&options, seed, lines)
-    }
-
-    /// The large mode with these numbers, if both are in form.
-    fn of(options: &Options<'_>, seed: &str, lines: &str) -> Option<LargeWords>
-        ensures { result ≡ large_words options.now (seed_of seed.now) (lines_of lines.now) }
-    {
-        let seed = seed_of(seed)?;
-        let lines = lines_of(lines)?;
-        Some(LargeWords {
-            seed,
-            lines,
-            budget: options.budget.unwrap_or(USUAL_BUDGET),
-        })
-    }
-
-    /// The seed of the draws, at most 4,294,967,295.
-    pub fn seed(&self) -> u64
-        ensures is { result ≡ self.now.seed }
-        ensures few { result ≤ 4294967295 }
-    {
-        self.seed
-    }
-
-    /// How many lines the text has at the start.
-    pub fn lines(&self) -> u64
-        ensures is { result ≡ self.now.lines }
-        ensures some { 1 ≤ result }
-        ensures few { result ≤ 100000 }
-    {
-        self.lines
-    }
-
-    /// The most ticks of one attempt.
-    pub fn budget(&self) -> u64
-        ensures is { result ≡ self.now.budget }
-        ensures some { 1 ≤ result }
-    {
-        self.budget
     }
 }
 

@@ -14,12 +14,11 @@ invariant-loop-taken g l =
     let written = g.O.Sink.written in
     let refused = g.O.Sink.faults in
     record {
-      painter : g.D.Document.painter l.commands.document ≡ painter;
+      same : g.D.Document.painter l.commands.document ≡ painter;
       read : (bytes : List ℕ)
-        × HasRead painter (standing lines shown l.fn.commands.document l.fn.commands.number l.fn.commands.refused) (standing lines shown l.commands.document l.commands.number l.commands.refused) l.kept (source_of (left l.fn.script) (left l.script) (failed l.fn.script) (failed l.script)) (sink_of (written l.fn.out) (written l.out) (refused l.fn.out) (refused l.out)) bytes
-        × (length bytes ≡ l.taken);
+          × HasRead painter (standing lines shown l.fn.commands.document l.fn.commands.number l.fn.commands.refused) (standing lines shown l.commands.document l.commands.number l.commands.refused) l.kept (source_of (left l.fn.script) (left l.script) (failed l.fn.script) (failed l.script)) (sink_of (written l.fn.out) (written l.out) (refused l.fn.out) (refused l.out)) bytes
+          × (length bytes ≡ l.taken);
       readable : failed l.script ≡ failed l.fn.script;
-      room : length l.buffer ≡ 65536;
     }
 
 abbrev pub decreases-loop-taken : goal.decreases-loop-taken

@@ -14,10 +14,10 @@ invariant-loop-entry g l =
     let painter = g.D.Document.painter l.fn.self.document in
     let written = g.O.Sink.written in
     record {
-      painter : g.D.Document.painter l.self.document ≡ painter;
+      same : g.D.Document.painter l.self.document ≡ painter;
       answered : (text : List ℕ)
-        × (written l.out ≡ appended (written l.fn.out) text)
-        × (session painter (standing lines shown l.fn.self.document l.fn.self.number l.fn.self.refused) l.fn.entries
-        ≡ behind text (session painter (standing lines shown l.self.document l.self.number l.self.refused) (into_iter_items l.entry-iterator)));
+          × (written l.out ≡ appended (written l.fn.out) text)
+          × (session painter (standing lines shown l.fn.self.document l.fn.self.number l.fn.self.refused) l.fn.entries
+          ≡ behind text (session painter (standing lines shown l.self.document l.self.number l.self.refused) (into_iter_items l.entry-iterator)));
       writable : g.O.Sink.faults l.out ≡ g.O.Sink.faults l.fn.out;
     }
