@@ -19,7 +19,8 @@ pub(crate) struct Reader {
     pub lines: usize,
     /// The number of the line that has no line break yet, from 0.
     pub at: usize,
-    /// The bytes behind the lines that were answered or skipped.
+    /// The bytes behind the lines that were answered or skipped. A line is read from them once, when
+    /// its line break comes; those of a text stay until its dot, since contracts see them.
     pub bytes: Vec<u8>,
     /// Where the line begins in them that has no line break yet.
     pub cut: usize,
@@ -168,6 +169,7 @@ pub(crate) fn end_line(
     ensures entries { OnOk result (entries.new ≡ entries.old
         ++ entries_of reader.old.lines (reader.old.bytes.items ++ line_break ∷ [])) }
 {
+    // A line that has no number is refused as want of memory.
     let Some(next) = reader.at.checked_add(1) else {
         return Err(Memory);
     };
