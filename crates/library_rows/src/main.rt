@@ -16,6 +16,7 @@ mod outside;
 mod patterns;
 mod printed;
 mod streams;
+mod texts;
 
 use fault::Fault;
 use std::alloc::Global;
@@ -72,6 +73,8 @@ fn answer_to(alloc: Global, name: &str, arguments: &[&str]) -> Result<String, Fa
         "source" => streams::source(alloc, arguments),
         "writer" => streams::writer(alloc, arguments),
         "places" => streams::places(alloc, arguments),
+        "text" => texts::changed(alloc, arguments),
+        "bytes" => texts::bytes(alloc, arguments),
         _ => Err(Fault::BadCase),
     }
 }

@@ -81,7 +81,8 @@ impl Trial {
     /// Whether an attempt can be made: the start is a place of the text, and there is a budget.
     pub(crate) fn is_possible(&self) -> bool
         ensures { IsTrue result → (1 ≤ self.now.budget)
-            × (self.now.start.line < length self.now.text) × IsPlaceOf self.now.text self.now.start }
+            × (self.now.start.line < length self.now.text.lines)
+            × IsPlaceOf self.now.text.lines self.now.start }
     {
         self.budget > 0
             && self.start.line < self.text.len()

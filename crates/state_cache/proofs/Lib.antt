@@ -1,1 +1,3 @@
+mod ReportIs
+mod ReportLaws
 mod WalkLaws

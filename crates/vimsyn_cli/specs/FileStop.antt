@@ -1,6 +1,7 @@
 -- Stops for a file that the words name.
-use Rattle.std.specs.Prelude.{◌≡◌, ◌≢◌, ℕ, List, Result, ⊤}
+use Rattle.std.specs.Prelude.{◌≡◌, ◌≢◌, ℕ, List, Result, Ok, Err, ⊤}
 use Rattle.syn_base.specs.Outside.{FileMap}
+use Rattle.text_buffer.specs.TextSeen.{TextSeen}
 use Rattle.text_buffer.specs.declared.TextError.{TextError}
 use Rattle.text_buffer.specs.declared.TextError.TheVariants.{Memory as OutOfMemory}
 use Rattle.vimsyn_cli.specs.declared.fault.Fault.{Fault as FaultOf}
@@ -26,6 +27,11 @@ StopsForText name error Memory = ⊤
 abbrev pub IsUnreadNamed : List ℕ → FileMap → List ℕ → Type 0
 IsUnreadNamed name files line = line ≡ fault_line name Unread
 
+-- a text that was read, as its lines
+abbrev pub lines_of : Result TextSeen Stop → Result (List (List ℕ)) Stop
+lines_of (Ok text) = Ok text.lines
+lines_of (Err stop) = Err stop
+
 -- the lines of bytes that were read, or their fault
-abbrev pub IsLinesOf : List ℕ → List ℕ → Result (List (List ℕ)) Stop → Type 0
-IsLinesOf name bytes result = IsExpected (lines_told name bytes) (λ line. ⊥) result
+abbrev pub IsLinesOf : List ℕ → List ℕ → Result TextSeen Stop → Type 0
+IsLinesOf name bytes result = IsExpected (lines_told name bytes) (λ line. ⊥) (lines_of result)

@@ -45,10 +45,10 @@ fn paint_text<L: Ledger>(
     text: Text,
     steps: &mut Steps<L>,
 ) -> Result<Painted, Stop>
-    ensures planned { IsExpected (painted_told words.now syntax text) (λ line. ⊥) result }
+    ensures planned { IsExpected (painted_told words.now syntax text.lines) (λ line. ⊥) result }
     ensures told { IfFault result (IsRefusedPainting words.now.text) }
     ensures content { IfFault result IsOfContent }
-    ensures steps { steps.new ≤ steps.old + length text }
+    ensures steps { steps.new ≤ steps.old + length text.lines }
 {
     match Painted::paint(alloc, syntax, text, words.budget(), steps) {
         Ok(painted) => Ok(painted),

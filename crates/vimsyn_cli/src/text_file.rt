@@ -1,7 +1,7 @@
 //! The text of a file that the words name, or the fault that tells why there is none.
 ghost use Rattle.std.specs.Prelude.{◌≡◌, ◌≤◌};
 ghost use Rattle.text_buffer.specs.TextOfBytes.{line_of_fault};
-ghost use Rattle.vimsyn_cli.specs.FileStop.{IsLinesOf, IsStop, IsUnreadNamed, StopsForText};
+ghost use Rattle.vimsyn_cli.specs.FileStop.{IsLinesOf, IsStop, IsUnreadNamed, StopsForText, lines_of};
 ghost use Rattle.vimsyn_cli.specs.Painting.{bytes_told, text_told};
 ghost use Rattle.vimsyn_cli.specs.Plans.{FollowsFiles, IfFault, IsOfContent, RaisesItsCount, is_missing, is_too_long, is_unread};
 ghost use Rattle.vimsyn_cli.specs.Report.{IsFaultOf, fault_of};
@@ -19,7 +19,7 @@ const MOST_TEXT_BYTES: usize = 67_108_864;
 pub(crate) fn read_text<F: Files>(alloc: Global, files: &mut F, name: &str) -> Result<Text, Stop>
     ensures kept { F.told files.new ≡ F.told files.old }
     ensures planned { FollowsFiles (F.told files.old)
-        (text_told name.now) (IsUnreadNamed name.now) result }
+        (text_told name.now) (IsUnreadNamed name.now) (lines_of result) }
     ensures told { IfFault result (IsFaultOf name.now) }
     ensures faults { RaisesItsCount is_unread result (F.faults files.old) (F.faults files.new) }
     ensures misses { RaisesItsCount is_missing result (F.misses files.old) (F.misses files.new) }

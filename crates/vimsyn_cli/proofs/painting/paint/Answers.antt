@@ -1,13 +1,14 @@
-use Rattle.std.proofs.Common.{ℕ, List, ap, ◌∙◌}
+use Rattle.std.proofs.Common.{ap, ◌∙◌}
 use Rattle.std.specs.Prelude.{Err}
 use Rattle.std.proofs.lemmas.Result.{err_from_is_err_and}
+use Rattle.text_buffer.specs.TextSeen.{TextSeen}
 use Rattle.vimsyn_cli.proofs.PaintLaws.{both_read, syntax_stopped, text_fault_told, text_stopped}
 use Rattle.vimsyn_cli.proofs.painting.paint.Goals as goal
 
 pub returns-in_err-text-clause-told : goal.returns-in_err-text-clause-told
 returns-in_err-text-clause-told g c =
     let p = err_from_is_err_and c.from_residual-in_err-text.result c.from_residual-in_err-text.ensures.1 in
-    text_fault_told (List (List ℕ)) c.args.words.now c.text.result.now c.in_err-text.field-0.0 c.from_residual-in_err-text.result
+    text_fault_told TextSeen c.args.words.now c.text.result.now c.in_err-text.field-0.0 c.from_residual-in_err-text.result
     c.text.ensures c.in_err-text.ensures.told (p.1 ∙ ap Err p.2)
 
 pub returns-in_err-syntax-clause-planned : goal.returns-in_err-syntax-clause-planned
@@ -24,5 +25,5 @@ returns-in_err-text-clause-planned g c =
 
 pub returns-clause-planned : goal.returns-clause-planned
 returns-clause-planned g c =
-    both_read (g.F.Files.told c.args.files.now) (g.F.Files.told c.read.new.files) c.args.words.now c.syntax.result.now c.in_ok-syntax.syntax c.text.result.now c.in_ok-text.text c.paint_text.result
+    both_read (g.F.Files.told c.args.files.now) (g.F.Files.told c.read.new.files) c.args.words.now c.syntax.result.now c.in_ok-syntax.syntax c.text.result.now c.in_ok-text.text.lines c.paint_text.result
     c.in_ok-syntax.ensures.kept c.syntax.ensures c.in_ok-syntax.ensures.planned c.text.ensures c.in_ok-text.ensures.planned c.paint_text.ensures.planned

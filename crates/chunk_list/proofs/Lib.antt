@@ -1,0 +1,5 @@
+pub mod CutLaws
+pub mod EndLaws
+pub mod FillLaws
+pub mod FlatLaws
+pub mod ReplacedLaws
