@@ -90,6 +90,7 @@ done_runs words painted files script out err answer told kept faults misses long
   out_part = told_both files.told script.before (λ known. painting_told words.painting known ≡ Ok painted) _ (λ known bytes is told'. part_is words painted known bytes script out is told' part) told;
   err_part = told_both files.told script.before (λ known. painting_told words.painting known ≡ Ok painted) _ (λ known bytes is told' r t. none_of err (edit_session words known bytes).err same) told;
   err_part_or_unread = told_both files.told script.before (λ known. painting_told words.painting known ≡ Ok painted) _ (λ known bytes is told'. inl (none_of err (edit_session words known bytes).err same)) told;
+  faulty = λ w. absurd (cc w);
   usage = λ is. absurd (cc (is, at));
   refused = λ is. absurd (cc (is, at));
   read_fault = λ is. absurd (cc (is, at));
@@ -114,6 +115,7 @@ refused_runs words painted files script out err answer told kept faults misses l
   out_part = told_both files.told script.before (λ known. painting_told words.painting known ≡ Ok painted) _ (λ known bytes is told'. part_is words painted known bytes script out is told' part) told;
   err_part = told_both files.told script.before (λ known. painting_told words.painting known ≡ Ok painted) _ (λ known bytes is told' r t. none_of err (edit_session words known bytes).err same) told;
   err_part_or_unread = told_both files.told script.before (λ known. painting_told words.painting known ≡ Ok painted) _ (λ known bytes is told'. inl (none_of err (edit_session words known bytes).err same)) told;
+  faulty = λ w. absurd (cc w);
   usage = λ is. absurd (cc (is, at));
   refused = λ is. inr (inr (same.0, ends.ended));
   read_fault = λ is. absurd (cc (is, at));
@@ -138,6 +140,7 @@ over_runs words painted files script out err answer told kept faults misses long
   out_part = told_both files.told script.before (λ known. painting_told words.painting known ≡ Ok painted) _ (λ known bytes is told'. part_is words painted known bytes script out is told' part) told;
   err_part = told_both files.told script.before (λ known. painting_told words.painting known ≡ Ok painted) _ (λ known bytes is told' r t. over_err words painted known bytes err is (over_told (painter_of words painted.syntax painted.budget) (shown_of painted) script out bytes ends told').0 (part_of err long_script Refused answer (inl all))) told;
   err_part_or_unread = told_both files.told script.before (λ known. painting_told words.painting known ≡ Ok painted) _ (λ known bytes is told'. inl (over_err words painted known bytes err is (over_told (painter_of words painted.syntax painted.budget) (shown_of painted) script out bytes ends told').0 (part_of err long_script Refused answer (inl all)))) told;
+  faulty = λ w. absurd (cc w);
   usage = λ is. absurd (cc (is, all.status));
   refused = λ is. inr (inl (all.whole, (ends.bytes ++ ends.more, ends.taken, over_many ends.bytes ends.more ends.most ends.some)));
   read_fault = λ is. absurd (cc (is, all.status));
@@ -162,6 +165,7 @@ over_cut_runs words painted files script out err answer told kept faults misses 
   out_part = told_both files.told script.before (λ known. painting_told words.painting known ≡ Ok painted) _ (λ known bytes is told'. part_is words painted known bytes script out is told' part) told;
   err_part = told_both files.told script.before (λ known. painting_told words.painting known ≡ Ok painted) _ (λ known bytes is told' r t. over_err words painted known bytes err is (over_told (painter_of words painted.syntax painted.budget) (shown_of painted) script out bytes ends told').0 (part_of err long_script Refused answer (inr some))) told;
   err_part_or_unread = told_both files.told script.before (λ known. painting_told words.painting known ≡ Ok painted) _ (λ known bytes is told'. inl (over_err words painted known bytes err is (over_told (painter_of words painted.syntax painted.budget) (shown_of painted) script out bytes ends told').0 (part_of err long_script Refused answer (inr some)))) told;
+  faulty = λ w. absurd (cc w);
   usage = λ is. absurd (cc (is, some.status));
   refused = λ is. absurd (cc (is, some.status));
   read_fault = λ is. absurd (cc (is, some.status));
@@ -186,6 +190,7 @@ unread_runs words painted files script out err answer told kept faults misses lo
   out_part = told_both files.told script.before (λ known. painting_told words.painting known ≡ Ok painted) _ (λ known bytes is told'. part_is words painted known bytes script out is told' part) told;
   err_part = told_both files.told script.before (λ known. painting_told words.painting known ≡ Ok painted) _ (λ known bytes is told' r t. absurd (t ends.unreadable)) told;
   err_part_or_unread = told_both files.told script.before (λ known. painting_told words.painting known ≡ Ok painted) _ (λ known bytes is told'. inr (record { line = unread_script; unread = inr (record { painted = painted; accepted = is }, refl); part = part_of err unread_script ReadFault answer (inl all) })) told;
+  faulty = λ w. absurd (cc w);
   usage = λ is. absurd (cc (is, all.status));
   refused = λ is. absurd (cc (is, all.status));
   read_fault = λ is. inr (inr ends.unreadable);
@@ -210,6 +215,7 @@ unread_cut_runs words painted files script out err answer told kept faults misse
   out_part = told_both files.told script.before (λ known. painting_told words.painting known ≡ Ok painted) _ (λ known bytes is told'. part_is words painted known bytes script out is told' part) told;
   err_part = told_both files.told script.before (λ known. painting_told words.painting known ≡ Ok painted) _ (λ known bytes is told' r t. absurd (t ends.unreadable)) told;
   err_part_or_unread = told_both files.told script.before (λ known. painting_told words.painting known ≡ Ok painted) _ (λ known bytes is told'. inr (record { line = unread_script; unread = inr (record { painted = painted; accepted = is }, refl); part = part_of err unread_script ReadFault answer (inr some) })) told;
+  faulty = λ w. absurd (cc w);
   usage = λ is. absurd (cc (is, some.status));
   refused = λ is. absurd (cc (is, some.status));
   read_fault = λ is. absurd (cc (is, some.status));
@@ -234,6 +240,7 @@ unwritten_runs words painted files script out err answer told kept faults misses
   out_part = told_both files.told script.before (λ known. painting_told words.painting known ≡ Ok painted) _ (λ known bytes is told'. part_is words painted known bytes script out is told' part) told;
   err_part = told_both files.told script.before (λ known. painting_told words.painting known ≡ Ok painted) _ (λ known bytes is told' r t. none_of err (edit_session words known bytes).err same) told;
   err_part_or_unread = told_both files.told script.before (λ known. painting_told words.painting known ≡ Ok painted) _ (λ known bytes is told'. inl (none_of err (edit_session words known bytes).err same)) told;
+  faulty = λ w. absurd (cc w);
   usage = λ is. absurd (cc (is, at));
   refused = λ is. absurd (cc (is, at));
   read_fault = λ is. absurd (cc (is, at));
@@ -258,6 +265,7 @@ memory_runs words painted files script out err answer told kept faults misses lo
   out_part = told_both files.told script.before (λ known. painting_told words.painting known ≡ Ok painted) _ (λ known bytes is told'. part_is words painted known bytes script out is told' part) told;
   err_part = told_both files.told script.before (λ known. painting_told words.painting known ≡ Ok painted) _ (λ known bytes is told' r t. none_of err (edit_session words known bytes).err same) told;
   err_part_or_unread = told_both files.told script.before (λ known. painting_told words.painting known ≡ Ok painted) _ (λ known bytes is told'. inl (none_of err (edit_session words known bytes).err same)) told;
+  faulty = λ w. absurd (cc w);
   usage = λ is. absurd (cc (is, at));
   refused = λ is. absurd (cc (is, at));
   read_fault = λ is. absurd (cc (is, at));
@@ -324,9 +332,9 @@ pub edit_fault : (words : PageWords) (asked : PaintWords) (why : Stop) → asked
 edit_fault words asked stop.Memory same is = tt
 edit_fault words asked (stop.Fault fault) same is = let P : PaintWords → Type 0 = λ a. IsPaintFault a fault in subst P same is
 
-pub raises_again : {A B : Type 0} (test : FaultKind → Bool) (why : Stop) (before now : ℕ) → RaisesItsCount {A = A} test (Err why) before now → RaisesItsCount {A = B} test (Err why) before now
-raises_again test stop.Memory before now counted = counted
-raises_again test (stop.Fault fault) before now counted = counted
+pub raises_again : (A B : Type 0) (test : FaultKind → Bool) (why : Stop) (before now : ℕ) → RaisesItsCount {A = A} test (Err why) before now → RaisesItsCount {A = B} test (Err why) before now
+raises_again A B test stop.Memory before now counted = counted
+raises_again A B test (stop.Fault fault) before now counted = counted
 
 -- a delivered stop isn't the end of a script
 pub stop_undone : (why : Stop) (out err : SinkChange) (answer : Status) → Delivers (Err why) out err answer → answer ≢ Done

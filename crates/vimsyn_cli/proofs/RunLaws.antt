@@ -214,6 +214,7 @@ usage_runs files script out err answer kept faults misses longs left readable sa
       err_part = told_all files.told (Some []) _ (λ known bytes r t. part_of err usage_line Usage answer written);
       err_part_or_unread = told_all files.told (Some []) _ (λ known bytes. inl (part_of err usage_line Usage answer written));
       usage = λ is. refl;
+      faulty = λ is. by;
       refused = λ is. neither answer Refused is by (λ w. absurd cc) (λ w. absurd cc);
       read_fault = λ is. neither answer ReadFault is by (λ w. absurd cc) (λ w. absurd cc);
       read_fault_line = λ is. neither answer ReadFault is by (λ w. absurd cc) (λ w. absurd cc);
@@ -339,6 +340,7 @@ delivered_runs asked result files script out err answer planned told unread miss
       out_part = told_map files.told scripts Q _ (λ known bytes plan. out_part_of (asked_session asked known bytes) (IsUnreadLine asked known) result out err answer plan delivered) planned;
       err_part = told_map files.told scripts Q _ (λ known bytes plan r t. err_part_of (asked_session asked known bytes) (IsUnreadLine asked known) result out err files.faults files.faults_after answer plan delivered unread r) planned;
       err_part_or_unread = told_map files.told scripts Q _ (λ known bytes plan. err_part_or (asked_session asked known bytes) asked known result out err answer plan delivered) planned;
+      faulty = λ w. absurd (cc w);
       usage = λ is. absurd (delivered_unused result out err answer delivered is);
       refused = λ is. inl (tells_of asked result out err files.longs files.longs_after answer told delivered long (λ w. absurd (cc (is, w))) (λ w. absurd (cc (is, w))) (λ w. absurd (cc (is, w))));
       read_fault = λ is. by_cause (delivered_read result out err files.faults files.faults_after files.misses files.misses_after answer delivered unread missing is);

@@ -78,33 +78,34 @@ EndsScript asked script = ⊤
 pub record Runs (asked : Option Asked) (files : FilesChange) (script : SourceChange) (out err : SinkChange) (answer : Status) : Type 0 where
   -- where what is read is told and nothing fails, all is as in the session
   pub session : IfTold files.told (script_read asked script.before) (λ known bytes.
-    ¬ Rose files.faults files.faults_after → ¬ Rose script.faults script.faults_after
-    → ¬ Rose out.faults out.faults_after → ¬ Rose err.faults err.faults_after → answer ≢ Memory
-    → GivesSession (with_asked known bytes asked) out.before out.after err.before err.after answer)
+      ¬ Rose files.faults files.faults_after → ¬ Rose script.faults script.faults_after
+      → ¬ Rose out.faults out.faults_after → ¬ Rose err.faults err.faults_after → answer ≢ Memory
+      → GivesSession (with_asked known bytes asked) out.before out.after err.before err.after answer)
   -- whatever the answer, the sinks got a part of the session's bytes, but that `err` may have got the line
   -- for a file or a script that couldn't be read
   pub out_part : IfTold files.told (script_read asked script.before) (λ known bytes.
-    AppendsPrefix out.before out.after (with_asked known bytes asked).out)
+      AppendsPrefix out.before out.after (with_asked known bytes asked).out)
   pub err_part : IfTold files.told (script_read asked script.before) (λ known bytes.
-    ¬ Rose files.faults files.faults_after → ¬ Rose script.faults script.faults_after
-    → AppendsPrefix err.before err.after (with_asked known bytes asked).err)
+      ¬ Rose files.faults files.faults_after → ¬ Rose script.faults script.faults_after
+      → AppendsPrefix err.before err.after (with_asked known bytes asked).err)
   pub err_part_or_unread : IfTold files.told (script_read asked script.before) (λ known bytes.
-    AppendsPrefix err.before err.after (with_asked known bytes asked).err
-    ⊎ IsSomeAnd asked (λ a. TellsUnread a known err.before err.after))
+      AppendsPrefix err.before err.after (with_asked known bytes asked).err
+      ⊎ IsSomeAnd asked (λ a. TellsUnread a known err.before err.after))
   -- each answer and its cause
   pub usage : answer ≡ Usage → asked ≡ None
+  pub faulty : asked ≡ None → (answer ≡ Usage) ⊎ (answer ≡ WriteFault)
   pub refused : answer ≡ Refused → IsSomeAnd asked (λ a.
-    TellsFault a err.before err.after files.longs files.longs_after answer ⊎ RefusesScript a script err)
+      TellsFault a err.before err.after files.longs files.longs_after answer ⊎ RefusesScript a script err)
   pub read_fault : answer ≡ ReadFault →
-    Rose files.faults files.faults_after ⊎ Rose files.misses files.misses_after ⊎ Rose script.faults script.faults_after
+      Rose files.faults files.faults_after ⊎ Rose files.misses files.misses_after ⊎ Rose script.faults script.faults_after
   pub read_fault_line : answer ≡ ReadFault → IsSomeAnd asked (λ a.
-    TellsFault a err.before err.after files.longs files.longs_after answer ⊎ FailsScript a script err)
+      TellsFault a err.before err.after files.longs files.longs_after answer ⊎ FailsScript a script err)
   pub read_fault_told : answer ≡ ReadFault → IfTold files.told (script_read asked script.before) (λ known bytes.
-    (err.after ≡ appended err.before (with_asked known bytes asked).err)
-    ⊎ IsSomeAnd asked (λ a. TellsAllUnread a known err.before err.after))
+      (err.after ≡ appended err.before (with_asked known bytes asked).err)
+      ⊎ IsSomeAnd asked (λ a. TellsAllUnread a known err.before err.after))
   pub write_fault : answer ≡ WriteFault → Rose out.faults out.faults_after ⊎ Rose err.faults err.faults_after
   pub stopped : answer ≡ ReadFault → Rose script.faults script.faults_after
-    → IfSome files.told (λ known. StopsSoFar asked known script out)
+      → IfSome files.told (λ known. StopsSoFar asked known script out)
   -- what stays as it was
   pub files_unfailed : is_unfailed answer ≡ true → files.faults_after ≡ files.faults
   pub script_unfailed : is_unfailed answer ≡ true → script.faults_after ≡ script.faults

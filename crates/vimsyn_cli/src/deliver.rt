@@ -6,7 +6,11 @@ use crate::fault::Stop;
 use syn_base::{List, Sink, put_all};
 
 /// Writes what was asked to `out`, or the line of a fault to `err`.
-pub(crate) fn deliver<O: Sink, E: Sink>(answer: Result<List<u8>, Stop>, out: &mut O, err: &mut E) -> Status
+pub(crate) fn deliver<O: Sink, E: Sink>(
+    answer: Result<List<u8>, Stop>,
+    out: &mut O,
+    err: &mut E,
+) -> Status
     ensures { Delivers answer
         (record {
           before = O.written out.old;

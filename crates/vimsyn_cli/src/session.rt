@@ -1,8 +1,8 @@
 //! The run of the program: its words, then the command that they ask for.
 //!
-//! What a command prints at once is made whole before anything is written. So such a run writes either
-//! that on `out` or one line on `err`. A session of edits writes what each of its commands prints before
-//! the next one is read.
+//! What a command prints at once is made whole before anything is written. So such a run writes
+//! either that on `out` or one line on `err`. A session of edits writes what each of its commands
+//! prints before the next one is read.
 ghost use Rattle.std.specs.Prelude.{◌≡◌, ◌≢◌, ◌⊎◌, ◌≤◌, ◌+◌, None, Some, IfSome, IsSomeAnd, true};
 ghost use Rattle.program_words.specs.declared.words.Asked.TheVariants.{Print};
 ghost use Rattle.program_words.specs.Words.{asked_of, texts_of};
@@ -25,11 +25,12 @@ const USAGE: &[u8; 58] = b"usage: vimsyn check|spans|html|edit|large [options] n
 
 /// Runs the program on its words, which are those behind its name.
 ///
-/// Where the files and the script tell their bytes, what is written and the status are those of the
-/// session, a definition that reads the whole syntax and paints the whole text anew, for `edit` at each
-/// command that changes the text. A read fault comes only where a file or the script couldn't be read or
-/// a file is absent, a write fault only where a write failed. Want of memory may be answered wherever
-/// the words are in the table. `edit` alone takes from `script`, of which it reads at most 64 MiB.
+/// Where the files and the script tell their bytes, what is written and the status are those of
+/// the session, a definition that reads the whole syntax and paints the whole text anew, for
+/// `edit` at each command that changes the text. A read fault comes only where a file or the
+/// script couldn't be read or a file is absent, a write fault only where a write failed. Want of
+/// memory may be answered wherever the words are in the table. `edit` alone takes from `script`,
+/// of which it reads at most 64 MiB.
 pub fn run<F: Files, I: Source, O: Sink, E: Sink, L: Ledger>(
     alloc: Global,
     words: &[String],
@@ -123,7 +124,8 @@ pub fn run<F: Files, I: Source, O: Sink, E: Sink, L: Ledger>(
     ensures write_fault { result ≡ Status.WriteFault
         → Rose (O.faults out.old) (O.faults out.new) ⊎ Rose (E.faults err.old) (E.faults err.new) }
 
-    // A read of the script failed: `out` got what the commands print that were whole in the bytes taken.
+    // A read of the script failed: `out` got what the commands print that were whole in the bytes
+    // taken.
     ensures stopped { result ≡ Status.ReadFault
         → Rose (I.faults script.old) (I.faults script.new) → IfSome (F.told files.old) (λ known.
         StopsSoFar (asked_of (texts_of words.now)) known
@@ -166,8 +168,8 @@ pub fn run<F: Files, I: Source, O: Sink, E: Sink, L: Ledger>(
           faults_after = I.faults script.new;
         }) }
 
-    // Lines that are painted for a command that prints at once: at most those of its text, and none for
-    // words that name no text.
+    // Lines that are painted for a command that prints at once: at most those of its text, and
+    // none for words that name no text.
     ensures steps { IfSome (F.told files.old) (λ known.
         PaintsFew (asked_of (texts_of words.now)) known steps.old steps.new) }
     ensures steps_kept { asked_of (texts_of words.now) ≡ None → steps.new ≡ steps.old }

@@ -100,9 +100,7 @@ fn push_cause(out: &mut Vec<u8>, syntax: &Syntax, error: EditError) -> Result<()
             let group = group_of(&syntax.items, item);
             Ok(push_costly(out, line, col, syntax.groups.name(group))?)
         }
-        EditError::TooDeep { line, col } => {
-            Ok(push_deep(out, line, col)?)
-        }
+        EditError::TooDeep { line, col } => Ok(push_deep(out, line, col)?),
         EditError::Memory => Err(Memory),
     }
 }
