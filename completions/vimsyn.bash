@@ -4,7 +4,7 @@ _vimsyn() {
   local word=${COMP_WORDS[COMP_CWORD]} before=${COMP_WORDS[COMP_CWORD - 1]}
   COMPREPLY=()
   if ((COMP_CWORD == 1)); then
-    mapfile -t COMPREPLY < <(compgen -W 'check spans html' -- "$word")
+    mapfile -t COMPREPLY < <(compgen -W 'check spans html edit' -- "$word")
     return
   fi
   # bash cuts words at '=', so a value may be a word of its own
@@ -34,7 +34,7 @@ _vimsyn() {
     case ${COMP_WORDS[1]} in
       check) options='--assume-fromstart --folder=' ;;
       spans) options='--assume-fromstart --folder= --budget=' ;;
-      html) options='--assume-fromstart --folder= --budget= --number --no-pre' ;;
+      html | edit) options='--assume-fromstart --folder= --budget= --number --no-pre' ;;
     esac
     mapfile -t COMPREPLY < <(compgen -W "$options" -- "$word")
     [[ ${COMPREPLY[0]-} == *= ]] && compopt -o nospace 2>/dev/null

@@ -1,5 +1,5 @@
-//! What is printed of the commands of a script: the head of one that was carried out, and the line of one
-//! that was refused.
+//! What is printed of the commands of a script: the head of one that was carried out, and the
+//! line of one that was refused.
 //!
 //! A command's number is printed as it is handed in. Lines of the script are counted from 0 in the
 //! program and printed from 1.

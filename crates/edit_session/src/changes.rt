@@ -23,7 +23,8 @@ impl Model for Replacement {
     ghost view = { λ r. record { a = r.a; b = r.b; new = r.new } };
 }
 
-/// A text in place of lines `a` to `b - 1`; where a text would be left without lines, one empty line.
+/// A text in place of lines `a` to `b - 1`; where a text would be left without lines, one empty
+/// line.
 pub(crate) fn put_in_place<T: Lines>(
     alloc: Global,
     text: &T,
@@ -41,8 +42,8 @@ pub(crate) fn put_in_place<T: Lines>(
     Ok(Replacement { a, b, new })
 }
 
-/// Lines `a` to `b - 1` before line `dest`, by the least replacement; none where no line changes its
-/// place.
+/// Lines `a` to `b - 1` before line `dest`, by the least replacement; none where no line changes
+/// its place.
 pub(crate) fn moved<T: Lines>(
     alloc: Global,
     text: &T,

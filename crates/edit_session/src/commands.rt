@@ -19,8 +19,8 @@ use std::alloc::Global;
 use syn_base::{Ledger, Lines, List, Memory, Sink, Steps, put_all};
 use text_buffer::Line;
 
-/// What stands between two commands: the text as it is, how many commands there were, and whether one
-/// of them was refused.
+/// What stands between two commands: the text as it is, how many commands there were, and whether
+/// one of them was refused.
 #[derive(Drop)]
 pub(crate) struct Commands<D: Document + Drop> {
     pub(crate) document: D,
@@ -247,7 +247,8 @@ impl<D: Document + Drop> Commands<D> {
             (standing D.lines D.shown self.new.document self.new.number self.new.refused)
             (prints (standing D.lines D.shown self.old.document self.old.number self.old.refused)
             (standing D.lines D.shown self.old.document self.old.number self.old.refused).painted
-            ((D.painter self.old.document).page (D.lines self.old.document) (D.shown self.old.document))) }
+            ((D.painter self.old.document).page (D.lines self.old.document)
+            (D.shown self.old.document))) }
     {
         let mut out = self.head(alloc)?;
         let page = self.document.page(alloc)?;

@@ -36,8 +36,8 @@ pub trait Document: Lines {
         ensures { IfOk result (λ bytes.
             bytes ≡ (painter self.now).page (Self.lines self.now) (shown self.now)) };
 
-    /// Replaces the lines and paints the text, and answers the lines to tell, least first. On each refusal all
-    /// is as it was.
+    /// Replaces the lines and paints the text, and answers the lines to tell, least first. On
+    /// each refusal all is as it was.
     fn edit<L: Ledger>(
         &mut self,
         alloc: Global,
@@ -53,5 +53,6 @@ pub trait Document: Lines {
             (record { text = Self.lines self.old; spans = shown self.old })
             (record { text = Self.lines self.new; spans = shown self.new }) result }
         ensures within { IfOk result (All (λ number. number < length (Self.lines self.new))) }
-        ensures steps { steps.new ≤ steps.old + length (replaced (Self.lines self.old) replacement) };
+        ensures steps { steps.new ≤ steps.old
+            + length (replaced (Self.lines self.old) replacement) };
 }

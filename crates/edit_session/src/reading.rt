@@ -54,8 +54,8 @@ impl From<AllocError> for End {
     }
 }
 
-/// Reads a script from its source, and carries out each of its commands on the document as soon as its
-/// last byte was read. What a command prints is written before the next one is read.
+/// Reads a script from its source, and carries out each of its commands on the document as soon
+/// as its last byte was read. What a command prints is written before the next one is read.
 pub fn carry_out_script<D: Document + Drop, I: Source, O: Sink, L: Ledger>(
     alloc: Global,
     document: D,
@@ -220,8 +220,8 @@ fn read_pieces<D: Document + Drop, I: Source, O: Sink, L: Ledger>(
     Ok(false)
 }
 
-/// Reads a piece, and carries out the commands whose last line is whole with it. It answers how many
-/// bytes there were, none at the end.
+/// Reads a piece, and carries out the commands whose last line is whole with it. It answers how
+/// many bytes there were, none at the end.
 fn read_piece<D: Document + Drop, I: Source, O: Sink, L: Ledger>(
     alloc: Global,
     commands: &mut Commands<D>,

@@ -1,7 +1,8 @@
 -- Words, and what they ask.
 use Rattle.std.proofs.Common.{◌≡◌, ℕ, Bool, List, true, false, [], ◌∷◌, refl}
 use Rattle.std.specs.Prelude.{codes, Some, None}
-use Rattle.program_words.specs.declared.words.Asked.TheVariants.{Check, Html, Spans}
+use Rattle.program_words.specs.declared.words.Asked.TheVariants.{Edit, Print}
+use Rattle.program_words.specs.declared.words.Printing.TheVariants.{Check, Html, Spans}
 use Rattle.program_words.specs.Given.{CheckWords, PaintWords}
 use Rattle.program_words.specs.Words.{asked_of, budget_of}
 
@@ -14,17 +15,17 @@ painted syntax text budget = record { syntax = syntax; text = text; budget = bud
 abbrev plain : CheckWords
 plain = checked (codes "s") (codes ".") false
 
-two_names : asked_of (codes "spans" ∷ codes "s" ∷ codes "t" ∷ []) ≡ Some (Spans (painted plain (codes "t") 1000000))
+two_names : asked_of (codes "spans" ∷ codes "s" ∷ codes "t" ∷ []) ≡ Some (Print (Spans (painted plain (codes "t") 1000000)))
 two_names = refl
 
 -- behind `--` each word is a name
-behind_dashes : asked_of (codes "spans" ∷ codes "--" ∷ codes "-s" ∷ codes "--" ∷ []) ≡ Some (Spans (painted (checked (codes "-s") (codes ".") false) (codes "--") 1000000))
+behind_dashes : asked_of (codes "spans" ∷ codes "--" ∷ codes "-s" ∷ codes "--" ∷ []) ≡ Some (Print (Spans (painted (checked (codes "-s") (codes ".") false) (codes "--") 1000000)))
 behind_dashes = refl
 
 dashes_behind_a_name : asked_of (codes "spans" ∷ codes "s" ∷ codes "--" ∷ codes "t" ∷ []) ≡ None
 dashes_behind_a_name = refl
 
-a_budget : asked_of (codes "spans" ∷ codes "--budget=12" ∷ codes "--assume-fromstart" ∷ codes "s" ∷ codes "t" ∷ []) ≡ Some (Spans (painted (checked (codes "s") (codes ".") true) (codes "t") 12))
+a_budget : asked_of (codes "spans" ∷ codes "--budget=12" ∷ codes "--assume-fromstart" ∷ codes "s" ∷ codes "t" ∷ []) ≡ Some (Print (Spans (painted (checked (codes "s") (codes ".") true) (codes "t") 12)))
 a_budget = refl
 
 the_greatest_budget : budget_of (codes "1000000000") ≡ Some 1000000000
@@ -51,17 +52,17 @@ a_budget_twice = refl
 numbered_spans : asked_of (codes "spans" ∷ codes "--number" ∷ codes "s" ∷ codes "t" ∷ []) ≡ None
 numbered_spans = refl
 
-a_page : asked_of (codes "html" ∷ codes "--no-pre" ∷ codes "--number" ∷ codes "s" ∷ codes "t" ∷ []) ≡ Some (Html (record { painting = painted plain (codes "t") 1000000; number = true; pre = false }))
+a_page : asked_of (codes "html" ∷ codes "--no-pre" ∷ codes "--number" ∷ codes "s" ∷ codes "t" ∷ []) ≡ Some (Print (Html (record { painting = painted plain (codes "t") 1000000; number = true; pre = false })))
 a_page = refl
 
-a_plain_page : asked_of (codes "html" ∷ codes "s" ∷ codes "t" ∷ []) ≡ Some (Html (record { painting = painted plain (codes "t") 1000000; number = false; pre = true }))
+a_plain_page : asked_of (codes "html" ∷ codes "s" ∷ codes "t" ∷ []) ≡ Some (Print (Html (record { painting = painted plain (codes "t") 1000000; number = false; pre = true })))
 a_plain_page = refl
 
-one_name : asked_of (codes "check" ∷ codes "s" ∷ []) ≡ Some (Check plain)
+one_name : asked_of (codes "check" ∷ codes "s" ∷ []) ≡ Some (Print (Check plain))
 one_name = refl
 
 both_options : asked_of (codes "check" ∷ codes "--folder=a" ∷ codes "--assume-fromstart" ∷ codes "--" ∷ codes "--" ∷ [])
-    ≡ Some (Check (checked (codes "--") (codes "a") true))
+    ≡ Some (Print (Check (checked (codes "--") (codes "a") true)))
 both_options = refl
 
 empty_folder : asked_of (codes "check" ∷ codes "--folder=" ∷ codes "s" ∷ []) ≡ None
@@ -84,3 +85,13 @@ a_budget_of_check = refl
 
 one_dash : asked_of (codes "check" ∷ codes "-" ∷ codes "s" ∷ []) ≡ None
 one_dash = refl
+
+-- a session of edits has what a page has
+a_session : asked_of (codes "edit" ∷ codes "--number" ∷ codes "s" ∷ codes "t" ∷ []) ≡ Some (Edit (record { painting = painted plain (codes "t") 1000000; number = true; pre = true }))
+a_session = refl
+
+a_session_of_one_name : asked_of (codes "edit" ∷ codes "s" ∷ []) ≡ None
+a_session_of_one_name = refl
+
+no_large_mode : asked_of (codes "large" ∷ codes "7" ∷ codes "2000" ∷ []) ≡ None
+no_large_mode = refl

@@ -7,7 +7,9 @@ use Rattle.std.specs.List.{list_all, prefix_len, starts_with, take_while}
 use Rattle.std.specs.Str.{bytes_eq}
 use Rattle.std.specs.String.{string_bytes}
 use Rattle.program_words.specs.declared.words.Asked.{Asked}
-use Rattle.program_words.specs.declared.words.Asked.TheVariants.{Check, Html, Spans}
+use Rattle.program_words.specs.declared.words.Asked.TheVariants.{Edit, Print}
+use Rattle.program_words.specs.declared.words.Printing.{Printing}
+use Rattle.program_words.specs.declared.words.Printing.TheVariants.{Check, Html, Spans}
 use Rattle.program_words.specs.Given.{CheckWords, Options, PageWords, PaintWords, no_options}
 
 -- the bytes of the words
@@ -132,7 +134,8 @@ options_said words = with_options (Some no_options) words
 
 -- ---- commands
 
--- those that `check` has, and those that `spans` has; `html` has them all
+-- those that `check` has, and those that `spans` has; `html` and `edit` have them
+-- all
 abbrev pub are_for_spans : Options → Bool
 are_for_spans options = not options.number && not options.no_pre
 
@@ -189,13 +192,19 @@ html_of None names = None
 html_of (Some options) None = None
 html_of (Some options) (Some names) = Some (page_words options names.0 names.1)
 
--- what the words ask, if they are in the table of words
-abbrev pub asked_with : List ℕ → Option Options → Option (List (List ℕ)) → Option Asked
-asked_with command options names =
+-- what a command asks that prints at once
+abbrev pub printing_with : List ℕ → Option Options → Option (List (List ℕ)) → Option Printing
+printing_with command options names =
     if bytes_eq command (codes "check") then option_map Check (check_of options (one_name names))
     else if bytes_eq command (codes "spans") then option_map Spans (spans_of options (two_names names))
     else if bytes_eq command (codes "html") then option_map Html (html_of options (two_names names))
     else None
+
+-- what the words ask, if they are in the table of words
+abbrev pub asked_with : List ℕ → Option Options → Option (List (List ℕ)) → Option Asked
+asked_with command options names =
+    if bytes_eq command (codes "edit") then option_map Edit (html_of options (two_names names))
+    else option_map Print (printing_with command options names)
 
 abbrev pub asked_of : List (List ℕ) → Option Asked
 asked_of [] = None

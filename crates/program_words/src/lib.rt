@@ -7,4 +7,4 @@
 mod options;
 mod words;
 
-pub use words::{Asked, CheckWords, PageWords, PaintWords};
+pub use words::{Asked, CheckWords, PageWords, PaintWords, Printing};

@@ -2,7 +2,7 @@
 ghost use Rattle.std.specs.Prelude.{◌≡◌, ◌≤◌, None, Some, MatchOption};
 ghost use Rattle.std.specs.List.{list_all};
 ghost use Rattle.std.specs.String.{string_bytes};
-ghost use Rattle.program_words.specs.Words.{asked_of, check_of, has_dash, html_of, is_dashes, is_full, is_name, names_in, one_name, options_said, paint_words, spans_of, syntax_words, texts_of, two_names};
+ghost use Rattle.program_words.specs.Words.{asked_of, check_of, has_dash, html_of, is_dashes, is_full, is_name, names_in, one_name, options_said, paint_words, printing_with, spans_of, syntax_words, texts_of, two_names};
 ghost use Rattle.std.specs.Prelude.{option_map};
 
 use crate::options::{Options, split_options};
@@ -17,6 +17,13 @@ const USUAL_BUDGET: u64 = 1_000_000;
 /// What the words ask.
 #[derive(Drop)]
 pub enum Asked<'a> {
+    Print(Printing<'a>),
+    Edit(PageWords<'a>),
+}
+
+/// What is read from files and printed at once.
+#[derive(Drop)]
+pub enum Printing<'a> {
     Check(CheckWords<'a>),
     Spans(PaintWords<'a>),
     Html(PageWords<'a>),
@@ -87,14 +94,26 @@ impl<'a> Asked<'a> {
             return None;
         };
         let (front, rest) = split_options(behind);
-        if command.as_str() == "check" {
-            return Some(Asked::Check(CheckWords::read(front, rest)?));
+        if command.as_str() == "edit" {
+            return Some(Asked::Edit(PageWords::read(front, rest)?));
         }
-        if command.as_str() == "spans" {
-            return Some(Asked::Spans(PaintWords::read(front, rest)?));
+        Some(Asked::Print(Printing::read(command.as_str(), front, rest)?))
+    }
+}
+
+impl<'a> Printing<'a> {
+    /// What this command with these words behind it asks.
+    fn read(command: &str, front: &'a [String], rest: &'a [String]) -> Option<Printing<'a>>
+        ensures { result ≡ printing_with command.now (options_said (texts_of front.now)) (names_in (texts_of rest.now)) }
+    {
+        if command == "check" {
+            return Some(Printing::Check(CheckWords::read(front, rest)?));
         }
-        if command.as_str() == "html" {
-            return Some(Asked::Html(PageWords::read(front, rest)?));
+        if command == "spans" {
+            return Some(Printing::Spans(PaintWords::read(front, rest)?));
+        }
+        if command == "html" {
+            return Some(Printing::Html(PageWords::read(front, rest)?));
         }
         None
     }
@@ -194,7 +213,7 @@ impl<'a> PaintWords<'a> {
 }
 
 impl<'a> PageWords<'a> {
-    /// What the words behind `html` ask.
+    /// What the words behind `html` or `edit` ask.
     fn read(front: &'a [String], rest: &'a [String]) -> Option<PageWords<'a>>
         ensures { result ≡ html_of (options_said (texts_of front.now)) (two_names (names_in (texts_of rest.now))) }
     {

@@ -21,7 +21,7 @@ decided_or cause.TooLong unread planned known p = p
 decided_or cause.Content unread planned known p = p
 
 -- what a decided cause, or a line of a file that couldn't be read, leads to
-led : (cause : FaultKind) (unread planned more further : Type 0) → (unread → more) → (planned → further) → OrUnread cause unread planned → OrUnread cause more further
+pub led : (cause : FaultKind) (unread planned more further : Type 0) → (unread → more) → (planned → further) → OrUnread cause unread planned → OrUnread cause more further
 led cause.Missing unread planned more further u f p = f p
 led cause.Unread unread planned more further u f p = u p
 led cause.TooLong unread planned more further u f p = f p

@@ -2,7 +2,9 @@
 use Rattle.std.proofs.Common.{◌≡◌, ℕ, List, refl, ap, sym, ◌∙◌, ◌≤◌, length}
 use Rattle.std.proofs.lemmas.Bool.{le-ltb}
 use Rattle.std.specs.Prelude.{Some, Ok, Result, Err}
-use Rattle.program_words.specs.declared.words.Asked.TheVariants.{Html, Spans}
+use Rattle.edit_session.specs.Session.{is_too_long}
+use Rattle.program_words.specs.declared.words.Asked.TheVariants.{Edit, Print}
+use Rattle.program_words.specs.declared.words.Printing.TheVariants.{Html, Spans}
 use Rattle.program_words.specs.Given.{PageWords, PaintWords}
 use Rattle.program_words.specs.Words.{asked_of}
 use Rattle.syn_base.specs.Outside.{FileMap, file_named}
@@ -12,6 +14,7 @@ use Rattle.text_buffer.specs.declared.TextError.{TextError}
 use Rattle.vimsyn_cli.specs.declared.fault.Fault.{Fault}
 use Rattle.vimsyn_cli.specs.declared.file_fault.NamedFault.{NamedFault}
 use Rattle.vimsyn_cli.specs.Check.{syntax_counts}
+use Rattle.vimsyn_cli.specs.Editing.{edit_told, script_answer, script_end}
 use Rattle.vimsyn_cli.specs.Laws.{AcceptedSyntaxFile, IsAccepted}
 use Rattle.vimsyn_cli.specs.Painting.{bytes_told, file_bytes, lines_told, painted_told, painting_told, text_limit, text_told, with_spans}
 use Rattle.vimsyn_cli.specs.Plans.{and_then}
@@ -49,19 +52,24 @@ painting_is words files painted is =
     ∙ rw (sym is.budget_is) refl
 
 -- an accepted run prints the spans
-pub accepted_painted : (typed : List (List ℕ)) (files : FileMap) (words : PaintWords) (painted : PaintedText) → asked_of typed ≡ Some (Spans words) → IsAccepted words files painted → session typed files ≡ shows (spans_bytes painted)
-accepted_painted typed files words painted asked is =
-    ap (with_asked files) asked
+pub accepted_painted : (typed : List (List ℕ)) (files : FileMap) (script : List ℕ) (words : PaintWords) (painted : PaintedText) → asked_of typed ≡ Some (Print (Spans words)) → IsAccepted words files painted → session typed files script ≡ shows (spans_bytes painted)
+accepted_painted typed files script words painted asked is =
+    ap (with_asked files script) asked
     ∙ ap (λ (e : Result PaintedText Fault). session_told (and_then e (λ p. Ok (spans_bytes p)))) (painting_is words files painted is)
 
 -- or the page
-pub accepted_pages : (typed : List (List ℕ)) (files : FileMap) (words : PageWords) (painted : PaintedText) → asked_of typed ≡ Some (Html words) → IsAccepted words.painting files painted → session typed files ≡ shows (page_bytes words painted)
-accepted_pages typed files words painted asked is =
-    ap (with_asked files) asked
+pub accepted_pages : (typed : List (List ℕ)) (files : FileMap) (script : List ℕ) (words : PageWords) (painted : PaintedText) → asked_of typed ≡ Some (Print (Html words)) → IsAccepted words.painting files painted → session typed files script ≡ shows (page_bytes words painted)
+accepted_pages typed files script words painted asked is =
+    ap (with_asked files script) asked
     ∙ ap (λ (e : Result PaintedText Fault). session_told (and_then e (λ p. Ok (page_bytes words p)))) (painting_is words.painting files painted is)
 
+-- or what the commands of a script print
+pub accepted_edited : (typed : List (List ℕ)) (files : FileMap) (script : List ℕ) (words : PageWords) (painted : PaintedText) → asked_of typed ≡ Some (Edit words) → IsAccepted words.painting files painted → session typed files script ≡ script_end (is_too_long script) (script_answer words painted script)
+accepted_edited typed files script words painted asked is =
+    ap (with_asked files script) asked ∙ ap (edit_told words script) (painting_is words.painting files painted is)
+
 -- or the counts
-pub accepted_counted : (words : List (List ℕ)) (files : FileMap) (syntax : Syntax) → AcceptedSyntaxFile words files syntax → session words files ≡ shows (syntax_counts syntax)
-accepted_counted words files syntax is =
-    ap (with_asked files) is.words_are
+pub accepted_counted : (words : List (List ℕ)) (files : FileMap) (script : List ℕ) (syntax : Syntax) → AcceptedSyntaxFile words files syntax → session words files script ≡ shows (syntax_counts syntax)
+accepted_counted words files script syntax is =
+    ap (with_asked files script) is.words_are
     ∙ ap (λ (e : Result Syntax Fault). session_told (and_then e (λ s. Ok (syntax_counts s)))) (ap with_told is.syntax_is)

@@ -1,7 +1,13 @@
 -- What a run's clauses say of the bytes that the sinks got and of the status.
 use Rattle.std.specs.Prelude.{◌≡◌, ◌⊎◌, ℕ, Bool, true, false, List, Option, Result, Ok, Err}
+use Rattle.edit_session.specs.declared.reading.End.{End}
+use Rattle.edit_session.specs.declared.reading.End.TheVariants as end
+use Rattle.edit_session.specs.Ends.{SinkChange}
 use Rattle.program_words.specs.declared.words.Asked.{Asked}
-use Rattle.program_words.specs.declared.words.Asked.TheVariants.{Check, Html, Spans}
+use Rattle.program_words.specs.declared.words.Asked.TheVariants.{Edit, Print}
+use Rattle.program_words.specs.declared.words.Printing.{Printing}
+use Rattle.program_words.specs.declared.words.Printing.TheVariants.{Check, Html, Spans}
+use Rattle.program_words.specs.Given.{PageWords}
 use Rattle.syn_base.specs.Causes.{Rose}
 use Rattle.syn_base.specs.Outside.{appended, AppendsPrefix, FileMap}
 use Rattle.vimsyn_cli.specs.declared.fault.FaultKind.TheVariants.{TooLong}
@@ -11,9 +17,10 @@ use Rattle.vimsyn_cli.specs.declared.fault.Stop.TheVariants.{Fault}
 use Rattle.vimsyn_cli.specs.declared.fault.Stop.TheVariants as stop
 use Rattle.vimsyn_cli.specs.declared.status.Status.{Status}
 use Rattle.vimsyn_cli.specs.declared.status.Status.TheVariants.{Done, Refused, Usage, ReadFault, WriteFault, Memory}
-use Rattle.vimsyn_cli.specs.Painting.{IsPaintFault, IsUnreadPaint}
+use Rattle.state_cache.specs.PaintedText.{PaintedText}
+use Rattle.vimsyn_cli.specs.Painting.{IsPaintFault, IsUnreadPaint, painting_told}
 use Rattle.vimsyn_cli.specs.Reading.{IsReadFault, IsUnreadAsked}
-use Rattle.vimsyn_cli.specs.Report.{cause_status}
+use Rattle.vimsyn_cli.specs.Report.{cause_status, long_script, unread_script}
 use Rattle.vimsyn_cli.specs.Written.{Session}
 
 -- both sinks got the bytes of the session, and the status is its
@@ -31,18 +38,34 @@ is_unfailed ReadFault = false
 is_unfailed WriteFault = false
 is_unfailed Memory = false
 
--- a fault that this command tells, whatever the files say: of reading, of the text, or of its painting
-abbrev pub IsFaultOfAsked : Asked → FaultOf → Type 0
-IsFaultOfAsked (Check words) fault = IsReadFault fault
-IsFaultOfAsked (Spans words) fault = IsPaintFault words fault
-IsFaultOfAsked (Html words) fault = IsPaintFault words.painting fault
+-- a fault that a command tells that prints at once, whatever the files say: of reading, of the text, or of
+-- its painting
+abbrev pub IsFaultOfPrint : Printing → FaultOf → Type 0
+IsFaultOfPrint (Check words) fault = IsReadFault fault
+IsFaultOfPrint (Spans words) fault = IsPaintFault words fault
+IsFaultOfPrint (Html words) fault = IsPaintFault words.painting fault
 
--- the line for a file of this command that can't be read: one that the words name, or that the rules of
--- reading ask for
+-- the same of any command: `edit` tells what `html` tells
+abbrev pub IsFaultOfAsked : Asked → FaultOf → Type 0
+IsFaultOfAsked (Print printing) fault = IsFaultOfPrint printing fault
+IsFaultOfAsked (Edit words) fault = IsPaintFault words.painting fault
+
+-- the line for a file that can't be read: one that the words name, or that the rules of reading ask for
+abbrev pub IsUnreadPrint : Printing → FileMap → List ℕ → Type 0
+IsUnreadPrint (Check words) files line = IsUnreadAsked words files line
+IsUnreadPrint (Spans words) files line = IsUnreadPaint words files line
+IsUnreadPrint (Html words) files line = IsUnreadPaint words.painting files line
+
+-- the script is asked for: there is a painted text
+pub record AsksForScript (words : PageWords) (files : FileMap) : Type 0 where
+  pub painted : PaintedText
+  pub accepted : painting_told words.painting files ≡ Ok painted
+
+-- the same of any command; `edit` has the line for its script too
 abbrev pub IsUnreadLine : Asked → FileMap → List ℕ → Type 0
-IsUnreadLine (Check words) files line = IsUnreadAsked words files line
-IsUnreadLine (Spans words) files line = IsUnreadPaint words files line
-IsUnreadLine (Html words) files line = IsUnreadPaint words.painting files line
+IsUnreadLine (Print printing) files line = IsUnreadPrint printing files line
+IsUnreadLine (Edit words) files line =
+    IsUnreadPaint words.painting files line ⊎ (AsksForScript words files × (line ≡ unread_script))
 
 -- `err` got the whole line of a fault, and the answer is the status of that fault; it is of a file too
 -- long only where the count of such files rose
@@ -53,7 +76,7 @@ pub record TellsFault (asked : Asked) (before after : Option (List ℕ)) (longs 
   pub status : answer ≡ cause_status fault.cause
   pub too_long : fault.cause ≡ TooLong → Rose longs longs_after
 
--- a part of the line for a file that couldn't be read
+-- a part of the line for a file, or a script, that couldn't be read
 pub record TellsUnread (asked : Asked) (files : FileMap) (before after : Option (List ℕ)) : Type 0 where
   pub line : List ℕ
   pub unread : IsUnreadLine asked files line
@@ -77,13 +100,6 @@ pub record WroteSome (before after : Option (List ℕ)) (faults faults_after : �
   pub failed : Rose faults faults_after
   pub status : answer ≡ WriteFault
 
--- one sink before and after a call: what it holds, where told, and its count of faults
-pub record SinkChange : Type 0 where
-  pub before : Option (List ℕ)
-  pub after : Option (List ℕ)
-  pub faults : ℕ
-  pub faults_after : ℕ
-
 abbrev pub IsUntouched : SinkChange → Type 0
 IsUntouched sink = (sink.after ≡ sink.before) × (sink.faults_after ≡ sink.faults)
 
@@ -97,3 +113,12 @@ abbrev pub Delivers : Result (List ℕ) Stop → SinkChange → SinkChange → S
 Delivers (Ok bytes) out err answer = IsUntouched err × Writes out bytes Done answer
 Delivers (Err (Fault fault)) out err answer = IsUntouched out × Writes err fault.line (cause_status fault.cause) answer
 Delivers (Err stop.Memory) out err answer = IsUntouched out × IsUntouched err × (answer ≡ Memory)
+
+-- how a script ended is told on `err` where all was not read
+abbrev pub Closes : End → SinkChange → Status → Type 0
+Closes end.Done err answer = IsUntouched err × (answer ≡ Done)
+Closes end.Refused err answer = IsUntouched err × (answer ≡ Refused)
+Closes end.TooLong err answer = Writes err long_script Refused answer
+Closes end.Unread err answer = Writes err unread_script ReadFault answer
+Closes end.Unwritten err answer = IsUntouched err × (answer ≡ WriteFault)
+Closes end.Memory err answer = IsUntouched err × (answer ≡ Memory)

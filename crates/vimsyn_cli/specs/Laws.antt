@@ -1,6 +1,8 @@
 -- Laws of the session in the subject's own terms: what an accepted run gives.
 use Rattle.std.specs.Prelude.{◌≡◌, ℕ, ◌≤◌, List, length, Some, Ok}
-use Rattle.program_words.specs.declared.words.Asked.TheVariants.{Check, Html, Spans}
+use Rattle.edit_session.specs.Session.{is_too_long}
+use Rattle.program_words.specs.declared.words.Asked.TheVariants.{Edit, Print}
+use Rattle.program_words.specs.declared.words.Printing.TheVariants.{Check, Html, Spans}
 use Rattle.program_words.specs.Given.{CheckWords, PageWords, PaintWords}
 use Rattle.program_words.specs.Words.{asked_of}
 use Rattle.syn_base.specs.Outside.{FileMap, file_named}
@@ -10,6 +12,7 @@ use Rattle.state_cache.specs.PaintedText.{PaintedText}
 use Rattle.state_cache.specs.Spans.{text_spans}
 use Rattle.text_buffer.specs.TextOfBytes.{text_of}
 use Rattle.vimsyn_cli.specs.Check.{syntax_counts}
+use Rattle.vimsyn_cli.specs.Editing.{script_answer, script_end}
 use Rattle.vimsyn_cli.specs.Printing.{page_bytes, spans_bytes}
 use Rattle.vimsyn_cli.specs.Reading.{options_of}
 use Rattle.vimsyn_cli.specs.Session.{session}
@@ -29,23 +32,30 @@ pub record IsAccepted (words : PaintWords) (files : FileMap) (painted : PaintedT
 -- such a run prints the spans of the text, or its page
 abbrev pub AcceptedFilesArePainted : Type 0
 AcceptedFilesArePainted =
-    (typed : List (List ℕ)) (files : FileMap) (words : PaintWords) (painted : PaintedText)
-    → asked_of typed ≡ Some (Spans words) → IsAccepted words files painted → session typed files ≡ shows (spans_bytes painted)
+    (typed : List (List ℕ)) (files : FileMap) (script : List ℕ) (words : PaintWords) (painted : PaintedText)
+    → asked_of typed ≡ Some (Print (Spans words)) → IsAccepted words files painted → session typed files script ≡ shows (spans_bytes painted)
 
 abbrev pub AcceptedFilesArePages : Type 0
 AcceptedFilesArePages =
-    (typed : List (List ℕ)) (files : FileMap) (words : PageWords) (painted : PaintedText)
-    → asked_of typed ≡ Some (Html words) → IsAccepted words.painting files painted → session typed files ≡ shows (page_bytes words painted)
+    (typed : List (List ℕ)) (files : FileMap) (script : List ℕ) (words : PageWords) (painted : PaintedText)
+    → asked_of typed ≡ Some (Print (Html words)) → IsAccepted words.painting files painted → session typed files script ≡ shows (page_bytes words painted)
+
+-- or, for `edit`, prints what the commands of the script print, one after the other
+abbrev pub AcceptedTextsAreEdited : Type 0
+AcceptedTextsAreEdited =
+    (typed : List (List ℕ)) (files : FileMap) (script : List ℕ) (words : PageWords) (painted : PaintedText)
+    → asked_of typed ≡ Some (Edit words) → IsAccepted words.painting files painted
+    → session typed files script ≡ script_end (is_too_long script) (script_answer words painted script)
 
 -- words of the table for `check`, with a syntax file that the rules of reading accept, by the files that
 -- it asks for
 pub record AcceptedSyntaxFile (words : List (List ℕ)) (files : FileMap) (syntax : Syntax) : Type 0 where
   pub asked : CheckWords
-  pub words_are : asked_of words ≡ Some (Check asked)
+  pub words_are : asked_of words ≡ Some (Print (Check asked))
   pub syntax_is : syntax_of files asked.syntax (options_of asked) ≡ Ok syntax
 
 -- such a run prints how many items, keywords and clusters there are
 abbrev pub AcceptedSyntaxFilesAreCounted : Type 0
 AcceptedSyntaxFilesAreCounted =
-    (words : List (List ℕ)) (files : FileMap) (syntax : Syntax)
-    → AcceptedSyntaxFile words files syntax → session words files ≡ shows (syntax_counts syntax)
+    (words : List (List ℕ)) (files : FileMap) (script : List ℕ) (syntax : Syntax)
+    → AcceptedSyntaxFile words files syntax → session words files script ≡ shows (syntax_counts syntax)

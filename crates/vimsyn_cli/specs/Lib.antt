@@ -1,12 +1,14 @@
 -- what a reader must believe
 pub mod Answers
 pub mod Check
+pub mod Editing
 pub mod Laws
 pub mod Painting
 pub mod Plans
 pub mod Printing
 pub mod Reading
 pub mod Report
+pub mod Runs
 pub mod Session
 pub mod Statuses
 pub mod TextFault

@@ -5,8 +5,16 @@ use Rattle.state_cache.specs.declared.refusal.EditError.{EditError}
 use Rattle.state_cache.specs.declared.refusal.EditError.TheVariants as refusal
 use Rattle.vimsyn_cli.specs.declared.fault.Stop.{Stop}
 use Rattle.vimsyn_cli.specs.declared.fault.Stop.TheVariants.{Fault, Memory}
+use Rattle.edit_session.specs.declared.document.Unedited.{Unedited}
+use Rattle.edit_session.specs.declared.document.Unedited.TheVariants as unedited
+use Rattle.vimsyn_cli.specs.Editing.{cause_words}
 use Rattle.vimsyn_cli.specs.Painting.{refused_fault}
 
 abbrev pub IsRefusal : List ℕ → Syntax → EditError → Stop → Type 0
 IsRefusal name syntax error (Fault fault) = (error ≢ refusal.Memory) × (fault ≡ refused_fault name syntax error)
 IsRefusal name syntax error Memory = ⊤
+
+-- the same for a text that isn't changed
+abbrev pub IsUnedited : Syntax → EditError → Unedited → Type 0
+IsUnedited syntax error (unedited.Refused words) = (error ≢ refusal.Memory) × (words ≡ cause_words syntax error)
+IsUnedited syntax error unedited.Memory = ⊤

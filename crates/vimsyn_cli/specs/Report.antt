@@ -12,6 +12,14 @@ use Rattle.vimsyn_cli.specs.declared.file_fault.NamedFault.TheVariants.{Missing,
 abbrev pub usage_line : List ℕ
 usage_line = codes "usage: vimsyn check|spans|html|edit|large [options] names\n"
 
+-- the line for a script of too many bytes
+abbrev pub long_script : List ℕ
+long_script = codes "script too long\n"
+
+-- the line for a script that can't be read
+abbrev pub unread_script : List ℕ
+unread_script = codes "script: read failed\n"
+
 -- a file that is absent or can't be read is a read fault, any other fault is refused
 abbrev pub cause_status : FaultKind → Status
 cause_status cause.Missing = ReadFault

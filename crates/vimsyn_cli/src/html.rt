@@ -35,7 +35,11 @@ pub(crate) fn print_page<F: Files, L: Ledger>(
 }
 
 /// The page of a painted text.
-fn page_bytes(alloc: Global, words: &PageWords<'_>, painted: &Painted) -> Result<List<u8>, Memory>
+pub(crate) fn page_bytes(
+    alloc: Global,
+    words: &PageWords<'_>,
+    painted: &Painted,
+) -> Result<List<u8>, Memory>
     ensures { IfOk result (λ bytes. bytes ≡ page_bytes words.now painted.now) }
 {
     let syntax = painted.syntax();

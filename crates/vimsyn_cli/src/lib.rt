@@ -7,14 +7,18 @@
 #![tactic(auto)]
 
 mod check;
+mod deliver;
+mod edit;
 mod fault;
 mod file_fault;
 mod html;
 pub mod laws;
 mod painting;
+mod print;
 mod reading;
 mod refusal;
 mod session;
+mod sheet;
 mod spans;
 mod status;
 mod text_file;

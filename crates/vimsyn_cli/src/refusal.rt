@@ -83,7 +83,7 @@ fn push_place(out: &mut Vec<u8>, line: usize, col: usize) -> Result<(), AllocErr
 }
 
 /// The group of an item.
-fn group_of(items: &ItemSet, item: ItemId) -> GroupId
+pub(crate) fn group_of(items: &ItemSet, item: ItemId) -> GroupId
     ensures { result ≡ (item_of items.now item).group }
 {
     if (item.0 as usize) < items.added() {

@@ -46,20 +46,22 @@ fn spans_bytes(alloc: Global, painted: &Painted) -> Result<List<u8>, Memory>
     let mut out = Vec::new(alloc);
     for number in 0..painted.len() {
         let spans = spans_at(painted, number);
-        push_line(alloc, &mut out, syntax, number, spans)?;
+        push_line(alloc, &mut out, syntax, number, spans, false)?;
     }
     Ok(List::from_vec(out))
 }
 
-/// The spans of the line of this number. Their columns have numbers from 1, as the line is in
+/// The spans of the line of this number. It and its columns have numbers from 1, as the text is in
 /// memory.
-fn spans_at(painted: &Painted, number: usize) -> &[Span]
+pub(crate) fn spans_at(painted: &Painted, number: usize) -> &[Span]
     requires within { number < length painted.now.text }
     requires painted { IsPainted painted.now }
     ensures is { result.now ≡ get_or painted.now.spans number [] }
     ensures columns { All (λ span. (span.first < usize.MAX) × (span.last < usize.MAX)) result.now }
+    ensures number { number < usize.MAX }
 {
     let _columns = columns_of(painted.line(number));
+    let _count = painted.len();
     painted.spans(number)
 }
 
@@ -71,20 +73,21 @@ fn columns_of(line: &[char]) -> usize
     line.len()
 }
 
-/// Appends the span lines of the line of this number.
-fn push_line(
+/// Appends the span lines of the line of this number. With `dash` a line without spans is told too.
+pub(crate) fn push_line(
     alloc: Global,
     out: &mut Vec<u8>,
     syntax: &Syntax,
     number: usize,
     spans: &[Span],
+    dash: bool,
 ) -> Result<(), Memory>
     requires number { number < usize.MAX }
     requires columns { All (λ span. (span.first < usize.MAX) × (span.last < usize.MAX)) spans.now }
     ensures { OnOk result (out.new.items ≡ out.old.items
-        ++ line_text syntax.now.groups syntax.now.links number spans.now false) }
+        ++ line_text syntax.now.groups syntax.now.links number spans.now dash) }
 {
-    let bytes = span_text(alloc, number, spans, &syntax.groups, &syntax.links, false)?;
+    let bytes = span_text(alloc, number, spans, &syntax.groups, &syntax.links, dash)?;
     push_bytes(out, bytes.as_slice())?;
     Ok(())
 }

@@ -1,0 +1,32 @@
+use Rattle.std.proofs.Common.{ℕ, List, refl}
+use Rattle.std.specs.Prelude.{Err}
+use Rattle.program_words.specs.declared.words.Asked.TheVariants.{Edit}
+use Rattle.state_cache.specs.PaintedText.{PaintedText}
+use Rattle.vimsyn_cli.specs.Plans.{is_missing, is_too_long, is_unread}
+use Rattle.vimsyn_cli.proofs.EditLaws.{edit_fault, edit_painted_told, edit_planned, edited_runs, raises_again, stop_undone}
+use Rattle.vimsyn_cli.proofs.RunLaws.{delivered_runs}
+use Rattle.vimsyn_cli.proofs.edit.run_edit.Goals as goal
+
+pub returns-in-Ok : goal.returns-in-Ok
+returns-in-Ok g c =
+    edited_runs c.args.words.now c.in-Ok.painted
+    (record { told = g.F.Files.told c.args.files.now; told_after = g.F.Files.told c.paint.new.files; faults = g.F.Files.faults c.args.files.now; faults_after = g.F.Files.faults c.paint.new.files; misses = g.F.Files.misses c.args.files.now; misses_after = g.F.Files.misses c.paint.new.files; longs = g.F.Files.longs c.args.files.now; longs_after = g.F.Files.longs c.paint.new.files })
+    (record { before = g.I.Source.left c.args.script.now; after = g.I.Source.left c.edit_painted.new.script; faults = g.I.Source.faults c.args.script.now; faults_after = g.I.Source.faults c.edit_painted.new.script })
+    (record { before = g.O.Sink.written c.args.out.now; after = g.O.Sink.written c.edit_painted.new.out; faults = g.O.Sink.faults c.args.out.now; faults_after = g.O.Sink.faults c.edit_painted.new.out })
+    (record { before = g.E.Sink.written c.args.err.now; after = g.E.Sink.written c.edit_painted.new.err; faults = g.E.Sink.faults c.args.err.now; faults_after = g.E.Sink.faults c.edit_painted.new.err })
+    c.edit_painted.result
+    (edit_painted_told c.args.words.now c.painting.result.now (g.F.Files.told c.args.files.now) c.in-Ok.painted c.painting.ensures c.in-Ok.ensures.planned)
+    c.in-Ok.ensures.kept c.in-Ok.ensures.faults c.in-Ok.ensures.misses c.in-Ok.ensures.longs c.edit_painted.ensures
+
+pub returns-in-Err : goal.returns-in-Err
+returns-in-Err g c =
+    delivered_runs (Edit c.args.words.now) (Err c.in-Err.stop)
+    (record { told = g.F.Files.told c.args.files.now; told_after = g.F.Files.told c.paint.new.files; faults = g.F.Files.faults c.args.files.now; faults_after = g.F.Files.faults c.paint.new.files; misses = g.F.Files.misses c.args.files.now; misses_after = g.F.Files.misses c.paint.new.files; longs = g.F.Files.longs c.args.files.now; longs_after = g.F.Files.longs c.paint.new.files })
+    (record { before = g.I.Source.left c.args.script.now; after = g.I.Source.left c.args.script.now; faults = g.I.Source.faults c.args.script.now; faults_after = g.I.Source.faults c.args.script.now })
+    (record { before = g.O.Sink.written c.args.out.now; after = g.O.Sink.written c.deliver.new.out; faults = g.O.Sink.faults c.args.out.now; faults_after = g.O.Sink.faults c.deliver.new.out })
+    (record { before = g.E.Sink.written c.args.err.now; after = g.E.Sink.written c.deliver.new.err; faults = g.E.Sink.faults c.args.err.now; faults_after = g.E.Sink.faults c.deliver.new.err })
+    c.deliver.result
+    (edit_planned c.args.words.now c.painting.result.now (g.F.Files.told c.args.files.now) (g.I.Source.left c.args.script.now) c.in-Err.stop c.painting.ensures c.in-Err.ensures.planned)
+    (edit_fault c.args.words.now c.painting.result.now c.in-Err.stop c.painting.ensures c.in-Err.ensures.told)
+    (raises_again PaintedText (List ℕ) is_unread c.in-Err.stop _ _ c.in-Err.ensures.faults) (raises_again PaintedText (List ℕ) is_missing c.in-Err.stop _ _ c.in-Err.ensures.misses) (raises_again PaintedText (List ℕ) is_too_long c.in-Err.stop _ _ c.in-Err.ensures.longs)
+    c.in-Err.ensures.kept refl refl c.deliver.ensures (λ is. absurd (stop_undone c.in-Err.stop _ _ c.deliver.result c.deliver.ensures is))

@@ -1,0 +1,131 @@
+-- What a run of a command comes to: its answer, what the sinks got, and what became of the files and of the
+-- script.
+use Rattle.std.specs.Prelude.{◌≡◌, ◌≢◌, ◌⊎◌, ℕ, ◌+◌, ◌<◌, ◌≤◌, Bool, true, false, List, [], ◌++◌, length, Option, Some, None, IfSome, IsSomeAnd, Ok, ⊤}
+use Rattle.edit_script.specs.Entries.{entries_of}
+use Rattle.edit_session.specs.declared.reading.End.{End}
+use Rattle.edit_session.specs.Ends.{EndsSo, SinkChange, SourceChange, Takes}
+use Rattle.edit_session.specs.Session.{most_bytes, session, start}
+use Rattle.program_words.specs.declared.words.Asked.{Asked}
+use Rattle.program_words.specs.declared.words.Asked.TheVariants.{Edit, Print}
+use Rattle.program_words.specs.Given.{PageWords}
+use Rattle.syn_base.specs.Causes.{Rose}
+use Rattle.syn_base.specs.Outside.{AppendsPrefix, FileMap, appended}
+use Rattle.state_cache.specs.PaintedText.{PaintedText}
+use Rattle.vimsyn_cli.specs.declared.status.Status.{Status}
+use Rattle.vimsyn_cli.specs.declared.status.Status.TheVariants.{Done, Refused, Usage, ReadFault, WriteFault, Memory}
+use Rattle.vimsyn_cli.specs.Answers.{Closes, GivesSession, TellsAllUnread, TellsFault, TellsUnread, is_unfailed}
+use Rattle.vimsyn_cli.specs.Editing.{painter_of, script_answer, shown_of}
+use Rattle.vimsyn_cli.specs.Painting.{painting_told}
+use Rattle.vimsyn_cli.specs.Report.{long_script, unread_script}
+use Rattle.vimsyn_cli.specs.Session.{print_lines, script_read, with_asked}
+
+-- files before and after a call: what they hold, where told, and their counts
+pub record FilesChange : Type 0 where
+  pub told : Option FileMap
+  pub told_after : Option FileMap
+  pub faults : ℕ
+  pub faults_after : ℕ
+  pub misses : ℕ
+  pub misses_after : ℕ
+  pub longs : ℕ
+  pub longs_after : ℕ
+
+-- where what a command reads of the files and of the script is told
+abbrev pub IfTold : Option FileMap → Option (List ℕ) → (FileMap → List ℕ → Type 0) → Type 0
+IfTold None script P = ⊤
+IfTold (Some files) None P = ⊤
+IfTold (Some files) (Some script) P = P files script
+
+-- where told, more bytes of the script were taken than are read of one
+abbrev pub IsLongScript : SourceChange → Type 0
+IsLongScript script = (bytes : List ℕ) × Takes bytes script.before script.after × (most_bytes < length bytes)
+
+-- a script was refused as a whole, or one of its commands was, and then it was read to its end
+abbrev pub RefusesScript : Asked → SourceChange → SinkChange → Type 0
+RefusesScript (Edit words) script err =
+    ((err.after ≡ appended err.before long_script) × IsLongScript script)
+    ⊎ ((err.after ≡ err.before) × IfSome script.after (λ rest. rest ≡ []))
+RefusesScript (Print printing) script err = ⊥
+
+-- a script couldn't be read, which `err` got the line for
+abbrev pub FailsScript : Asked → SourceChange → SinkChange → Type 0
+FailsScript (Edit words) script err = (err.after ≡ appended err.before unread_script) × Rose script.faults script.faults_after
+FailsScript asked script err = ⊥
+
+-- a read of the script failed: `out` got what the commands print whose last line is whole in the bytes that
+-- were taken
+pub record PrintsSoFar (words : PageWords) (painted : PaintedText) (script : SourceChange) (out : SinkChange) : Type 0 where
+  pub bytes : List ℕ
+  pub taken : Takes bytes script.before script.after
+  pub printed : out.after ≡ appended out.before (session (painter_of words painted.syntax painted.budget) (start (shown_of painted)) (entries_of 0 bytes)).text
+
+-- a read of the script failed, where the files are told: `out` got just that
+abbrev pub StopsSoFar : Option Asked → FileMap → SourceChange → SinkChange → Type 0
+StopsSoFar (Some (Edit words)) files script out =
+    (painted : PaintedText) → painting_told words.painting files ≡ Ok painted → PrintsSoFar words painted script out
+StopsSoFar asked files script out = ⊤
+
+-- words that ask for no session of edits leave the script alone
+abbrev pub LeavesScript : Option Asked → SourceChange → Type 0
+LeavesScript (Some (Edit words)) script = ⊤
+LeavesScript asked script = (script.after ≡ script.before) × (script.faults_after ≡ script.faults)
+
+-- a session of edits reads its script to the end
+abbrev pub EndsScript : Option Asked → SourceChange → Type 0
+EndsScript (Some (Edit words)) script = IfSome script.after (λ rest. rest ≡ [])
+EndsScript asked script = ⊤
+
+pub record Runs (asked : Option Asked) (files : FilesChange) (script : SourceChange) (out err : SinkChange) (answer : Status) : Type 0 where
+  -- where what is read is told and nothing fails, all is as in the session
+  pub session : IfTold files.told (script_read asked script.before) (λ known bytes.
+      ¬ Rose files.faults files.faults_after → ¬ Rose script.faults script.faults_after
+      → ¬ Rose out.faults out.faults_after → ¬ Rose err.faults err.faults_after → answer ≢ Memory
+      → GivesSession (with_asked known bytes asked) out.before out.after err.before err.after answer)
+  -- whatever the answer, the sinks got a part of the session's bytes, but that `err` may have got the line
+  -- for a file or a script that couldn't be read
+  pub out_part : IfTold files.told (script_read asked script.before) (λ known bytes.
+      AppendsPrefix out.before out.after (with_asked known bytes asked).out)
+  pub err_part : IfTold files.told (script_read asked script.before) (λ known bytes.
+      ¬ Rose files.faults files.faults_after → ¬ Rose script.faults script.faults_after
+      → AppendsPrefix err.before err.after (with_asked known bytes asked).err)
+  pub err_part_or_unread : IfTold files.told (script_read asked script.before) (λ known bytes.
+      AppendsPrefix err.before err.after (with_asked known bytes asked).err
+      ⊎ IsSomeAnd asked (λ a. TellsUnread a known err.before err.after))
+  -- each answer and its cause
+  pub usage : answer ≡ Usage → asked ≡ None
+  pub faulty : asked ≡ None → (answer ≡ Usage) ⊎ (answer ≡ WriteFault)
+  pub refused : answer ≡ Refused → IsSomeAnd asked (λ a.
+      TellsFault a err.before err.after files.longs files.longs_after answer ⊎ RefusesScript a script err)
+  pub read_fault : answer ≡ ReadFault →
+      Rose files.faults files.faults_after ⊎ Rose files.misses files.misses_after ⊎ Rose script.faults script.faults_after
+  pub read_fault_line : answer ≡ ReadFault → IsSomeAnd asked (λ a.
+      TellsFault a err.before err.after files.longs files.longs_after answer ⊎ FailsScript a script err)
+  pub read_fault_told : answer ≡ ReadFault → IfTold files.told (script_read asked script.before) (λ known bytes.
+      (err.after ≡ appended err.before (with_asked known bytes asked).err)
+      ⊎ IsSomeAnd asked (λ a. TellsAllUnread a known err.before err.after))
+  pub write_fault : answer ≡ WriteFault → Rose out.faults out.faults_after ⊎ Rose err.faults err.faults_after
+  pub stopped : answer ≡ ReadFault → Rose script.faults script.faults_after
+      → IfSome files.told (λ known. StopsSoFar asked known script out)
+  -- what stays as it was
+  pub files_unfailed : is_unfailed answer ≡ true → files.faults_after ≡ files.faults
+  pub script_unfailed : is_unfailed answer ≡ true → script.faults_after ≡ script.faults
+  pub out_unfailed : answer ≢ WriteFault → out.faults_after ≡ out.faults
+  pub err_unfailed : answer ≢ WriteFault → err.faults_after ≡ err.faults
+  pub done_misses : answer ≡ Done → files.misses_after ≡ files.misses
+  pub done_longs : answer ≡ Done → files.longs_after ≡ files.longs
+  pub files_kept : files.told_after ≡ files.told
+  pub script_left : LeavesScript asked script
+  pub script_ended : answer ≡ Done → EndsScript asked script
+
+-- how many lines are painted at most for a command that prints at once
+abbrev pub PaintsFew : Option Asked → FileMap → ℕ → ℕ → Type 0
+PaintsFew None files before after = after ≡ before
+PaintsFew (Some (Print printing)) files before after = after ≤ before + print_lines printing files
+PaintsFew (Some (Edit words)) files before after = ⊤
+
+-- a script was carried out on a painted text
+pub record EditsPainted (words : PageWords) (painted : PaintedText) (script : SourceChange) (out err : SinkChange) (answer : Status) : Type 0 where
+  pub end : End
+  pub ends : EndsSo (painter_of words painted.syntax painted.budget) (shown_of painted) script out end
+  pub closes : Closes end err answer
+  pub part : IfSome script.before (λ bytes. AppendsPrefix out.before out.after (script_answer words painted bytes).text)
