@@ -5,11 +5,12 @@
 pub enum Status {
     /// All was printed.
     Done,
-    /// What a file holds is refused, or a file is too long; `err` has the line that tells it.
+    /// What a file holds is refused, or a file or the script is too long; `err` has the line that
+    /// tells it. Or a command of the script was refused, which `out` tells.
     Refused,
     /// The words aren't in the table of words.
     Usage,
-    /// A file is absent or can't be read.
+    /// A file is absent, or a file or the script can't be read.
     ReadFault,
     /// A write failed.
     WriteFault,
