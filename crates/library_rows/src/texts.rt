@@ -58,7 +58,8 @@ fn change_text(text: &mut Text, a: usize, b: usize, new: List<Line>) -> Result<(
         return Err(Fault::BadCase);
     }
     let left = a + (count - b);
-    if new.len() > MOST_LINES - left || left + new.len() == 0 {
+    let lines = left.saturating_add(new.len());
+    if lines == 0 || lines > MOST_LINES {
         return Err(Fault::BadCase);
     }
     Ok(text.replace(a, b, new)?)
