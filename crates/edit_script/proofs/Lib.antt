@@ -6,3 +6,4 @@ pub mod TextLaws
 pub mod FeedLaws
 mod KnownEdits
 mod KnownScripts
+pub mod WithinLaws

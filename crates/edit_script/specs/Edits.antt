@@ -1,7 +1,7 @@
 -- What a command does to a text. Addresses count lines from 1; line 0 stands before the first one,
 -- and only what puts lines behind a line takes it, and `i`, for which it is as 1. The result speaks
 -- of lines from 0, half open.
-use Rattle.std.specs.Prelude.{ℕ, ◌+◌, ◌-◌, nat_eq, nat_le, nat_lt, ◌&&◌, ◌||◌, List, [], ◌∷◌, ◌++◌, length, take, drop, slice_range, Option, Some, None, Result, Ok, Err, if◌then◌else◌}
+use Rattle.std.specs.Prelude.{ℕ, ◌+◌, ◌-◌, ◌<◌, ◌≤◌, nat_eq, nat_le, nat_lt, ◌&&◌, ◌||◌, List, [], ◌∷◌, ◌++◌, length, take, drop, slice_range, Option, Some, None, Result, Ok, Err, if◌then◌else◌}
 use Rattle.text_buffer.specs.TextOfBytes.{most_lines}
 use Rattle.edit_script.specs.declared.commands.Last.{Last}
 use Rattle.edit_script.specs.declared.commands.Last.TheVariants.{Number, End}
@@ -96,6 +96,15 @@ abbrev pub resolved_of : EditCommand → ℕ → Result Resolved ResolveError
 resolved_of command count =
     unless (first_cause command count)
     (does_of command.verb (line_named command.first count) (line_named command.last count) count)
+
+-- what can be done in a text of so many lines: the lines lie in it, and lines that are moved don't
+-- come between two of their own
+abbrev pub IsWithin : Resolved → ℕ → Type 0
+IsWithin (does.Replace a b) count = (a ≤ b) × (b ≤ count)
+IsWithin (does.Move a b dest) count = (a < b) × (b ≤ count) × (dest ≤ count) × (a < dest → b ≤ dest)
+IsWithin (does.CopyTo a b dest) count = (a < b) × (b ≤ count) × (dest ≤ count)
+IsWithin (does.Print a b) count = (a < b) × (b ≤ count)
+IsWithin does.Page count = Unit {0}
 
 -- ---- the one replacement that an edit is
 

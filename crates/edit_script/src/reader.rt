@@ -19,8 +19,8 @@ pub(crate) struct Reader {
     pub lines: usize,
     /// The number of the line that has no line break yet, from 0.
     pub at: usize,
-    /// The bytes behind the lines that were answered or skipped. A line is read from them once, when
-    /// its line break comes; those of a text stay until its dot, since contracts see them.
+    /// The bytes behind the lines that were answered or skipped. A line is read from them once,
+    /// when its line break comes; those of a text stay until its dot, since contracts see them.
     pub bytes: Vec<u8>,
     /// Where the line begins in them that has no line break yet.
     pub cut: usize,

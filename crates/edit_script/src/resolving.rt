@@ -20,6 +20,7 @@ fn least_line(verb: &Verb) -> u64
 fn line_at(least: u64, address: Last, count: usize) -> Result<usize, ResolveError>
     ensures line { IfOk result (λ n. (spec.outside least address count ≡ None)
         × (n ≡ spec.line_named address count)) }
+    ensures from { IfOk result (λ n. least ≤ n) }
     ensures within { IfOk result (λ n. n ≤ count) }
     ensures outside { IfErr result (λ cause. spec.outside least address count ≡ Some cause) }
 {
@@ -96,7 +97,10 @@ fn has_too_many_lines(resolved: Resolved, new: usize, count: usize) -> bool
 /// memory.
 pub fn resolve(command: &EditCommand, count: usize) -> Result<Resolved, ResolveError>
     requires { 1 ≤ count }
-    ensures { result ≡ spec.resolved_of command.now count }
+    ensures resolved { result ≡ spec.resolved_of command.now count }
+    ensures within { IfOk result (λ resolved. spec.IsWithin resolved count) }
+    ensures few { IfOk result (λ resolved.
+        spec.too_many_lines resolved (length command.now.lines) count ≡ None) }
 {
     let least = least_line(&command.verb);
     let first = line_at(least, command.first, count)?;
