@@ -1,6 +1,6 @@
 -- What was read so far, and what is read next.
-use Rattle.std.proofs.Common.{◌≡◌, ℕ, ◌+◌, ◌-◌, ◌<◌, ◌≤◌, Bool, true, false, List, [], ◌∷◌, ◌++◌, length, take, refl, ap, sym, subst, ◌∙◌, append_assoc, arith}
-use Rattle.std.specs.Prelude.{Option, Some, None, IfSome, Result, Ok, Err, nat_lt, option_map, if◌then◌else◌}
+use Rattle.std.proofs.Common.{◌≡◌, ℕ, ◌+◌, ◌-◌, ◌≤◌, Bool, true, false, List, [], ◌++◌, length, take, refl, ap, sym, subst, ◌∙◌, append_assoc, arith}
+use Rattle.std.specs.Prelude.{Option, Some, None, IfSome, Result, Ok, Err, option_map, if◌then◌else◌}
 use Rattle.std.proofs.Math.Seq.{take-append-add}
 use Rattle.std.proofs.lemmas.Bool.Decides.{nat_tests}
 use Rattle.std.proofs.lemmas.List.{append-nil, length-append}
@@ -10,7 +10,7 @@ use Rattle.edit_script.specs.declared.commands.Entry.{Entry}
 use Rattle.edit_script.specs.Entries.{entries_at_end, entries_of, kept_of}
 use Rattle.edit_script.specs.Kept.{Kept}
 use Rattle.edit_script.proofs.StandingLaws.{end_two, entries_two, kept_two}
-use Rattle.edit_session.specs.Ends.{FailsBehind, ReadsOver, ReadsToEnd, SinkChange, SourceChange, Takes}
+use Rattle.edit_session.specs.Ends.{SinkChange, SourceChange, Takes}
 use Rattle.edit_session.specs.Painter.{Painter}
 use Rattle.edit_session.specs.Session.{Answer, Standing, behind, entries_read, is_too_long, most_bytes, session}
 use Rattle.edit_session.specs.declared.reading.End.{End}
