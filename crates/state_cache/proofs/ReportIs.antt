@@ -89,9 +89,11 @@ told_is old change k (spans ∷ rest) m has = by (told_is old change (suc k) res
         let C : ℕ → Type 0 = λ i. IsChanged old (old_line change m) (get_or (spans ∷ rest) i []) in
         let M : ℕ → Type 0 = λ j. IsChanged old (old_line change j) spans in
         (omega arith, omega arith, subst C (sym zero_is) (subst M same (changed_of old (old_line change k) spans e)))
+
     told : (Contains (report_from old change (suc k) rest) m → IsToldFrom old change (suc k) rest m) → differs old (old_line change k) spans ≡ true → (k ≡ m) ⊎ Contains (report_from old change (suc k) rest) m → IsToldFrom old change k (spans ∷ rest) m
     told behind e (inl same) = here e same
     told behind e (inr has) = later_told old change k spans rest m (behind has)
+
     by : (Contains (report_from old change (suc k) rest) m → IsToldFrom old change (suc k) rest m) → (b : Bool) → differs old (old_line change k) spans ≡ b → Contains (if b then k ∷ report_from old change (suc k) rest else report_from old change (suc k) rest) m → IsToldFrom old change k (spans ∷ rest) m
     by behind true e has = told behind e (in_cons k (report_from old change (suc k) rest) m has)
     by behind false e has = later_told old change k spans rest m (behind has)
@@ -103,9 +105,11 @@ is_told old change k (spans ∷ rest) m is = by (is_told old change (suc k) rest
     behind : (b : Bool) → Contains (report_from old change (suc k) rest) m → Contains (if b then k ∷ report_from old change (suc k) rest else report_from old change (suc k) rest) m
     behind true has = in_tail k (report_from old change (suc k) rest) m has
     behind false has = has
+
     here : (b : Bool) → b ≡ true → k ≡ m → Contains (if b then k ∷ report_from old change (suc k) rest else report_from old change (suc k) rest) m
     here true e same = (0, omega arith, same)
     here false e same = absurd cc
+
     by : (IsToldFrom old change (suc k) rest m → Contains (report_from old change (suc k) rest) m) → (k < m) ⊎ (m ≤ k) → Contains (if differs old (old_line change k) spans then k ∷ report_from old change (suc k) rest else report_from old change (suc k) rest) m
     by later (inl low) =
         let e : m - k ≡ suc (m - suc k) = omega arith in
@@ -135,6 +139,7 @@ ascending old change k (spans ∷ rest) = by (ascending old change (suc k) rest)
     first some =
         let told = report_from old change (suc k) rest in
         omega (arith, (told_is old change (suc k) rest (slice_index told 0) (Contains-get_or told 0 0 some)).0)
+
     by : IsStrictlyIncreasing (report_from old change (suc k) rest) → (b : Bool) → IsStrictlyIncreasing (if b then k ∷ report_from old change (suc k) rest else report_from old change (suc k) rest)
     by later true = ascending_cons k (report_from old change (suc k) rest) first later
     by later false = later
@@ -147,11 +152,13 @@ report_is old new change = record {
   where
     same : (m : ℕ) → m - 0 ≡ m
     same m = omega arith
+
     to : (m : ℕ) → Contains (report old new change) m → (m < length new) × IsChanged old (old_line change m) (get_or new m [])
     to m has =
         let is = told_is old change 0 new m has in
         let C : ℕ → Type 0 = λ i. IsChanged old (old_line change m) (get_or new i []) in
         (omega (arith, is.1), subst C (same m) is.2)
+
     from : (m : ℕ) → (m < length new) × IsChanged old (old_line change m) (get_or new m []) → Contains (report old new change) m
     from m is =
         let C : ℕ → Type 0 = λ i. IsChanged old (old_line change m) (get_or new i []) in
