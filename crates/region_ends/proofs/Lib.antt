@@ -1,3 +1,5 @@
 pub mod AttemptLaws
 pub mod KeptEndLaws
+pub mod LookedLaws
+pub mod PassingLaws
 pub mod SearchLaws

@@ -4,3 +4,4 @@ pub mod Searches
 pub mod KeptEnd
 -- what only code and proofs cite
 pub mod Steps
+pub mod Passing

@@ -60,6 +60,15 @@ IsStep (GoOn next k) i s kind c last p =
     (c < next) × (next ≤ suc last) × (p ≡ looked_first (Some k) (end_from s kind (columns_from next last) next))
 IsStep (Answer a) i s kind c last p = IsEnd a i p
 
+-- the line was looked at
+abbrev pub HoldsLine : Looked → ℕ → Type 0
+HoldsLine k l = hull_of k (one_line (pos l)) ≡ k
+
+-- where a step goes on, its line was looked at
+abbrev pub StepHolds : ℕ → Step → Type 0
+StepHolds l (GoOn next k) = HoldsLine k l
+StepHolds l (Answer a) = Unit {0}
+
 -- what a skip says, by the line's length
 abbrev pub skip_from : ℕ → ℕ → ℕ → Place → Skip
 skip_from line c last me = elim (is_after me (place_at line c)) [

@@ -9,6 +9,7 @@
 mod keeping;
 mod matching;
 mod offsets;
+mod passing;
 mod searching;
 mod skips;
 

@@ -12,11 +12,13 @@ ghost use Rattle.paint_rules.specs.Close.{is_region};
 ghost use Rattle.paint_rules.specs.ItemMatch.{columns_from};
 ghost use Rattle.paint_rules.specs.EndInLine.{end_in_line, end_from, end_at, end_made, skip_at, skip_of, ends_of, tried_at};
 ghost use Rattle.region_ends.specs.Searches.{search_of, IsEnd};
-ghost use Rattle.region_ends.specs.Steps.{search_in, IsReady, EndsBefore, seen, IsTried, IsSkip, IsStep, GoesFurther};
+ghost use Rattle.region_ends.specs.Passing.{IsPassing};
+ghost use Rattle.region_ends.specs.Steps.{search_in, IsReady, EndsBefore, seen, IsTried, IsSkip, IsStep, GoesFurther, HoldsLine, StepHolds};
 
 use crate::keeping::item_of;
 use crate::matching::Matcher;
 use crate::offsets::{earlier_place, later_place, offset_place};
+use crate::passing::{Passing, are_cheap};
 use crate::skips::{SkipAnswer, skip_by};
 use char_class::Sets;
 use paint_rules::{RegionEnd, Which};
@@ -203,10 +205,12 @@ impl Searching<'_> {
         requires ends_added { All (IsAdded self.now.matcher.programs.now) ends.now }
         requires last { last ≡ length (line_at (T.lines lines.now) self.now.from.line) }
         requires short { c ≤ last × last < 2 ^ 63 }
-        ensures { IfOk result (λ a. (kind : ItemKind) → skip.now ≡ skip_of kind →
+        requires held { HoldsLine looked self.now.from.line }
+        ensures is { IfOk result (λ a. (kind : ItemKind) → skip.now ≡ skip_of kind →
             ends.now ≡ ends_of kind → IsStep a self.now.region
             (search_in self.now (T.lines lines.now)) kind c last (looked_first (Some looked)
             (end_from (search_in self.now (T.lines lines.now)) kind (columns_from c last) c))) }
+        ensures held { IfOk result (StepHolds self.now.from.line) }
     {
         match self.skip_at(lines, skip, last, c, looked)? {
             SkipAnswer::SkipTo(next, k) => Ok(Step::GoOn(next, k)),
@@ -220,7 +224,27 @@ impl Searching<'_> {
         }
     }
 
-    /// The search over the columns of the line.
+    /// What the columns of the line are asked.
+    fn passing<'b, T: Lines>(
+        &'b self,
+        lines: &'b T,
+        skip: &'b Option<Pattern>,
+        ends: &'b List<Pattern>,
+    ) -> Passing<'b>
+        requires { IsReady self.now (T.lines lines.now) }
+        ensures { IsPassing result self.now (T.lines lines.now) skip.now ends.now }
+    {
+        Passing {
+            sets: self.matcher.sets,
+            ignore: item_of(self.items, self.region).ignore,
+            line: lines.line(self.from.line),
+            skip,
+            ends,
+            cheap: are_cheap(skip, ends, self.matcher.budget),
+        }
+    }
+
+    /// The search over the columns of the line. Those where nothing can fit are passed over.
     fn search<T: Lines>(
         &self,
         lines: &T,
@@ -238,9 +262,14 @@ impl Searching<'_> {
     {
         let mut looked = Looked::one(self.from.line as i64);
         let last = lines.line(self.from.line).len();
+        let passing = self.passing(lines, skip, ends);
         let mut c = self.from.col;
         'columns: while c <= last {
-            match self.answer_at(lines, skip, ends, last, c, looked)? {
+            let busy = passing.idle_until(c);
+            if busy > last {
+                return Ok(EndAnswer::NotHere(looked));
+            }
+            match self.answer_at(lines, skip, ends, last, busy, looked)? {
                 Step::GoOn(next, k) => {
                     c = next;
                     looked = k;

@@ -1,0 +1,38 @@
+-- A line that was looked at stays among those looked at.
+use Rattle.std.proofs.Common.{◌≡◌, ◌∙◌, sym, ap, subst, arith, ℕ}
+use Rattle.std.specs.Prelude.{Some, None, ℤ, pos}
+use Rattle.std.proofs.lemmas.Int.{ints}
+use Rattle.syn_base.specs.declared.looked.Looked.{Looked}
+use Rattle.syn_base.specs.Looked.{hull_of, lesser, greater, one_line}
+use Rattle.paint_rules.specs.Painted.{Painted, Done, Refused, looked_first}
+use Rattle.paint_rules.proofs.PaintedLaws.{hull_assoc}
+use Rattle.region_ends.specs.Steps.{HoldsLine}
+
+lesser_comm : (a b : ℤ) → lesser a b ≡ lesser b a
+lesser_comm a b = grind (arith, ints)
+
+greater_comm : (a b : ℤ) → greater a b ≡ greater b a
+greater_comm a b = grind (arith, ints)
+
+hull_comm : (a b : Looked) → hull_of a b ≡ hull_of b a
+hull_comm a b = λ i. record { low = lesser_comm a.low b.low i; high = greater_comm a.high b.high i }
+
+wider : (j n : Looked) (l : ℕ) → HoldsLine j l → HoldsLine (hull_of j n) l
+wider j n l h =
+    hull_assoc j n (one_line (pos l))
+    ∙ (ap (hull_of j) (hull_comm n (one_line (pos l)))
+    ∙ (sym (hull_assoc j (one_line (pos l)) n) ∙ ap (λ (k : Looked). hull_of k n) h))
+
+abbrev looked_then : {E A : Type 0} → Looked → Painted E A → Looked
+looked_then j (Done a None) = j
+looked_then j (Done a (Some k)) = k
+looked_then j (Refused c k) = j
+
+held_by : {E A : Type 0} (j : Looked) (l : ℕ) (p : Painted E A) → HoldsLine j l → HoldsLine (looked_then j (looked_first (Some j) p)) l
+held_by j l (Done a None) h = h
+held_by j l (Done a (Some n)) h = wider j n l h
+held_by j l (Refused c k) h = h
+
+pub still_held : {E A : Type 0} (j k : Looked) (l : ℕ) (p : Painted E A) (a : A) → HoldsLine j l → looked_first (Some j) p ≡ Done a (Some k) → HoldsLine k l
+still_held {E = E} {A = A} j k l p a h e =
+    subst (λ (q : Painted E A). HoldsLine (looked_then j q) l) e (held_by j l p h)

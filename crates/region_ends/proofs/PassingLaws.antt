@@ -1,0 +1,140 @@
+-- The search goes on behind columns where neither the skip nor an end can fit.
+use Rattle.std.proofs.Common.{◌≡◌, ◌∙◌, refl, sym, ap, subst, arith, ℕ, zero, suc, ◌+◌, ◌-◌, ◌<◌, ◌≤◌, Bool, true, false, List, [], ◌∷◌, length}
+use Rattle.std.specs.Prelude.{Option, Some, None, pos, nat_lt, not, ◌&&◌, ◌||◌, reverse}
+use Rattle.std.specs.List.{list_all}
+use Rattle.std.specs.Option.{option_map}
+use Rattle.std.proofs.lemmas.Bool.Decides.{nat_tests}
+use Rattle.std.proofs.lemmas.List.{reverse-append}
+use Rattle.std.proofs.lemmas.List.Folds.{list_all-append}
+use Rattle.syn_base.specs.declared.looked.Looked.{Looked}
+use Rattle.syn_base.specs.Looked.{one_line}
+use Rattle.match_rules.specs.Ways.{Text, line_at}
+use Rattle.pattern_match.specs.declared.answer.Attempt.TheVariants as tried
+use Rattle.pattern_match.specs.Answers.{match_of}
+use Rattle.pattern_screens.specs.Bounds.{failing_cost}
+use Rattle.pattern_screens.specs.Keys.{key_of}
+use Rattle.pattern_screens.specs.Screens.{is_futile, verdict}
+use Rattle.pattern_screens.proofs.Screened.{futile}
+use Rattle.syntax_set.specs.declared.item.ItemKind.{ItemKind}
+use Rattle.syntax_set.specs.declared.item.Pattern.{Pattern}
+use Rattle.paint_rules.specs.Painted.{Painted, Done, looked_first, ◌>>=◌, done, first_found}
+use Rattle.paint_rules.specs.Rules.{Cause, Matched, attempted, item_of, place_at}
+use Rattle.paint_rules.specs.Syntax.{attempt_by, context_of}
+use Rattle.paint_rules.specs.ItemMatch.{columns_from, looks_at_end}
+use Rattle.paint_rules.specs.EndInLine.{Search, Skip, NoSkip, skip_of, ends_of, skip_at, skip_to, tried_at, end_at, end_from}
+use Rattle.paint_rules.specs.Offsets.{offset_place}
+use Rattle.paint_rules.specs.declared.RegionEnd.{RegionEnd}
+use Rattle.paint_rules.specs.declared.Which.TheVariants.{Me}
+use Rattle.paint_rules.proofs.PaintedLaws.{goes_on}
+use Rattle.region_ends.specs.declared.passing.Passing.{Passing}
+use Rattle.region_ends.specs.declared.searching.Searching.{Searching}
+use Rattle.region_ends.specs.Passing.{IsPassing, fails, is_vain, is_skip_vain, is_idle, is_cheap, is_skip_cheap}
+use Rattle.region_ends.specs.Steps.{HoldsLine, search_in}
+use Rattle.region_ends.proofs.SearchLaws.{tried_at_is, end_absent, to_later}
+
+-- ---- tests
+
+both : (a b : Bool) → (a && b) ≡ true → (a ≡ true) × (b ≡ true)
+both true b e = (refl, e)
+both false b e = absurd (cc)
+
+both_pass : (a b : Bool) → a ≡ true → b ≡ true → (a && b) ≡ true
+both_pass a b e f = rw (e, f) refl
+
+all_both : {A : Type 0} (f g : A → Bool) (xs : List A) → list_all f xs ≡ true → list_all g xs ≡ true → list_all (λ x. f x && g x) xs ≡ true
+all_both f g [] a b = refl
+all_both f g (x ∷ xs) a b =
+    let c = both (f x) (list_all f xs) a in
+    let d = both (g x) (list_all g xs) b in
+    both_pass (f x && g x) (list_all (λ x. f x && g x) xs) (both_pass (f x) (g x) c.0 d.0) (all_both f g xs c.1 d.1)
+
+all_reverse : {A : Type 0} (f : A → Bool) (xs : List A) → list_all f xs ≡ true → list_all f (reverse xs) ≡ true
+all_reverse f [] e = refl
+all_reverse f (x ∷ xs) e =
+    let h = both (f x) (list_all f xs) e in
+    ap (list_all f) (reverse-append (x ∷ []) xs)
+    ∙ (list_all-append f (reverse xs) (x ∷ [])
+    ∙ both_pass (list_all f (reverse xs)) (f x && true) (all_reverse f xs h.1) (both_pass (f x) true h.0 refl))
+
+-- ---- one pattern
+
+-- it gives nothing at a column, and looks at no line that wasn't looked at before
+abbrev pub GivesNothing : Search → Looked → ℕ → Pattern → Type 0
+GivesNothing s k c pattern = looked_first (Some k) (tried_at s pattern c) ≡ Done None (Some k)
+
+within_budget : (budget cost : ℕ) → not (nat_lt budget cost) ≡ true → cost ≤ budget
+within_budget budget cost e = grind (arith, nat_tests)
+
+screened : (s : Searching) (text : Text) (k : Looked) (c : ℕ) (pattern : Pattern) → HoldsLine k s.from.line → c ≤ length (line_at text s.from.line) → nat_lt c pattern.lc ≡ false →
+    is_futile (verdict s.matcher.sets.now (item_of s.items.now s.region).ignore (key_of s.matcher.sets.now (line_at text s.from.line) (c - pattern.lc)) pattern.tree) ≡ true →
+    is_cheap s.matcher.budget pattern ≡ true → GivesNothing (search_in s text) k c pattern
+unfolding attempt_by
+screened s text k c pattern held within from fail cheap =
+    let l : ℕ = s.from.line in
+    let less : pattern.lc ≤ c = grind (arith, nat_tests, from) in
+    let x = context_of s.matcher.sets.now text (item_of s.items.now s.region).ignore s.externals.now in
+    let h = futile pattern.tree x l (c - pattern.lc) (omega (arith, within)) fail in
+    let enough : failing_cost pattern.tree ≤ s.matcher.budget = within_budget s.matcher.budget (failing_cost pattern.tree) cheap in
+    tried_at_is (search_in s text) pattern c k (tried.Absent (one_line (pos l))) less
+    (omega (arith, h.cost, enough), ap (option_map (match_of text (place_at l (c - pattern.lc)))) h.way, h.looked)
+    ∙ ap (λ (j : Looked). Done None (Some j)) held
+
+before_line : (s : Search) (k : Looked) (c : ℕ) (pattern : Pattern) → nat_lt c pattern.lc ≡ true → GivesNothing s k c pattern
+before_line s k c pattern e =
+    ap (λ b. looked_first (Some k) (elim b as (λ _. Painted Cause (Option Matched)) [ true ↦ done None | false ↦ attempted s.rules s.text s.item s.externals pattern (place_at s.from.line (c - pattern.lc)) >>= looks_at_end ])) e
+
+module _ (a : Passing) (s : Searching) (text : Text) (skip : Option Pattern) (ends : List Pattern) (of : IsPassing a s text skip ends)
+    (k : Looked) (held : HoldsLine k s.from.line) (c : ℕ) (within : c ≤ length (line_at text s.from.line)) where
+  by_start : (pattern : Pattern) → is_cheap s.matcher.budget pattern ≡ true → (b : Bool) → nat_lt c pattern.lc ≡ b → (b || fails a (key_of a.sets.now a.line.now (c - pattern.lc)) pattern) ≡ true → GivesNothing (search_in s text) k c pattern
+  by_start pattern cheap true e vain = before_line (search_in s text) k c pattern e
+  by_start pattern cheap false e vain =
+      screened s text k c pattern held within e
+      (sym (λ i. is_futile (verdict (of.sets i) (of.ignore i) (key_of (of.sets i) (of.line i) (c - pattern.lc)) pattern.tree)) ∙ vain) cheap
+
+  vain_gives : (pattern : Pattern) → is_vain a c pattern ≡ true → is_cheap s.matcher.budget pattern ≡ true → GivesNothing (search_in s text) k c pattern
+  vain_gives pattern vain cheap = by_start pattern cheap (nat_lt c pattern.lc) refl vain
+
+  -- ---- a column
+
+  skip_gives : (o : Option Pattern) → is_skip_vain a c o ≡ true → is_skip_cheap s.matcher.budget o ≡ true → looked_first (Some k) (skip_at (search_in s text) o c) ≡ Done NoSkip (Some k)
+  skip_gives None vain cheap = refl
+  skip_gives (Some pattern) vain cheap =
+      goes_on k k (tried_at (search_in s text) pattern c) None
+      (λ m. elim m as (λ _. Painted Cause Skip) [ None ↦ done NoSkip | Some m ↦ done (skip_to (search_in s text) c (offset_place text m pattern Me)) ])
+      (vain_gives pattern vain cheap)
+
+  ends_give : (ps : List Pattern) → list_all (λ p. is_vain a c p && is_cheap s.matcher.budget p) ps ≡ true → looked_first (Some k) (first_found (end_at (search_in s text) c) ps) ≡ Done None (Some k)
+  ends_give [] e = refl
+  ends_give (p ∷ ps) e =
+      let h = both (is_vain a c p && is_cheap s.matcher.budget p) (list_all (λ p. is_vain a c p && is_cheap s.matcher.budget p) ps) e in
+      let one = both (is_vain a c p) (is_cheap s.matcher.budget p) h.0 in
+      end_absent (search_in s text) c k p ps k (vain_gives p one.0 one.1) ∙ ends_give ps h.1
+
+  pub column_passed : (kind : ItemKind) (last : ℕ) → skip ≡ skip_of kind → ends ≡ ends_of kind → c ≤ last → a.cheap ≡ true → is_idle a c ≡ true →
+      looked_first (Some k) (end_from (search_in s text) kind (columns_from c last) c) ≡ looked_first (Some k) (end_from (search_in s text) kind (columns_from (suc c) last) (suc c))
+  column_passed kind last sk en less cheap idle =
+      let vain = both (is_skip_vain a c a.skip.now) (list_all (is_vain a c) a.ends.now) idle in
+      let few = both (is_skip_cheap s.matcher.budget skip) (list_all (is_cheap s.matcher.budget) ends) (of.cheap cheap) in
+      let no_skip = skip_gives skip (subst (λ (o : Option Pattern). is_skip_vain a c o ≡ true) of.skip vain.0) few.0 in
+      let all = all_both (is_vain a c) (is_cheap s.matcher.budget) ends (subst (λ (ps : List Pattern). list_all (is_vain a c) ps ≡ true) of.ends vain.1) few.1 in
+      let found = ends_give (reverse ends) (all_reverse (λ p. is_vain a c p && is_cheap s.matcher.budget p) ends all) in
+      to_later (search_in s text) kind c last k less k
+      (subst (λ (o : Option Pattern). looked_first (Some k) (skip_at (search_in s text) o c) ≡ Done NoSkip (Some k)) sk no_skip) k
+      (subst (λ (ps : List Pattern). looked_first (Some k) (first_found (end_at (search_in s text) c) (reverse ps)) ≡ Done None (Some k)) en found)
+
+-- ---- columns
+
+module _ (a : Passing) (s : Searching) (text : Text) (skip : Option Pattern) (ends : List Pattern) (of : IsPassing a s text skip ends)
+    (k : Looked) (held : HoldsLine k s.from.line) (last : ℕ) (is : last ≡ length (line_at text s.from.line)) (kind : ItemKind) (sk : skip ≡ skip_of kind) (en : ends ≡ ends_of kind) where
+  abbrev left : ℕ → Painted Cause (Option RegionEnd)
+  left c = looked_first (Some k) (end_from (search_in s text) kind (columns_from c last) c)
+
+  pass : (count c next : ℕ) → next ≡ c + count → next ≤ suc last → (c < next → a.cheap ≡ true) → ((j : ℕ) → c ≤ j → j < next → is_idle a j ≡ true) → left c ≡ left next
+  pass zero c next e within cheap idle = ap left (omega arith)
+  pass (suc count) c next e within cheap idle =
+      let less : c < next = omega arith in
+      column_passed a s text skip ends of k held c (omega arith) kind last sk en (omega arith) (cheap less) (idle c (omega arith) less)
+      ∙ pass count (suc c) next (omega arith) within (λ _. cheap less) (λ j from below. idle j (omega (arith, from)) below)
+
+  pub columns_passed : (c next : ℕ) → c ≤ next → next ≤ suc last → (c < next → a.cheap ≡ true) → ((j : ℕ) → c ≤ j → j < next → is_idle a j ≡ true) → left c ≡ left next
+  columns_passed c next from within cheap idle = pass (next - c) c next (omega (arith, from)) within cheap idle
