@@ -20,11 +20,12 @@ use Rattle.vimsyn_cli.specs.declared.fault.Stop.TheVariants as stop
 use Rattle.vimsyn_cli.specs.declared.status.Status.{Status}
 use Rattle.vimsyn_cli.specs.declared.status.Status.TheVariants.{Done, Refused, Usage, ReadFault, WriteFault, Memory}
 use Rattle.vimsyn_cli.specs.Answers.{Closes, Delivers, GivesSession, IsFaultOfAsked, IsUnreadLine, IsUntouched, WroteAll, WroteSome, is_unfailed}
+use Rattle.vimsyn_cli.specs.Changes.{FilesChange}
 use Rattle.vimsyn_cli.specs.Editing.{edit_session, edit_told, painter_of, script_answer, script_end, script_status, shown_of}
 use Rattle.vimsyn_cli.specs.Painting.{IsPaintFault, IsUnreadPaint, painting_told}
 use Rattle.vimsyn_cli.specs.Plans.{FollowsFiles, IfFault, IsExpected, RaisesItsCount}
 use Rattle.vimsyn_cli.specs.Report.{long_script, unread_script}
-use Rattle.vimsyn_cli.specs.Runs.{EditsPainted, FilesChange, IfTold, PrintsSoFar, Runs, StopsSoFar}
+use Rattle.vimsyn_cli.specs.Runs.{EditsPainted, IfTold, PrintsSoFar, Runs, StopsSoFar}
 use Rattle.vimsyn_cli.specs.Written.{Session, ends}
 use Rattle.vimsyn_cli.proofs.PlanLaws.{Plans, led}
 use Rattle.vimsyn_cli.proofs.RunLaws.{none_of, not_done, part_of, told_both, unfailed_of, untouched}
@@ -106,7 +107,7 @@ done_runs words painted files script out err answer told kept faults misses long
   done_longs = λ is. longs;
   files_kept = kept;
   script_left = tt;
-  script_ended = λ is. ends.ended;
+  script_ended = λ is. record { painted = painted; of_files = told; read = ends };
 }
 
 refused_runs : (words : PageWords) (painted : PaintedText) (files : FilesChange) (script : SourceChange) (out err : SinkChange) (answer : Status) → IfSome files.told (λ known. painting_told words.painting known ≡ Ok painted) → files.told_after ≡ files.told → files.faults_after ≡ files.faults → files.misses_after ≡ files.misses → files.longs_after ≡ files.longs → IfSome script.before (λ bytes. AppendsPrefix out.before out.after (script_answer words painted bytes).text) → EndsSo (painter_of words painted.syntax painted.budget) (shown_of painted) script out end.Refused → IsUntouched err → answer ≡ Refused → Runs (Some (Edit words)) files script out err answer
@@ -117,7 +118,7 @@ refused_runs words painted files script out err answer told kept faults misses l
   err_part_or_unread = told_both files.told script.before (λ known. painting_told words.painting known ≡ Ok painted) _ (λ known bytes is told'. inl (none_of err (edit_session words known bytes).err same)) told;
   faulty = λ w. absurd (cc w);
   usage = λ is. absurd (cc (is, at));
-  refused = λ is. inr (inr (same.0, ends.ended));
+  refused = λ is. inr (inr (same.0, record { painted = painted; of_files = told; read = ends }));
   read_fault = λ is. absurd (cc (is, at));
   read_fault_line = λ is. absurd (cc (is, at));
   read_fault_told = λ is. absurd (cc (is, at));

@@ -16,10 +16,11 @@ use Rattle.vimsyn_cli.specs.declared.fault.Stop.TheVariants as stop
 use Rattle.vimsyn_cli.specs.declared.status.Status.{Status}
 use Rattle.vimsyn_cli.specs.declared.status.Status.TheVariants.{Done, Refused, Usage, ReadFault, WriteFault, Memory}
 use Rattle.vimsyn_cli.specs.Answers.{Closes, Delivers, GivesSession, IsFaultOfAsked, IsUnreadLine, IsUntouched, TellsAllUnread, TellsFault, TellsUnread, Writes, WroteAll, is_unfailed}
+use Rattle.vimsyn_cli.specs.Changes.{FilesChange}
 use Rattle.vimsyn_cli.specs.Report.{cause_status, usage_line}
 use Rattle.vimsyn_cli.specs.Session.{asked_session, script_read}
 use Rattle.vimsyn_cli.specs.Plans.{RaisesItsCount, IfFault, OrUnread, is_missing, is_too_long, is_unread}
-use Rattle.vimsyn_cli.specs.Runs.{EndsScript, FilesChange, IfTold, LeavesScript, PrintsSoFar, Runs, StopsSoFar}
+use Rattle.vimsyn_cli.specs.Runs.{EndsScript, IfTold, LeavesScript, PrintsSoFar, Runs, StopsSoFar}
 use Rattle.vimsyn_cli.proofs.PlanLaws.{Plans}
 use Rattle.vimsyn_cli.specs.Written.{Session, ends}
 
@@ -330,7 +331,7 @@ out_left (Err (stop.Fault fault)) out err answer delivered is = untouched out de
 pub delivered_runs : (asked : Asked) (result : Result (List ℕ) Stop) (files : FilesChange) (script : SourceChange) (out err : SinkChange) (answer : Status) →
     IfTold files.told (script_read (Some asked) script.before) (λ known bytes. Plans (asked_session asked known bytes) (IsUnreadLine asked known) result) →
     IfFault result (IsFaultOfAsked asked) → RaisesItsCount is_unread result files.faults files.faults_after → RaisesItsCount is_missing result files.misses files.misses_after → RaisesItsCount is_too_long result files.longs files.longs_after →
-    files.told_after ≡ files.told → script.after ≡ script.before → script.faults_after ≡ script.faults → Delivers result out err answer → (answer ≡ Done → EndsScript (Some asked) script) →
+    files.told_after ≡ files.told → script.after ≡ script.before → script.faults_after ≡ script.faults → Delivers result out err answer → (answer ≡ Done → EndsScript (Some asked) files.told script out) →
     Runs (Some asked) files script out err answer
 delivered_runs asked result files script out err answer planned told unread missing long kept left readable delivered ended =
     let scripts = script_read (Some asked) script.before in

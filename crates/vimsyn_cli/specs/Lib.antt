@@ -1,5 +1,6 @@
 -- what a reader must believe
 pub mod Answers
+pub mod Changes
 pub mod Check
 pub mod Editing
 pub mod Laws

@@ -3,7 +3,7 @@
 use Rattle.std.specs.Prelude.{◌≡◌, ◌≢◌, ◌⊎◌, ℕ, ◌+◌, ◌<◌, ◌≤◌, Bool, true, false, List, [], ◌++◌, length, Option, Some, None, IfSome, IsSomeAnd, Ok, ⊤}
 use Rattle.edit_script.specs.Entries.{entries_of}
 use Rattle.edit_session.specs.declared.reading.End.{End}
-use Rattle.edit_session.specs.Ends.{EndsSo, SinkChange, SourceChange, Takes}
+use Rattle.edit_session.specs.Ends.{EndsSo, ReadsToEnd, SinkChange, SourceChange, Takes}
 use Rattle.edit_session.specs.Session.{most_bytes, session, start}
 use Rattle.program_words.specs.declared.words.Asked.{Asked}
 use Rattle.program_words.specs.declared.words.Asked.TheVariants.{Edit, Print}
@@ -14,21 +14,11 @@ use Rattle.state_cache.specs.PaintedText.{PaintedText}
 use Rattle.vimsyn_cli.specs.declared.status.Status.{Status}
 use Rattle.vimsyn_cli.specs.declared.status.Status.TheVariants.{Done, Refused, Usage, ReadFault, WriteFault, Memory}
 use Rattle.vimsyn_cli.specs.Answers.{Closes, GivesSession, TellsAllUnread, TellsFault, TellsUnread, is_unfailed}
+use Rattle.vimsyn_cli.specs.Changes.{FilesChange}
 use Rattle.vimsyn_cli.specs.Editing.{painter_of, script_answer, shown_of}
 use Rattle.vimsyn_cli.specs.Painting.{painting_told}
 use Rattle.vimsyn_cli.specs.Report.{long_script, unread_script}
 use Rattle.vimsyn_cli.specs.Session.{print_lines, script_read, with_asked}
-
--- files before and after a call: what they hold, where told, and their counts
-pub record FilesChange : Type 0 where
-  pub told : Option FileMap
-  pub told_after : Option FileMap
-  pub faults : ℕ
-  pub faults_after : ℕ
-  pub misses : ℕ
-  pub misses_after : ℕ
-  pub longs : ℕ
-  pub longs_after : ℕ
 
 -- where what a command reads of the files and of the script is told
 abbrev pub IfTold : Option FileMap → Option (List ℕ) → (FileMap → List ℕ → Type 0) → Type 0
@@ -40,12 +30,19 @@ IfTold (Some files) (Some script) P = P files script
 abbrev pub IsLongScript : SourceChange → Type 0
 IsLongScript script = (bytes : List ℕ) × Takes bytes script.before script.after × (most_bytes < length bytes)
 
+-- a text was painted, by the rules where the files are told; a script was then read to its end, and what its
+-- commands print on that text was written; one of them was refused, or none
+pub record ReadsScript (words : PageWords) (told : Option FileMap) (refused : Bool) (script : SourceChange) (out : SinkChange) : Type 0 where
+  pub painted : PaintedText
+  pub of_files : IfSome told (λ known. painting_told words.painting known ≡ Ok painted)
+  pub read : ReadsToEnd (painter_of words painted.syntax painted.budget) (start (shown_of painted)) refused script out
+
 -- a script was refused as a whole, or one of its commands was, and then it was read to its end
-abbrev pub RefusesScript : Asked → SourceChange → SinkChange → Type 0
-RefusesScript (Edit words) script err =
+abbrev pub RefusesScript : Asked → Option FileMap → SourceChange → SinkChange → SinkChange → Type 0
+RefusesScript (Edit words) told script out err =
     ((err.after ≡ appended err.before long_script) × IsLongScript script)
-    ⊎ ((err.after ≡ err.before) × IfSome script.after (λ rest. rest ≡ []))
-RefusesScript (Print printing) script err = ⊥
+    ⊎ ((err.after ≡ err.before) × ReadsScript words told true script out)
+RefusesScript (Print printing) told script out err = ⊥
 
 -- a script couldn't be read, which `err` got the line for
 abbrev pub FailsScript : Asked → SourceChange → SinkChange → Type 0
@@ -70,10 +67,10 @@ abbrev pub LeavesScript : Option Asked → SourceChange → Type 0
 LeavesScript (Some (Edit words)) script = ⊤
 LeavesScript asked script = (script.after ≡ script.before) × (script.faults_after ≡ script.faults)
 
--- a session of edits reads its script to the end
-abbrev pub EndsScript : Option Asked → SourceChange → Type 0
-EndsScript (Some (Edit words)) script = IfSome script.after (λ rest. rest ≡ [])
-EndsScript asked script = ⊤
+-- a session of edits reads its script to the end, and none of its commands was refused
+abbrev pub EndsScript : Option Asked → Option FileMap → SourceChange → SinkChange → Type 0
+EndsScript (Some (Edit words)) told script out = ReadsScript words told false script out
+EndsScript asked told script out = ⊤
 
 pub record Runs (asked : Option Asked) (files : FilesChange) (script : SourceChange) (out err : SinkChange) (answer : Status) : Type 0 where
   -- where what is read is told and nothing fails, all is as in the session
@@ -95,7 +92,7 @@ pub record Runs (asked : Option Asked) (files : FilesChange) (script : SourceCha
   pub usage : answer ≡ Usage → asked ≡ None
   pub faulty : asked ≡ None → (answer ≡ Usage) ⊎ (answer ≡ WriteFault)
   pub refused : answer ≡ Refused → IsSomeAnd asked (λ a.
-      TellsFault a err.before err.after files.longs files.longs_after answer ⊎ RefusesScript a script err)
+      TellsFault a err.before err.after files.longs files.longs_after answer ⊎ RefusesScript a files.told script out err)
   pub read_fault : answer ≡ ReadFault →
       Rose files.faults files.faults_after ⊎ Rose files.misses files.misses_after ⊎ Rose script.faults script.faults_after
   pub read_fault_line : answer ≡ ReadFault → IsSomeAnd asked (λ a.
@@ -115,7 +112,7 @@ pub record Runs (asked : Option Asked) (files : FilesChange) (script : SourceCha
   pub done_longs : answer ≡ Done → files.longs_after ≡ files.longs
   pub files_kept : files.told_after ≡ files.told
   pub script_left : LeavesScript asked script
-  pub script_ended : answer ≡ Done → EndsScript asked script
+  pub script_ended : answer ≡ Done → EndsScript asked files.told script out
 
 -- how many lines are painted at most for a command that prints at once
 abbrev pub PaintsFew : Option Asked → FileMap → ℕ → ℕ → Type 0

@@ -1,5 +1,6 @@
 //! What a command prints, or the line of a fault, as it is written.
 ghost use Rattle.vimsyn_cli.specs.Answers.{Delivers, Writes};
+ghost use Rattle.vimsyn_cli.specs.Changes.{sink_change};
 
 use crate::Status;
 use crate::fault::Stop;
@@ -12,18 +13,8 @@ pub(crate) fn deliver<O: Sink, E: Sink>(
     err: &mut E,
 ) -> Status
     ensures { Delivers answer
-        (record {
-          before = O.written out.old;
-          after = O.written out.new;
-          faults = O.faults out.old;
-          faults_after = O.faults out.new;
-        })
-        (record {
-          before = E.written err.old;
-          after = E.written err.new;
-          faults = E.faults err.old;
-          faults_after = E.faults err.new;
-        })
+        (sink_change (O.written out.old) (O.written out.new) (O.faults out.old) (O.faults out.new))
+        (sink_change (E.written err.old) (E.written err.new) (E.faults err.old) (E.faults err.new))
         result }
 {
     match answer {
@@ -35,12 +26,8 @@ pub(crate) fn deliver<O: Sink, E: Sink>(
 
 /// Writes the bytes, and answers the status, or that a write failed.
 pub(crate) fn finish<S: Sink>(sink: &mut S, bytes: &[u8], status: Status) -> Status
-    ensures { Writes (record {
-      before = S.written sink.old;
-      after = S.written sink.new;
-      faults = S.faults sink.old;
-      faults_after = S.faults sink.new;
-    }) bytes.now status result }
+    ensures { Writes (sink_change (S.written sink.old) (S.written sink.new)
+        (S.faults sink.old) (S.faults sink.new)) bytes.now status result }
 {
     if put_all(sink, bytes) {
         status

@@ -1,6 +1,7 @@
 //! What `edit` does: a text is painted, and a script of edits is carried out on it (this profile).
 ghost use Rattle.program_words.specs.declared.words.Asked.TheVariants.{Edit};
 ghost use Rattle.vimsyn_cli.specs.Answers.{Closes};
+ghost use Rattle.vimsyn_cli.specs.Changes.{files_change, sink_change, source_change};
 ghost use Rattle.vimsyn_cli.specs.Runs.{EditsPainted, Runs};
 
 use crate::Status;
@@ -31,34 +32,13 @@ pub(crate) fn run_edit<F: Files, I: Source, O: Sink, E: Sink, L: Ledger>(
     steps: &mut Steps<L>,
 ) -> Status
     ensures { Runs (Some (Edit words.now))
-        (record {
-          told = F.told files.old;
-          told_after = F.told files.new;
-          faults = F.faults files.old;
-          faults_after = F.faults files.new;
-          misses = F.misses files.old;
-          misses_after = F.misses files.new;
-          longs = F.longs files.old;
-          longs_after = F.longs files.new;
-        })
-        (record {
-          before = I.left script.old;
-          after = I.left script.new;
-          faults = I.faults script.old;
-          faults_after = I.faults script.new;
-        })
-        (record {
-          before = O.written out.old;
-          after = O.written out.new;
-          faults = O.faults out.old;
-          faults_after = O.faults out.new;
-        })
-        (record {
-          before = E.written err.old;
-          after = E.written err.new;
-          faults = E.faults err.old;
-          faults_after = E.faults err.new;
-        })
+        (files_change (F.told files.old) (F.told files.new)
+        (F.faults files.old) (F.faults files.new) (F.misses files.old) (F.misses files.new)
+        (F.longs files.old) (F.longs files.new))
+        (source_change (I.left script.old) (I.left script.new)
+        (I.faults script.old) (I.faults script.new))
+        (sink_change (O.written out.old) (O.written out.new) (O.faults out.old) (O.faults out.new))
+        (sink_change (E.written err.old) (E.written err.new) (E.faults err.old) (E.faults err.new))
         result }
 {
     match paint(alloc, files, words.painting(), steps) {
@@ -78,24 +58,10 @@ fn edit_painted<I: Source, O: Sink, E: Sink, L: Ledger>(
     steps: &mut Steps<L>,
 ) -> Status
     ensures { EditsPainted words.now painted
-        (record {
-          before = I.left script.old;
-          after = I.left script.new;
-          faults = I.faults script.old;
-          faults_after = I.faults script.new;
-        })
-        (record {
-          before = O.written out.old;
-          after = O.written out.new;
-          faults = O.faults out.old;
-          faults_after = O.faults out.new;
-        })
-        (record {
-          before = E.written err.old;
-          after = E.written err.new;
-          faults = E.faults err.old;
-          faults_after = E.faults err.new;
-        })
+        (source_change (I.left script.old) (I.left script.new)
+        (I.faults script.old) (I.faults script.new))
+        (sink_change (O.written out.old) (O.written out.new) (O.faults out.old) (O.faults out.new))
+        (sink_change (E.written err.old) (E.written err.new) (E.faults err.old) (E.faults err.new))
         result }
 {
     let sheet = Sheet { painted, words };
@@ -106,12 +72,7 @@ fn edit_painted<I: Source, O: Sink, E: Sink, L: Ledger>(
 /// Tells how the script ended, and answers the status.
 fn close<E: Sink>(end: End, err: &mut E) -> Status
     ensures { Closes end
-        (record {
-          before = E.written err.old;
-          after = E.written err.new;
-          faults = E.faults err.old;
-          faults_after = E.faults err.new;
-        })
+        (sink_change (E.written err.old) (E.written err.new) (E.faults err.old) (E.faults err.new))
         result }
 {
     match end {

@@ -9,6 +9,7 @@ ghost use Rattle.program_words.specs.Words.{asked_of, texts_of};
 ghost use Rattle.syn_base.specs.Causes.{Rose};
 ghost use Rattle.syn_base.specs.Outside.{AppendsPrefix, appended};
 ghost use Rattle.vimsyn_cli.specs.Answers.{GivesSession, TellsAllUnread, TellsFault, TellsUnread, is_unfailed};
+ghost use Rattle.vimsyn_cli.specs.Changes.{files_change, sink_change, source_change};
 ghost use Rattle.vimsyn_cli.specs.Runs.{EndsScript, FailsScript, IfTold, LeavesScript, PaintsFew, RefusesScript, Runs, StopsSoFar};
 ghost use Rattle.vimsyn_cli.specs.Session.{print_lines, script_read, session};
 
@@ -80,19 +81,12 @@ pub fn run<F: Files, I: Source, O: Sink, E: Sink, L: Ledger>(
     ensures refused { result ≡ Status.Refused → IsSomeAnd (asked_of (texts_of words.now)) (λ asked.
         TellsFault asked (E.written err.old) (E.written err.new)
         (F.longs files.old) (F.longs files.new) result
-        ⊎ RefusesScript asked
-        (record {
-          before = I.left script.old;
-          after = I.left script.new;
-          faults = I.faults script.old;
-          faults_after = I.faults script.new;
-        })
-        (record {
-          before = E.written err.old;
-          after = E.written err.new;
-          faults = E.faults err.old;
-          faults_after = E.faults err.new;
-        })) }
+        ⊎ RefusesScript asked (F.told files.old)
+        (source_change (I.left script.old) (I.left script.new)
+        (I.faults script.old) (I.faults script.new))
+        (sink_change (O.written out.old) (O.written out.new) (O.faults out.old) (O.faults out.new))
+        (sink_change (E.written err.old) (E.written err.new)
+        (E.faults err.old) (E.faults err.new))) }
     ensures read_fault { result ≡ Status.ReadFault
         → Rose (F.faults files.old) (F.faults files.new)
         ⊎ Rose (F.misses files.old) (F.misses files.new)
@@ -102,18 +96,10 @@ pub fn run<F: Files, I: Source, O: Sink, E: Sink, L: Ledger>(
         TellsFault asked (E.written err.old) (E.written err.new)
         (F.longs files.old) (F.longs files.new) result
         ⊎ FailsScript asked
-        (record {
-          before = I.left script.old;
-          after = I.left script.new;
-          faults = I.faults script.old;
-          faults_after = I.faults script.new;
-        })
-        (record {
-          before = E.written err.old;
-          after = E.written err.new;
-          faults = E.faults err.old;
-          faults_after = E.faults err.new;
-        })) }
+        (source_change (I.left script.old) (I.left script.new)
+        (I.faults script.old) (I.faults script.new))
+        (sink_change (E.written err.old) (E.written err.new)
+        (E.faults err.old) (E.faults err.new))) }
     ensures read_fault_told { result ≡ Status.ReadFault → IfTold (F.told files.old)
         (script_read (asked_of (texts_of words.now)) (I.left script.old))
         (λ known bytes.
@@ -129,18 +115,10 @@ pub fn run<F: Files, I: Source, O: Sink, E: Sink, L: Ledger>(
     ensures stopped { result ≡ Status.ReadFault
         → Rose (I.faults script.old) (I.faults script.new) → IfSome (F.told files.old) (λ known.
         StopsSoFar (asked_of (texts_of words.now)) known
-        (record {
-          before = I.left script.old;
-          after = I.left script.new;
-          faults = I.faults script.old;
-          faults_after = I.faults script.new;
-        })
-        (record {
-          before = O.written out.old;
-          after = O.written out.new;
-          faults = O.faults out.old;
-          faults_after = O.faults out.new;
-        })) }
+        (source_change (I.left script.old) (I.left script.new)
+        (I.faults script.old) (I.faults script.new))
+        (sink_change (O.written out.old) (O.written out.new)
+        (O.faults out.old) (O.faults out.new))) }
 
     // What stays as it was.
     ensures files_unfailed { is_unfailed result ≡ true → F.faults files.new ≡ F.faults files.old }
@@ -154,19 +132,14 @@ pub fn run<F: Files, I: Source, O: Sink, E: Sink, L: Ledger>(
 
     // No command but `edit` takes from the script, and that one reads it to its end.
     ensures script_left { LeavesScript (asked_of (texts_of words.now))
-        (record {
-          before = I.left script.old;
-          after = I.left script.new;
-          faults = I.faults script.old;
-          faults_after = I.faults script.new;
-        }) }
+        (source_change (I.left script.old) (I.left script.new)
+        (I.faults script.old) (I.faults script.new)) }
     ensures script_ended { result ≡ Status.Done → EndsScript (asked_of (texts_of words.now))
-        (record {
-          before = I.left script.old;
-          after = I.left script.new;
-          faults = I.faults script.old;
-          faults_after = I.faults script.new;
-        }) }
+        (F.told files.old)
+        (source_change (I.left script.old) (I.left script.new)
+        (I.faults script.old) (I.faults script.new))
+        (sink_change (O.written out.old) (O.written out.new)
+        (O.faults out.old) (O.faults out.new)) }
 
     // Lines that are painted for a command that prints at once: at most those of its text, and
     // none for words that name no text.
@@ -192,34 +165,13 @@ fn run_asked<F: Files, I: Source, O: Sink, E: Sink, L: Ledger>(
         PaintsFew asked.entry known steps.old steps.new) }
     ensures steps_kept { asked.entry ≡ None → steps.new ≡ steps.old }
     ensures runs { Runs asked.entry
-        (record {
-          told = F.told files.old;
-          told_after = F.told files.new;
-          faults = F.faults files.old;
-          faults_after = F.faults files.new;
-          misses = F.misses files.old;
-          misses_after = F.misses files.new;
-          longs = F.longs files.old;
-          longs_after = F.longs files.new;
-        })
-        (record {
-          before = I.left script.old;
-          after = I.left script.new;
-          faults = I.faults script.old;
-          faults_after = I.faults script.new;
-        })
-        (record {
-          before = O.written out.old;
-          after = O.written out.new;
-          faults = O.faults out.old;
-          faults_after = O.faults out.new;
-        })
-        (record {
-          before = E.written err.old;
-          after = E.written err.new;
-          faults = E.faults err.old;
-          faults_after = E.faults err.new;
-        })
+        (files_change (F.told files.old) (F.told files.new)
+        (F.faults files.old) (F.faults files.new) (F.misses files.old) (F.misses files.new)
+        (F.longs files.old) (F.longs files.new))
+        (source_change (I.left script.old) (I.left script.new)
+        (I.faults script.old) (I.faults script.new))
+        (sink_change (O.written out.old) (O.written out.new) (O.faults out.old) (O.faults out.new))
+        (sink_change (E.written err.old) (E.written err.new) (E.faults err.old) (E.faults err.new))
         result }
 {
     match asked {
@@ -240,34 +192,13 @@ fn run_print<F: Files, I: Source, O: Sink, E: Sink, L: Ledger>(
     steps: &mut Steps<L>,
 ) -> Status
     ensures runs { Runs (Some (Print printing.now))
-        (record {
-          told = F.told files.old;
-          told_after = F.told files.new;
-          faults = F.faults files.old;
-          faults_after = F.faults files.new;
-          misses = F.misses files.old;
-          misses_after = F.misses files.new;
-          longs = F.longs files.old;
-          longs_after = F.longs files.new;
-        })
-        (record {
-          before = I.left script.old;
-          after = I.left script.new;
-          faults = I.faults script.old;
-          faults_after = I.faults script.new;
-        })
-        (record {
-          before = O.written out.old;
-          after = O.written out.new;
-          faults = O.faults out.old;
-          faults_after = O.faults out.new;
-        })
-        (record {
-          before = E.written err.old;
-          after = E.written err.new;
-          faults = E.faults err.old;
-          faults_after = E.faults err.new;
-        })
+        (files_change (F.told files.old) (F.told files.new)
+        (F.faults files.old) (F.faults files.new) (F.misses files.old) (F.misses files.new)
+        (F.longs files.old) (F.longs files.new))
+        (source_change (I.left script.old) (I.left script.new)
+        (I.faults script.old) (I.faults script.new))
+        (sink_change (O.written out.old) (O.written out.new) (O.faults out.old) (O.faults out.new))
+        (sink_change (E.written err.old) (E.written err.new) (E.faults err.old) (E.faults err.new))
         result }
     ensures steps { IfSome (F.told files.old) (λ known.
         steps.new ≤ steps.old + print_lines printing.now known) }

@@ -1,0 +1,35 @@
+-- What a call is given, before and after it.
+use Rattle.std.specs.Prelude.{ℕ, List, Option}
+use Rattle.edit_session.specs.Ends.{SinkChange, SourceChange}
+use Rattle.syn_base.specs.Outside.{FileMap}
+
+-- files before and after a call: what they hold, where told, and their counts
+pub record FilesChange : Type 0 where
+  pub told : Option FileMap
+  pub told_after : Option FileMap
+  pub faults : ℕ
+  pub faults_after : ℕ
+  pub misses : ℕ
+  pub misses_after : ℕ
+  pub longs : ℕ
+  pub longs_after : ℕ
+
+abbrev pub files_change : Option FileMap → Option FileMap → ℕ → ℕ → ℕ → ℕ → ℕ → ℕ → FilesChange
+files_change told told_after faults faults_after misses misses_after longs longs_after = record {
+  told = told;
+  told_after = told_after;
+  faults = faults;
+  faults_after = faults_after;
+  misses = misses;
+  misses_after = misses_after;
+  longs = longs;
+  longs_after = longs_after;
+}
+
+abbrev pub source_change : Option (List ℕ) → Option (List ℕ) → ℕ → ℕ → SourceChange
+source_change before after faults faults_after =
+    record { before = before; after = after; faults = faults; faults_after = faults_after }
+
+abbrev pub sink_change : Option (List ℕ) → Option (List ℕ) → ℕ → ℕ → SinkChange
+sink_change before after faults faults_after =
+    record { before = before; after = after; faults = faults; faults_after = faults_after }
