@@ -7,6 +7,7 @@ pub mod QuietUntil
 pub mod Attempts
 pub mod Columns
 pub mod Screens
+pub mod Marks
 pub mod Standing
 pub mod Started
 pub mod Told

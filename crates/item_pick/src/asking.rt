@@ -22,6 +22,7 @@ use crate::picking::Picking;
 use crate::starting::{Outcome, Picked};
 use crate::stop::Stop;
 use crate::syntax::Syntax;
+use crate::tried::Tried;
 use state_stack::State;
 use std::alloc::Global;
 use syn_base::{Externals, ItemId, Lines, List, Looked, Memory, Place};
@@ -137,13 +138,14 @@ fn picked_by<T: Lines, S: Syntax, M: Memo<S>>(
     ensures memo { M.stands memo.new syntax.now (T.lines lines.now) at.line }
 {
     let _count = lines.len();
+    let tried = Tried::new(alloc, tried, syntax.items().added())?;
     let picking = Picking {
         alloc,
         syntax,
         lines,
         at,
         floor,
-        tried,
+        tried: &tried,
     };
     let mut looked = Looked::one(at.line as i64);
     match picking.pick(&state.stack, state.waiting, &mut looked, memo) {

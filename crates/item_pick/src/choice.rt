@@ -50,7 +50,7 @@ impl<T: Lines, S: Syntax> Picking<'_, T, S> {
     fn is_tried(&self, id: ItemId) -> bool
         ensures { result ≡ list_any (same_item id) (reverse self.now.tried.now) }
     {
-        self.tried.as_slice().iter().rev().any(|t| t.0 == id.0)
+        self.tried.has(id)
     }
 
     /// Whether a choice has an item.

@@ -21,6 +21,7 @@ mod starts;
 mod stop;
 mod syntax;
 mod tables;
+mod tried;
 mod tries;
 mod vains;
 mod words;

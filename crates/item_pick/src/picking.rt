@@ -1,7 +1,8 @@
 //! Where a pick stands.
 use crate::syntax::Syntax;
+use crate::tried::Tried;
 use std::alloc::Global;
-use syn_base::{ItemId, Lines, List, Place};
+use syn_base::{Lines, Place};
 
 /// Where a pick stands: the place, the column of the last start or close in its line, and the items
 /// that have started here.
@@ -12,5 +13,5 @@ pub(crate) struct Picking<'a, T: Lines, S: Syntax> {
     pub(crate) lines: &'a T,
     pub(crate) at: Place,
     pub(crate) floor: usize,
-    pub(crate) tried: &'a List<ItemId>,
+    pub(crate) tried: &'a Tried<'a>,
 }

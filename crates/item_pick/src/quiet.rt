@@ -19,6 +19,7 @@ use crate::choice::Choice;
 use crate::memory::PickMemory;
 use crate::parts::Parts;
 use crate::picking::Picking;
+use crate::tried::Tried;
 use char_class::CharSet;
 use state_stack::{Stack, State};
 use std::alloc::Global;
@@ -94,13 +95,14 @@ fn quiet_by<T: Lines>(
         (T.lines lines.now) at.line memory.new }
 {
     let _count = lines.len();
+    let tried = Tried::new(alloc, tried, syntax.parts.items.added())?;
     let picking = Picking {
         alloc,
         syntax,
         lines,
         at,
         floor,
-        tried,
+        tried: &tried,
     };
     picking.quiet_until(stack, memory)
 }
