@@ -8,6 +8,9 @@ read [] i x d e = absurd (cc)
 read (y ∷ ys) zero x d e = cc
 read (y ∷ ys) (suc i) x d e = read ys i x d e
 
+pub one_more : {A : Type 0} (xs : List A) (k : ℕ) (d : A) → k < length xs → reverse (take (k + 1) xs) ≡ get_or xs k d ∷ reverse (take k xs)
+one_more xs k d less = ap reverse (take_more xs k d less) ∙ reverse-append (take k xs) (get_or xs k d ∷ [])
+
 pub last_first : {A : Type 0} (xs : List A) (n m : ℕ) (x : A) → n ≡ suc m → n ≤ length xs → Some x ≡ slice_get xs m → reverse (take n xs) ≡ x ∷ reverse (take m xs)
 last_first {A = A} xs n m x h g e =
     let f : n ≡ m + 1 = omega arith in

@@ -1,5 +1,5 @@
 //! The items that have started at a place.
-ghost use Rattle.std.specs.Prelude.{◌≡◌, ◌++◌, ◌∷◌, [], List, false, length, repeat, reverse, IfOk};
+ghost use Rattle.std.specs.Prelude.{◌≡◌, ◌∷◌, List, length, reverse, IfOk};
 ghost use Rattle.std.specs.List.{list_any};
 ghost use Rattle.syn_base.specs.declared.places.ItemId.{ItemId as ItemIdOf};
 ghost use Rattle.paint_rules.specs.Rules.{same_item};
@@ -21,7 +21,7 @@ pub(crate) struct Tried<'a> {
     marks: Vec<bool>,
 }
 
-impl Model for Tried<'_> {
+impl<'a> Model for Tried<'a> {
     ghost use Rattle.std.specs.Prelude.{List, reverse};
     ghost use Rattle.syn_base.specs.declared.places.ItemId.{ItemId};
     ghost use Rattle.item_pick.specs.Marks.{AreMarks};
