@@ -19,3 +19,4 @@ pub mod CodeLaws
 pub mod TableLaws
 pub mod CaseLaws
 pub mod AnswerLaws
+pub mod ScreenLaws

@@ -2,6 +2,8 @@
 pub mod Contexts
 pub mod Answers
 pub mod OnText
+pub mod Screens
+pub mod Memo
 -- what only code and proofs cite
 pub mod Steps
 pub mod LastParts
@@ -16,4 +18,5 @@ pub mod Standing
 pub mod Walks
 pub mod Tried
 pub mod FirstAtom
+pub mod Programs
 pub mod ReadyParts

@@ -13,9 +13,11 @@ mod cases;
 mod collection;
 mod context;
 mod look;
+mod memo;
 mod parts;
 mod programs;
 mod ready;
+mod screens;
 mod search;
 mod spent;
 mod standing;
@@ -30,4 +32,5 @@ mod words;
 
 pub use answer::{Attempt, Caps, Match};
 pub use context::Context;
+pub use memo::{Entry, LineMemo};
 pub use programs::{Programs, answers_stay_on_the_text};

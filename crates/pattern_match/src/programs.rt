@@ -1,12 +1,14 @@
 //! Patterns that are ready, by number.
-ghost use Rattle.std.specs.Prelude.{◌≡◌, ◌<◌, ◌≤◌, ◌^◌, ◌-◌, [], ◌∷◌, ◌++◌, List, length, map, IfOk, OnOk, OnErr, IfSome};
+ghost use Rattle.std.specs.Prelude.{◌≡◌, ◌<◌, ◌≤◌, ◌^◌, ◌-◌, [], ◌∷◌, ◌++◌, List, length, map, false, Some, slice_get, IfOk, OnOk, OnErr, IfSome};
 ghost use Rattle.vim_pattern.specs.GroupNumbers.{HasNumbers};
 ghost use Rattle.vim_pattern.specs.Tree.{PatternTree};
 ghost use Rattle.match_rules.specs.Ways.{IsPlaceOf, way_from};
 ghost use Rattle.match_rules.specs.Marks.{Tick};
 ghost use Rattle.match_rules.specs.Visits.{visits};
 ghost use Rattle.match_rules.specs.Attempt.{answer_of, not_before, external_of};
+ghost use Rattle.pattern_screens.specs.FirstAtoms.{first_cost};
 ghost use Rattle.pattern_match.specs.Contexts.{context_in};
+ghost use Rattle.pattern_match.specs.Screens.{IsVainAt, passes_at};
 ghost use Rattle.pattern_match.specs.Steps.{shape_of};
 ghost use Rattle.pattern_match.specs.Ways.{found_way};
 ghost use Rattle.pattern_match.specs.Answers.{answered, lines_or_start, match_of, IsAttempt};
@@ -16,12 +18,14 @@ use crate::answer::{Attempt, Caps, GROUPS, Match};
 use crate::context::Context;
 use crate::parts::fails_at_once;
 use crate::ready::ready;
+use crate::screens::some_first_fits;
 use crate::search::{Sought, search};
 use crate::spent::Spent;
 use crate::step::Step;
 use crate::task::Task;
 use crate::walks::part_of_line;
 use crate::ways::{FoundWay, Ways};
+use pattern_screens::screen_cost;
 use std::alloc::Global;
 use std::marker::Model;
 use syn_base::{Externals, Lines, List, Looked, Memory, PatternId, Place};
@@ -36,6 +40,7 @@ struct Program {
     externals: u8,
     moves_start: bool,
     line_end: bool,
+    screen_cost: u64,
 }
 
 /// Patterns that are ready, by number. Contracts see their trees.
@@ -48,8 +53,8 @@ impl Model for Programs {
     ghost use Rattle.std.specs.Prelude.{List, map};
     ghost use Rattle.std.specs.List.{All};
     ghost use Rattle.vim_pattern.specs.Tree.{PatternTree};
-    ghost use Rattle.vim_pattern.specs.GroupNumbers.{HasNumbers};
     ghost use Rattle.pattern_match.specs.Answers.{tree_of};
+    ghost use Rattle.pattern_match.specs.Programs.{IsReady};
     ghost use Rattle.vim_pattern.specs.ShapeCode.{coded_tree};
     ghost use Rattle.std.specs.Coded.{coded_list};
 
@@ -59,7 +64,7 @@ impl Model for Programs {
 
     ghost view = { λ p. map tree_of p.programs.items };
 
-    ghost invariant = { λ p. All (λ program. HasNumbers (tree_of program).node) p.programs.items };
+    ghost invariant = { λ p. All IsReady p.programs.items };
 }
 
 impl Programs {
@@ -83,6 +88,7 @@ impl Programs {
         let alloc = *self.programs.allocator();
         let number = self.programs.len() as u32;
         let step = ready(alloc, &tree.node)?;
+        let screen_cost = screen_cost(tree)?;
         self.programs.push(Program {
             step,
             case: tree.case,
@@ -90,6 +96,7 @@ impl Programs {
             externals: tree.externals,
             moves_start: tree.moves_start,
             line_end: tree.line_end,
+            screen_cost,
         })?;
         Ok(PatternId(number))
     }
@@ -119,6 +126,41 @@ impl Programs {
             externals: context.externals,
         };
         attempt_of(alloc, &program.step, lines, &context, start, budget)
+    }
+
+    /// Whether the screen of a pattern lets an attempt at a column through: one of its first atoms
+    /// fits there, or its first atoms aren't all of single characters. What holds of an attempt that
+    /// isn't let through is the law `first_screens_are_sound` of `pattern_screens`.
+    pub fn screen_passes(&self, id: PatternId, line: &[char], col: usize, context: &Context) -> bool
+        requires added { id.0 < length self.now }
+        requires col { col ≤ length line.now }
+        ensures passes { (tree : PatternTree) → slice_get self.now id.0 ≡ Some tree →
+            result ≡ passes_at tree context.now.sets.now context.now.ignore line.now col }
+        ensures vain { (tree : PatternTree) → slice_get self.now id.0 ≡ Some tree →
+            result ≡ false → IsVainAt tree context.now line.now col }
+    {
+        self.lets_through(id, line, col, context)
+    }
+
+    /// Whether the screen of a pattern lets an attempt at a column through.
+    fn lets_through(&self, id: PatternId, line: &[char], col: usize, context: &Context) -> bool
+        requires { id.0 < length self.now }
+        ensures { (tree : PatternTree) → slice_get self.now id.0 ≡ Some tree →
+            result ≡ passes_at tree context.now.sets.now context.now.ignore line.now col }
+    {
+        let program = &self.programs[id.0 as usize];
+        let ignore = program.case.unwrap_or(context.ignore);
+        some_first_fits(&program.step, context.sets, ignore, line.get(col).copied())
+    }
+
+    /// What an attempt costs at most where the screen of its pattern fails: how many first atoms
+    /// the pattern has, or 1 where the screen always passes.
+    pub fn screen_cost(&self, id: PatternId) -> u64
+        requires added { id.0 < length self.now }
+        ensures { (tree : PatternTree) → slice_get self.now id.0 ≡ Some tree →
+            result ≡ first_cost tree.node }
+    {
+        self.programs[id.0 as usize].screen_cost
     }
 }
 

@@ -91,7 +91,7 @@ pub(crate) fn first_test(step: &Step) -> Option<&Test>
 }
 
 /// Whether a count has to take a turn.
-fn is_forced(least: u32, most: Option<u32>) -> bool
+pub(crate) fn is_forced(least: u32, most: Option<u32>) -> bool
     ensures { result ≡ is_forced least most }
 {
     match most {
