@@ -1,5 +1,5 @@
--- Whether the screen of a pattern lets an attempt at a column through, and what is sure of an attempt
--- that it doesn't let through.
+-- Whether the screen of a pattern lets an attempt at a column through, and what is sure of one that
+-- it doesn't.
 use Rattle.std.specs.Prelude.{◌≡◌, ℕ, Bool, false, List, slice_get}
 use Rattle.char_class.specs.declared.sets.Sets.{Sets}
 use Rattle.vim_pattern.specs.Tree.{PatternTree}

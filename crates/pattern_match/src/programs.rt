@@ -129,8 +129,8 @@ impl Programs {
     }
 
     /// Whether the screen of a pattern lets an attempt at a column through: one of its first atoms
-    /// fits there, or its first atoms aren't all of single characters. What holds of an attempt that
-    /// isn't let through is the law `first_screens_are_sound` of `pattern_screens`.
+    /// fits there, or they aren't all of single characters. It takes no memory. The clause `vain` is
+    /// the law `first_screens_are_sound` of `pattern_screens`, said of this line.
     pub fn screen_passes(&self, id: PatternId, line: &[char], col: usize, context: &Context) -> bool
         requires added { id.0 < length self.now }
         requires col { col ≤ length line.now }
@@ -154,7 +154,7 @@ impl Programs {
     }
 
     /// What an attempt costs at most where the screen of its pattern fails: how many first atoms
-    /// the pattern has, or 1 where the screen always passes.
+    /// the pattern has, or 1 where the screen always passes. It takes no memory.
     pub fn screen_cost(&self, id: PatternId) -> u64
         requires added { id.0 < length self.now }
         ensures { (tree : PatternTree) → slice_get self.now id.0 ≡ Some tree →
