@@ -19,3 +19,5 @@ pub mod CodeLaws
 pub mod TableLaws
 pub mod CaseLaws
 pub mod AnswerLaws
+pub mod StandsLaws
+pub mod FateLaws

@@ -5,6 +5,8 @@ pub mod OnText
 -- what only code and proofs cite
 pub mod Steps
 pub mod LastParts
+pub mod StandsFor
+pub mod Fates
 pub mod Entries
 pub mod Ways
 pub mod Machine
