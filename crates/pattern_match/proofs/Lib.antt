@@ -20,3 +20,5 @@ pub mod TableLaws
 pub mod CaseLaws
 pub mod AnswerLaws
 pub mod ScreenLaws
+pub mod StandsLaws
+pub mod FateLaws

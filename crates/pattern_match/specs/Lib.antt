@@ -7,6 +7,8 @@ pub mod Memo
 -- what only code and proofs cite
 pub mod Steps
 pub mod LastParts
+pub mod StandsFor
+pub mod Fates
 pub mod Entries
 pub mod Ways
 pub mod Machine
