@@ -19,7 +19,7 @@ one_tick x w a b is fails =
     let same : b ≡ a = cc in
     ap (λ c. visits x (one c) w) same ∙ ap (λ o. Tick (lines_looked x w a) ∷ behind_fit w a o) fails
 
-is_forced-more : (least : ℕ) (most : Option ℕ) (spent : Bool) → is_spent most ≡ spent → is_forced (suc least) most ≡ not spent
+pub is_forced-more : (least : ℕ) (most : Option ℕ) (spent : Bool) → is_spent most ≡ spent → is_forced (suc least) most ≡ not spent
 is_forced-more least most spent e =
     let some : ltb 0 (suc least) ≡ true = lt-ltb 0 (suc least) (omega arith) in
     rw (some, e) refl

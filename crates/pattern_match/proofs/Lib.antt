@@ -19,3 +19,6 @@ pub mod CodeLaws
 pub mod TableLaws
 pub mod CaseLaws
 pub mod AnswerLaws
+pub mod ScreenLaws
+pub mod StandsLaws
+pub mod FateLaws

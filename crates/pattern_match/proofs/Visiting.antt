@@ -10,7 +10,7 @@ use Rattle.syn_base.specs.declared.places.Place.{Place}
 use Rattle.pattern_items.specs.GroupNumbers.{IsOneToNine}
 use Rattle.pattern_items.specs.declared.item.Behind.{Behind}
 use Rattle.vim_pattern.specs.GroupNumbers.{HasNumbers}
-use Rattle.vim_pattern.specs.Shape.{Shape, empty, seq, or, and, group, external, repeat}
+use Rattle.vim_pattern.specs.Shape.{Shape, empty, seq, or, and, group, external, repeat, ahead}
 use Rattle.match_rules.specs.Ways.{Text, Context, Way, IsPlaceOf, is_same_place}
 use Rattle.match_rules.specs.Marks.{Mark, Tick, Reach, followed, ticks_first, first_way}
 use Rattle.match_rules.specs.Looks.{from_each, starts_behind, ending_at, looking_at}
@@ -35,7 +35,7 @@ use Rattle.pattern_match.specs.Ways.{Thread, Ways}
 use Rattle.pattern_match.specs.Machine.{task_marks, part_marks, end_marks, marks_with, marks_to_come}
 use Rattle.pattern_match.specs.Heights.{height, AreTasks, AreSound}
 use Rattle.pattern_match.specs.Search.{going, Leads, Goes, IsOver, IsStep, HasEnded, behind_look}
-use Rattle.pattern_match.proofs.Leading.{silent, leads_on, leads_do, leads_two, leads_or}
+use Rattle.pattern_match.proofs.Leading.{silent, leads_on, leads_do, leads_two, leads_or, leads_nowhere}
 use Rattle.pattern_match.proofs.Looping.{way_is}
 
 module _ (x : Context) (node : Shape) (old new : Ways Task) (s : Spent) (numbers : HasNumbers node)
@@ -183,6 +183,13 @@ module _ (x : Context) (node : Shape) (old new : Ways Task) (s : Spent) (numbers
       (subst (λ n. Leads x (height node)
       (followed (visits x n old.here.way) (marks_with x old.here.todo)) old new
       (Does (at_once.Look l))) (sym k) d)
+
+  pub follow_never : node ≡ ahead empty true →
+      Goes x (height node) (followed (visits x node old.here.way) (marks_with x old.here.todo)) old
+      old s s Ends
+  follow_never k =
+      rw k (silent x (height (ahead empty true)) [] old old s Ends within
+      (leads_nowhere x (height (ahead empty true)) old))
 
 -- ---- behind a look
 

@@ -9,18 +9,6 @@ use Rattle.match_rules.specs.Attempt.{Answer, attempt, lines_of, match_from, mat
 use Rattle.pattern_match.specs.declared.answer.Match.{Match}
 use Rattle.pattern_match.specs.declared.answer.Attempt.{Attempt}
 use Rattle.pattern_match.specs.declared.answer.Attempt.TheVariants.{Found, Absent, TooCostly}
-use Rattle.pattern_match.specs.declared.programs.Program.{Program}
-use Rattle.pattern_match.specs.Steps.{shape_of}
-
-abbrev pub tree_of : Program → PatternTree
-tree_of program = record {
-  node = shape_of program.step;
-  case = program.case;
-  groups = program.groups;
-  externals = program.externals;
-  moves_start = program.moves_start;
-  line_end = program.line_end;
-}
 
 -- the lines looked at; that of the start where there was no tick
 abbrev pub lines_or_start : Place → Option Looked → Looked

@@ -2,9 +2,13 @@
 pub mod Contexts
 pub mod Answers
 pub mod OnText
+pub mod Screens
+pub mod Memo
 -- what only code and proofs cite
 pub mod Steps
 pub mod LastParts
+pub mod StandsFor
+pub mod Fates
 pub mod Entries
 pub mod Ways
 pub mod Machine
@@ -16,4 +20,5 @@ pub mod Standing
 pub mod Walks
 pub mod Tried
 pub mod FirstAtom
+pub mod Programs
 pub mod ReadyParts

@@ -1,4 +1,5 @@
 -- The nodes of a pattern that is ready stand for those of its tree.
+use Rattle.std.specs.Prelude.{true}
 use Rattle.pattern_items.specs.declared.atom.Atom.{Atom}
 use Rattle.pattern_items.specs.declared.atom.Atom.TheVariants as atom
 use Rattle.vim_pattern.specs.Shape.{Shape, empty, one, seq, or, and, group, external, repeat, ahead, before, whole}
@@ -36,3 +37,4 @@ shape_of (step.Repeat' p a least most lazy) = repeat (shape_of a) least most laz
 shape_of (step.Ahead' p a negative) = ahead (shape_of a) negative
 shape_of (step.Before' p a negative limit) = before (shape_of a) negative limit
 shape_of (step.Whole' p a) = whole (shape_of a)
+shape_of step.Never = ahead empty true

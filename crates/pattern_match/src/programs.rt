@@ -1,12 +1,15 @@
 //! Patterns that are ready, by number.
-ghost use Rattle.std.specs.Prelude.{◌≡◌, ◌<◌, ◌≤◌, ◌^◌, ◌-◌, [], ◌∷◌, ◌++◌, List, length, map, IfOk, OnOk, OnErr, IfSome};
+ghost use Rattle.std.specs.Prelude.{◌≡◌, ◌<◌, ◌≤◌, ◌^◌, ◌-◌, [], ◌∷◌, ◌++◌, List, length, map, false, Some, slice_get, IfOk, OnOk, OnErr, IfSome};
 ghost use Rattle.vim_pattern.specs.GroupNumbers.{HasNumbers};
 ghost use Rattle.vim_pattern.specs.Tree.{PatternTree};
 ghost use Rattle.match_rules.specs.Ways.{IsPlaceOf, way_from};
 ghost use Rattle.match_rules.specs.Marks.{Tick};
 ghost use Rattle.match_rules.specs.Visits.{visits};
 ghost use Rattle.match_rules.specs.Attempt.{answer_of, not_before, external_of};
+ghost use Rattle.pattern_screens.specs.FirstAtoms.{first_cost};
 ghost use Rattle.pattern_match.specs.Contexts.{context_in};
+ghost use Rattle.pattern_match.specs.Screens.{IsVainAt, passes_at};
+ghost use Rattle.pattern_match.specs.StandsFor.{StandsFor};
 ghost use Rattle.pattern_match.specs.Steps.{shape_of};
 ghost use Rattle.pattern_match.specs.Ways.{found_way};
 ghost use Rattle.pattern_match.specs.Answers.{answered, lines_or_start, match_of, IsAttempt};
@@ -16,26 +19,48 @@ use crate::answer::{Attempt, Caps, GROUPS, Match};
 use crate::context::Context;
 use crate::parts::fails_at_once;
 use crate::ready::ready;
+use crate::screens::some_first_fits;
 use crate::search::{Sought, search};
 use crate::spent::Spent;
 use crate::step::Step;
 use crate::task::Task;
 use crate::walks::part_of_line;
 use crate::ways::{FoundWay, Ways};
+use pattern_screens::screen_cost;
 use std::alloc::Global;
 use std::marker::Model;
 use syn_base::{Externals, Lines, List, Looked, Memory, PatternId, Place};
 use vim_pattern::Tree;
 
-/// A pattern that is ready.
+/// A pattern that is ready: its tree, of which contracts speak, and the node that stands for that of
+/// the tree.
 #[derive(Drop)]
 struct Program {
+    tree: Tree,
     step: Step,
-    case: Option<bool>,
-    groups: u8,
-    externals: u8,
-    moves_start: bool,
-    line_end: bool,
+    screen_cost: u64,
+}
+
+impl Program {
+    /// Tries the pattern at a place, with no regard to what it says of case.
+    fn attempt<T: Lines>(
+        &self,
+        alloc: Global,
+        lines: &T,
+        context: &Context,
+        start: Place,
+        budget: u64,
+    ) -> Result<Attempt, Memory>
+        requires place { IsPlaceOf (T.lines lines.now) start }
+        requires numbers { HasNumbers self.now.tree.node }
+        requires stands { StandsFor (shape_of self.now.step) self.now.tree.node }
+        requires budget { 1 ≤ budget }
+        ensures { let x = context_in (T.lines lines.now) context.now in
+            IfOk result (λ told. told ≡ answered budget (T.lines lines.now) start
+            (answer_of (visits x self.now.tree.node (way_from start)))) }
+    {
+        attempt_of(alloc, &self.step, lines, context, start, budget)
+    }
 }
 
 /// Patterns that are ready, by number. Contracts see their trees.
@@ -48,8 +73,7 @@ impl Model for Programs {
     ghost use Rattle.std.specs.Prelude.{List, map};
     ghost use Rattle.std.specs.List.{All};
     ghost use Rattle.vim_pattern.specs.Tree.{PatternTree};
-    ghost use Rattle.vim_pattern.specs.GroupNumbers.{HasNumbers};
-    ghost use Rattle.pattern_match.specs.Answers.{tree_of};
+    ghost use Rattle.pattern_match.specs.Programs.{IsReady};
     ghost use Rattle.vim_pattern.specs.ShapeCode.{coded_tree};
     ghost use Rattle.std.specs.Coded.{coded_list};
 
@@ -57,9 +81,9 @@ impl Model for Programs {
 
     ghost coded = { coded_list coded_tree };
 
-    ghost view = { λ p. map tree_of p.programs.items };
+    ghost view = { λ p. map (λ program. program.tree) p.programs.items };
 
-    ghost invariant = { λ p. All (λ program. HasNumbers (tree_of program).node) p.programs.items };
+    ghost invariant = { λ p. All IsReady p.programs.items };
 }
 
 impl Programs {
@@ -83,13 +107,12 @@ impl Programs {
         let alloc = *self.programs.allocator();
         let number = self.programs.len() as u32;
         let step = ready(alloc, &tree.node)?;
+        let screen_cost = screen_cost(tree)?;
+        let tree = tree.copy(alloc)?;
         self.programs.push(Program {
+            tree,
             step,
-            case: tree.case,
-            groups: tree.groups,
-            externals: tree.externals,
-            moves_start: tree.moves_start,
-            line_end: tree.line_end,
+            screen_cost,
         })?;
         Ok(PatternId(number))
     }
@@ -114,11 +137,46 @@ impl Programs {
     {
         let program = &self.programs[id.0 as usize];
         let context = Context {
-            ignore: program.case.unwrap_or(context.ignore),
+            ignore: program.tree.case.unwrap_or(context.ignore),
             sets: context.sets,
             externals: context.externals,
         };
-        attempt_of(alloc, &program.step, lines, &context, start, budget)
+        program.attempt(alloc, lines, &context, start, budget)
+    }
+
+    /// Whether the screen of a pattern lets an attempt at a column through: one of its first atoms
+    /// fits there, or they aren't all of single characters. It takes no memory. The clause `vain` is
+    /// the law `first_screens_are_sound` of `pattern_screens`, said of this line.
+    pub fn screen_passes(&self, id: PatternId, line: &[char], col: usize, context: &Context) -> bool
+        requires added { id.0 < length self.now }
+        requires col { col ≤ length line.now }
+        ensures passes { (tree : PatternTree) → slice_get self.now id.0 ≡ Some tree →
+            result ≡ passes_at tree context.now.sets.now context.now.ignore line.now col }
+        ensures vain { (tree : PatternTree) → slice_get self.now id.0 ≡ Some tree →
+            result ≡ false → IsVainAt tree context.now line.now col }
+    {
+        self.lets_through(id, line, col, context)
+    }
+
+    /// Whether the screen of a pattern lets an attempt at a column through.
+    fn lets_through(&self, id: PatternId, line: &[char], col: usize, context: &Context) -> bool
+        requires { id.0 < length self.now }
+        ensures { (tree : PatternTree) → slice_get self.now id.0 ≡ Some tree →
+            result ≡ passes_at tree context.now.sets.now context.now.ignore line.now col }
+    {
+        let program = &self.programs[id.0 as usize];
+        let ignore = program.tree.case.unwrap_or(context.ignore);
+        some_first_fits(&program.step, context.sets, ignore, line.get(col).copied())
+    }
+
+    /// What an attempt costs at most where the screen of its pattern fails: how many first atoms
+    /// the pattern has, or 1 where the screen always passes. It takes no memory.
+    pub fn screen_cost(&self, id: PatternId) -> u64
+        requires added { id.0 < length self.now }
+        ensures { (tree : PatternTree) → slice_get self.now id.0 ≡ Some tree →
+            result ≡ first_cost tree.node }
+    {
+        self.programs[id.0 as usize].screen_cost
     }
 }
 

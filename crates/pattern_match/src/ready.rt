@@ -1,11 +1,19 @@
 //! A pattern's nodes, made ready for the matcher.
+//!
+//! What a node without atoms comes to is known before any attempt. One that has no way becomes
+//! `Step::Never`, and one that has a single way, on which nothing changes, becomes `Step::Empty`: a
+//! walk through their parts costs no tick, and so no budget would end it.
 ghost use Rattle.std.specs.Prelude.{◌≡◌, IfOk};
-ghost use Rattle.vim_pattern.specs.Shape.{bare};
-ghost use Rattle.pattern_match.specs.LastParts.{all_over, over, whole_of};
+ghost use Rattle.vim_pattern.specs.Shape.{bare, Shape, empty, one};
+ghost use Rattle.pattern_match.specs.Fates.{fate_of};
+ghost use Rattle.pattern_match.specs.LastParts.{all_over, over, IsParted};
+ghost use Rattle.pattern_match.specs.StandsFor.{StandsFor};
 ghost use Rattle.pattern_match.specs.Steps.{atom_of, shape_of};
 
 use crate::collection::Collection;
-use crate::step::{Step, Test};
+use crate::fate::{Fate, behind, counted, either, looked};
+use crate::made::Made;
+use crate::step::{Step, Test, is_forced};
 use pattern_items::{Atom, Behind};
 use std::alloc::Global;
 use syn_base::Memory;
@@ -14,9 +22,9 @@ use vim_pattern::Node;
 /// A ready node's parts but for its last child.
 #[derive(Drop)]
 pub(crate) enum Above {
-    Seq(Step),
-    Or(Step),
-    And(Step),
+    Seq(Made),
+    Or(Made),
+    And(Made),
     Group(u8),
     External(u8),
     Repeat {
@@ -34,15 +42,32 @@ pub(crate) enum Above {
     Whole,
 }
 
+impl Above {
+    /// What the node of these parts comes to, by what its last child does.
+    fn fate_over(&self, last: Fate) -> Fate
+        ensures { (t : Shape) → last ≡ fate_of t → result ≡ fate_of (over self.now t) }
+    {
+        match self {
+            Above::Seq(first) => behind(first.fate, last),
+            Above::Or(first) => either(first.fate, last),
+            Above::And(first) => behind(looked(first.fate, false), last),
+            Above::Group(_) | Above::External(_) => behind(last, Fate::Passes),
+            Above::Repeat { least, most, .. } => counted(last, is_forced(*least, *most)),
+            Above::Ahead { not } | Above::Before { not, .. } => looked(last, *not),
+            Above::Whole => last,
+        }
+    }
+}
+
 /// The node of these parts and this last child.
-fn put_over(alloc: Global, above: Above, step: Step) -> Result<Step, Memory>
+fn joined(alloc: Global, above: Above, step: Step) -> Result<Step, Memory>
     ensures { IfOk result (λ s. shape_of s ≡ over above (shape_of step)) }
 {
     let part = Box::new(alloc, step)?;
     match above {
-        Above::Seq(first) => Ok(Step::Seq(Box::new(alloc, first)?, part)),
-        Above::Or(first) => Ok(Step::Or(Box::new(alloc, first)?, part)),
-        Above::And(first) => Ok(Step::And(Box::new(alloc, first)?, part)),
+        Above::Seq(first) => Ok(Step::Seq(Box::new(alloc, first.step)?, part)),
+        Above::Or(first) => Ok(Step::Or(Box::new(alloc, first.step)?, part)),
+        Above::And(first) => Ok(Step::And(Box::new(alloc, first.step)?, part)),
         Above::Group(number) => Ok(Step::Group(part, number)),
         Above::External(number) => Ok(Step::External(part, number)),
         Above::Repeat { least, most, lazy } => Ok(Step::Repeat {
@@ -57,39 +82,94 @@ fn put_over(alloc: Global, above: Above, step: Step) -> Result<Step, Memory>
     }
 }
 
+/// A node that comes to this, or a plainer one that stands for it.
+#[tactic(auto, using(crate::proofs::FateLaws::stands_never, crate::proofs::FateLaws::stands_stays, crate::proofs::StandsLaws::stands_itself))]
+fn settled(step: Step, fate: Fate) -> Made
+    requires { fate ≡ fate_of (shape_of step) }
+    ensures { StandsFor (shape_of result.step) (shape_of step) }
+{
+    match fate {
+        Fate::Never => {
+            drop(step);
+            Made {
+                step: Step::Never,
+                fate,
+            }
+        }
+        Fate::Stays => {
+            drop(step);
+            Made {
+                step: Step::Empty,
+                fate,
+            }
+        }
+        Fate::Passes | Fate::Tries => Made { step, fate },
+    }
+}
+
+/// The node of these parts and this last child, or a plainer one that stands for it.
+fn put_over(alloc: Global, above: Above, last: Made) -> Result<Made, Memory>
+    ensures { IfOk result (λ m. StandsFor (shape_of m.step) (over above (shape_of last.step))) }
+{
+    let fate = above.fate_over(last.fate);
+    Ok(settled(joined(alloc, above, last.step)?, fate))
+}
+
 /// The node of all these, the uppermost first, over this one.
-#[tactic(auto, using(crate::proofs::LastPartLaws::over_last))]
-fn put_all_over(alloc: Global, all: Vec<Above>, step: Step) -> Result<Step, Memory>
-    ensures { IfOk result (λ s. shape_of s ≡ all_over all.items (shape_of step)) }
+#[tactic(auto, using(crate::proofs::StandsLaws::stands_itself, crate::proofs::StandsLaws::stands_lower))]
+fn put_all_over(alloc: Global, all: Vec<Above>, leaf: Made) -> Result<Made, Memory>
+    ensures { IfOk result (λ m. StandsFor (shape_of m.step) (all_over all.items
+        (shape_of leaf.step))) }
 {
     let mut all = all;
-    let mut step = step;
+    let mut made = leaf;
     while let Some(above) = all.pop() {
-        step = put_over(alloc, above, step)?;
+        made = put_over(alloc, above, made)?;
     }
-    Ok(step)
+    Ok(made)
 }
 
 /// A node, parted from its last child.
 #[derive(Drop)]
 enum Parted<'n> {
     /// One that has no child, made ready.
-    Leaf(Step),
+    Leaf(Made),
     /// The other parts of a node, made ready, and its last child.
     Under(Above, &'n Node),
 }
 
+/// A leaf that is an atom.
+fn ready_leaf(alloc: Global, atom: &Atom) -> Result<Made, Memory>
+    ensures { IfOk result (λ m. shape_of m.step ≡ one atom.now) }
+{
+    Ok(Made {
+        step: Step::One(ready_atom(alloc, atom)?),
+        fate: Fate::Tries,
+    })
+}
+
+/// A leaf that is empty.
+fn ready_empty() -> Made
+    ensures { shape_of result.step ≡ empty }
+{
+    Made {
+        step: Step::Empty,
+        fate: Fate::Stays,
+    }
+}
+
 /// Parts a node from its last child, and makes the rest of it ready.
 #[cycle(ready)]
+#[tactic(auto, using(crate::proofs::StandsLaws::first_of_seq, crate::proofs::StandsLaws::first_of_or, crate::proofs::StandsLaws::first_of_and, crate::proofs::StandsLaws::stands_itself))]
 fn taken_apart<'n>(alloc: Global, node: &'n Node) -> Result<Parted<'n>, Memory>
-    ensures { IfOk result (λ parted. whole_of parted ≡ bare node.now) }
+    ensures { IfOk result (λ parted. IsParted parted (bare node.now)) }
 {
     match node {
-        Node::Empty => Ok(Parted::Leaf(Step::Empty)),
-        Node::One(atom) => Ok(Parted::Leaf(Step::One(ready_atom(alloc, atom)?))),
-        Node::Seq(a, b) => Ok(Parted::Under(Above::Seq(ready(alloc, a)?), b)),
-        Node::Or(a, b) => Ok(Parted::Under(Above::Or(ready(alloc, a)?), b)),
-        Node::And(a, b) => Ok(Parted::Under(Above::And(ready(alloc, a)?), b)),
+        Node::Empty => Ok(Parted::Leaf(ready_empty())),
+        Node::One(atom) => Ok(Parted::Leaf(ready_leaf(alloc, atom)?)),
+        Node::Seq(a, b) => Ok(Parted::Under(Above::Seq(made(alloc, a)?), b)),
+        Node::Or(a, b) => Ok(Parted::Under(Above::Or(made(alloc, a)?), b)),
+        Node::And(a, b) => Ok(Parted::Under(Above::And(made(alloc, a)?), b)),
         Node::Group(a, number) => Ok(Parted::Under(Above::Group(*number), a)),
         Node::External(a, number) => Ok(Parted::Under(Above::External(*number), a)),
         Node::Repeat {
@@ -120,9 +200,9 @@ fn taken_apart<'n>(alloc: Global, node: &'n Node) -> Result<Parted<'n>, Memory>
 /// The ready node of a node. Only first children are made ready by a call of its own, and those nest
 /// no deeper than the levels of a pattern allow.
 #[cycle(ready)]
-#[tactic(auto, using(crate::proofs::LastPartLaws::over_last))]
-pub(crate) fn ready(alloc: Global, node: &Node) -> Result<Step, Memory>
-    ensures { IfOk result (λ s. shape_of s ≡ bare node.now) }
+#[tactic(auto, using(crate::proofs::StandsLaws::stands_itself, crate::proofs::StandsLaws::stands_leaf, crate::proofs::StandsLaws::stands_all))]
+fn made(alloc: Global, node: &Node) -> Result<Made, Memory>
+    ensures { IfOk result (λ m. StandsFor (shape_of m.step) (bare node.now)) }
 {
     let mut all = Vec::new(alloc);
     let mut rest = node;
@@ -135,6 +215,13 @@ pub(crate) fn ready(alloc: Global, node: &Node) -> Result<Step, Memory>
             }
         }
     }
+}
+
+/// The ready node that stands for a node.
+pub(crate) fn ready(alloc: Global, node: &Node) -> Result<Step, Memory>
+    ensures { IfOk result (λ s. StandsFor (shape_of s) (bare node.now)) }
+{
+    Ok(made(alloc, node)?.step)
 }
 
 /// The ready atom of an atom.

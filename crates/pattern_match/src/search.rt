@@ -191,6 +191,7 @@ fn visit<'p, T: Lines>(
             Ok(Went::Does(Next::Look(Look::behind(part, *not, *limit))))
         }
         Step::Whole(part) => Ok(Went::Does(Next::Look(Look::whole(part)))),
+        Step::Never => Ok(Went::Ends),
     }
 }
 

@@ -7,7 +7,7 @@ use crate::collection::Collection;
 use pattern_items::Behind;
 use syn_base::Class;
 
-/// A node, with the names of `vim_pattern::Node`.
+/// A node, with the names of `vim_pattern::Node`, and one that never passes.
 #[derive(Drop)]
 pub(crate) enum Step {
     Empty,
@@ -33,6 +33,8 @@ pub(crate) enum Step {
         limit: Behind,
     },
     Whole(Box<Step>),
+    /// Has no way and tries no atom.
+    Never,
 }
 
 /// An atom, with the names of `vim_pattern::Atom`.
@@ -91,7 +93,7 @@ pub(crate) fn first_test(step: &Step) -> Option<&Test>
 }
 
 /// Whether a count has to take a turn.
-fn is_forced(least: u32, most: Option<u32>) -> bool
+pub(crate) fn is_forced(least: u32, most: Option<u32>) -> bool
     ensures { result ≡ is_forced least most }
 {
     match most {

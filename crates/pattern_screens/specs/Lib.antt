@@ -8,4 +8,3 @@ pub mod Bounds
 pub mod ScreenLaw
 pub mod FirstAtoms
 pub mod FirstLaw
-pub mod Memo

@@ -16,7 +16,6 @@ mod first;
 mod joined;
 mod key;
 mod lined;
-mod memo;
 mod parts;
 mod seen;
 mod still;
@@ -25,7 +24,6 @@ mod verdict;
 pub use bounds::failing_cost;
 pub use first::{screen_cost, screen_passes};
 pub use key::{KEYS, Key, Last, Next, number_line};
-pub use memo::{Entry, LineMemo};
 pub use verdict::{Verdict, screen};
 
 /// Where the verdict of a screen isn't that it passes, an attempt has no way, its cost is within

@@ -7,7 +7,7 @@ use Rattle.pattern_match.specs.declared.look.Ending.TheVariants as ending
 use Rattle.pattern_match.specs.Contexts.{context_in}
 use Rattle.pattern_match.specs.Steps.{shape_of, atom_of}
 use Rattle.pattern_match.proofs.Stepping.{atom_step}
-use Rattle.pattern_match.proofs.Visiting.{follow_empty, follow_group, follow_external, follow_repeat, follow_looks, follow_and}
+use Rattle.pattern_match.proofs.Visiting.{follow_empty, follow_group, follow_external, follow_repeat, follow_looks, follow_and, follow_never}
 use Rattle.pattern_match.proofs.search.visit.Goals as goal
 
 pub returns-in-Empty : goal.returns-in-Empty
@@ -105,3 +105,9 @@ returns-in-Whole g c =
     (record { part = c.deref-in-Whole.result; behind = None; ending = ending.Whole })
     (whole (shape_of c.deref-in-Whole.result.now))
     (rw (c.in-Whole.is, c.deref-in-Whole.ensures) refl) (λ w. refl) (λ h. h) refl refl)
+
+pub returns-in-Never : goal.returns-in-Never
+returns-in-Never g c =
+    let x : AnyContext = context_in (g.T.Lines.lines c.args.lines.now) c.args.context.now in
+    follow_never x (shape_of c.args.node.now) c.args.ways.now c.args.ways.now c.args.spent.now
+    c.requires.numbers c.requires.within (rw c.in-Never.is refl)

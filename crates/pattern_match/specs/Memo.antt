@@ -3,14 +3,8 @@ use Rattle.std.specs.Prelude.{◌≡◌, ℕ, ◌≤◌, ◌<◌, Bool, true, fa
 use Rattle.std.specs.List.{All}
 use Rattle.char_class.specs.declared.sets.Sets.{Sets}
 use Rattle.vim_pattern.specs.Tree.{PatternTree}
-use Rattle.match_rules.specs.Attempt.{ignores_case}
-use Rattle.pattern_screens.specs.FirstAtoms.{first_passes}
-use Rattle.pattern_screens.specs.declared.memo.Entry.{Entry}
-
--- the screen of a pattern at a column
-abbrev pub passes_at : PatternTree → Sets → Bool → List ℕ → ℕ → Bool
-passes_at tree sets ignore line col =
-    first_passes sets (ignores_case tree ignore) (slice_get line col) tree.node
+use Rattle.pattern_match.specs.Screens.{passes_at}
+use Rattle.pattern_match.specs.declared.memo.Entry.{Entry}
 
 -- it fails from a column up to, and without, another
 abbrev pub FailsFrom : PatternTree → Sets → Bool → List ℕ → ℕ → ℕ → Type 0

@@ -1,15 +1,15 @@
 //! What is remembered of a line: columns at which a pattern's screen fails.
-ghost use Rattle.std.specs.Prelude.{◌≡◌, ◌≤◌, ℕ, List, [], ◌∷◌, ◌++◌, length, true, slice_get, Some, IfOk, OnOk, OnErr};
+ghost use Rattle.std.specs.Prelude.{◌≡◌, ◌≤◌, ◌<◌, ℕ, List, [], ◌∷◌, ◌++◌, length, true, slice_get, Some, IfOk, OnOk, OnErr};
 ghost use Rattle.char_class.specs.declared.sets.Sets.{Sets as SetsOf};
 ghost use Rattle.vim_pattern.specs.Tree.{PatternTree};
-ghost use Rattle.pattern_screens.specs.Memo.{EntryStands, FailsFrom, IsNext, MemoStands, passes_at};
+ghost use Rattle.pattern_match.specs.Memo.{EntryStands, FailsFrom, IsNext, MemoStands};
+ghost use Rattle.pattern_match.specs.Screens.{passes_at};
 
-use crate::first::screen_passes;
-use char_class::Sets;
+use crate::context::Context;
+use crate::programs::Programs;
 use std::alloc::Global;
 use std::marker::Model;
 use syn_base::{Memory, PatternId};
-use vim_pattern::Tree;
 
 /// A pattern's screen fails from a column up to, and without, another.
 #[derive(Clone, Copy, Debug, PartialEq, Eq)]
@@ -29,7 +29,7 @@ pub struct LineMemo {
 
 impl Model for LineMemo {
     ghost use Rattle.std.specs.Prelude.{List};
-    ghost use Rattle.pattern_screens.specs.declared.memo.Entry.{Entry};
+    ghost use Rattle.pattern_match.specs.declared.memo.Entry.{Entry};
 
     ghost Value = { List Entry };
 
@@ -46,28 +46,26 @@ impl LineMemo {
         }
     }
 
-    /// The least column from `col` on at which the screen of a pattern passes (`screen_passes`);
-    /// none where there is none up to the line's length. The memo has to stand for the trees of
-    /// all patterns, by number, and still does.
+    /// The least column from `col` on at which the screen of a pattern passes
+    /// (`Programs::screen_passes`); none where there is none up to the line's length.
     pub fn next(
         &mut self,
+        programs: &Programs,
         id: PatternId,
-        tree: &Tree,
-        sets: &Sets,
-        ignore: bool,
         line: &[char],
+        context: &Context,
         col: usize,
     ) -> Result<Option<usize>, Memory>
-        requires { col ≤ length line.now }
-        ensures next { (trees : List PatternTree) → slice_get trees id.0 ≡ Some tree.now →
-            MemoStands trees sets.now line.now self.old →
-            IfOk result (λ found. IsNext tree.now sets.now ignore line.now col found) }
-        ensures stands { (trees : List PatternTree) → slice_get trees id.0 ≡ Some tree.now →
-            MemoStands trees sets.now line.now self.old →
-            MemoStands trees sets.now line.now self.new }
+        requires added { id.0 < length programs.now }
+        requires col { col ≤ length line.now }
+        requires stands { MemoStands programs.now context.now.sets.now line.now self.old }
+        ensures next { (tree : PatternTree) → slice_get programs.now id.0 ≡ Some tree →
+            IfOk result (λ found. IsNext tree context.now.sets.now context.now.ignore line.now
+            col found) }
+        ensures stands { MemoStands programs.now context.now.sets.now line.now self.new }
     {
-        let known = self.known(id, ignore, col);
-        let to = first_passing(tree, sets, ignore, line, known.to);
+        let known = self.known(id, context.ignore, col);
+        let to = first_passing(programs, id, line, context, known.to);
         self.keep(Entry { to, ..known })?;
         Ok(if to <= line.len() { Some(to) } else { None })
     }
@@ -150,15 +148,24 @@ fn place_of(id: PatternId, ignore: bool) -> usize {
 }
 
 /// The least column from one on, up to the line's length, at which a screen passes; else the column
-/// behind the length.
-fn first_passing(tree: &Tree, sets: &Sets, ignore: bool, line: &[char], from: usize) -> usize
+/// behind the length, or that one where it comes later.
+fn first_passing(
+    programs: &Programs,
+    id: PatternId,
+    line: &[char],
+    context: &Context,
+    from: usize,
+) -> usize
+    requires { id.0 < length programs.now }
     ensures from { from ≤ result }
-    ensures fails { FailsFrom tree.now sets.now ignore line.now from result }
-    ensures passes { result ≤ length line.now →
-        passes_at tree.now sets.now ignore line.now result ≡ true }
+    ensures fails { (tree : PatternTree) → slice_get programs.now id.0 ≡ Some tree →
+        FailsFrom tree context.now.sets.now context.now.ignore line.now from result }
+    ensures passes { (tree : PatternTree) → slice_get programs.now id.0 ≡ Some tree →
+        result ≤ length line.now →
+        passes_at tree context.now.sets.now context.now.ignore line.now result ≡ true }
 {
     for col in from..=line.len() {
-        if screen_passes(tree, sets, ignore, line, col) {
+        if programs.screen_passes(id, line, col, context) {
             return col;
         }
     }

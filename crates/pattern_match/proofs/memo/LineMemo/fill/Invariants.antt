@@ -1,8 +1,8 @@
 use Rattle.std.proofs.Common.{ℕ, List}
 use Rattle.char_class.specs.declared.sets.Sets.{Sets}
 use Rattle.vim_pattern.specs.Tree.{PatternTree}
-use Rattle.pattern_screens.specs.Memo.{MemoStands}
-use Rattle.pattern_screens.proofs.memo.LineMemo.fill.Given as goal
+use Rattle.pattern_match.specs.Memo.{MemoStands}
+use Rattle.pattern_match.proofs.memo.LineMemo.fill.Given as goal
 
 -- what stood before still does
 abbrev pub invariant-loop : goal.invariant-loop

@@ -1,0 +1,415 @@
+-- A node comes to what its fate says.
+use Rattle.std.proofs.Common.{◌≡◌, ℕ, zero, suc, ◌+◌, Bool, true, false, List, [], ◌∷◌, ◌++◌, inl, inr, refl, sym, ap, ◌∙◌, arith, subst, append-nil, add-one}
+use Rattle.std.specs.Prelude.{Option, None, take, pos, ◌-ℤ◌, if◌then◌else◌}
+use Rattle.std.proofs.lemmas.Bool.{cases_Bool}
+use Rattle.std.proofs.lemmas.Bool.Decides.{nat_tests}
+use Rattle.syn_base.specs.declared.places.Place.{Place}
+use Rattle.syn_base.specs.Looked.{one_line}
+use Rattle.pattern_items.specs.declared.item.Behind.{Behind}
+use Rattle.pattern_items.specs.declared.item.Behind.TheVariants.{Any, Most}
+use Rattle.vim_pattern.specs.Shape.{Shape, empty, one, seq, or, and, group, external, repeat, ahead, before, whole}
+use Rattle.match_rules.specs.Ways.{Text, Context, Way, is_after, is_same_place}
+use Rattle.match_rules.specs.Marks.{Mark, Tick, Reach, followed, ticks_first, first_way, reach_if}
+use Rattle.match_rules.specs.Counts.{is_spent, turns, unforced, in_order, one_less, less_by}
+use Rattle.match_rules.specs.Looks.{starts_behind, from_each, ending_at, looking_at, look, tried_behind}
+use Rattle.match_rules.specs.Visits.{visits, noted, noted_external}
+use Rattle.pattern_screens.specs.FirstAtoms.{both_lists, first_atoms}
+use Rattle.pattern_match.specs.FirstAtom.{is_forced}
+use Rattle.pattern_match.specs.declared.fate.Fate.{Fate}
+use Rattle.pattern_match.specs.declared.fate.Fate.TheVariants.{Never, Stays, Passes, Tries}
+use Rattle.pattern_match.specs.Fates.{behind, either, counted, looked, fate_of}
+use Rattle.pattern_match.specs.StandsFor.{StandsFor}
+use Rattle.pattern_match.specs.Starts.{places_before}
+use Rattle.pattern_match.proofs.FirstAtomLaws.{is_forced-more}
+use Rattle.pattern_match.proofs.StartLaws.{places-first}
+
+-- ways alone, which all stand at a place
+abbrev pub AreAllAt : Place → List Mark → Type 0
+AreAllAt p [] = Unit {0}
+AreAllAt p (Tick l ∷ marks) = ⊥
+AreAllAt p (Reach w ∷ marks) = (w.at ≡ p) × AreAllAt p marks
+
+-- the same, and at least one
+abbrev pub IsPassing : Place → List Mark → Type 0
+IsPassing p [] = ⊥
+IsPassing p (Tick l ∷ marks) = ⊥
+IsPassing p (Reach w ∷ marks) = (w.at ≡ p) × AreAllAt p marks
+
+abbrev pub ComesTo : Fate → Way → List Mark → Type 0
+ComesTo Never w marks = marks ≡ []
+ComesTo Stays w marks = marks ≡ Reach w ∷ []
+ComesTo Passes w marks = IsPassing w.at marks
+ComesTo Tries w marks = Unit {0}
+
+-- ---- ways at a place
+
+all-of : (p : Place) (marks : List Mark) → IsPassing p marks → AreAllAt p marks
+all-of p [] h = absurd h
+all-of p (Tick l ∷ marks) h = absurd h
+all-of p (Reach w ∷ marks) h = h
+
+all-none : (p : Place) (marks : List Mark) → marks ≡ [] → AreAllAt p marks
+all-none p marks e = subst (AreAllAt p) (sym e) tt
+
+passing-one : (w : Way) (marks : List Mark) → marks ≡ Reach w ∷ [] → IsPassing w.at marks
+passing-one w marks e = subst (IsPassing w.at) (sym e) (refl, tt)
+
+all-append : (p : Place) (a b : List Mark) → AreAllAt p a → AreAllAt p b → AreAllAt p (a ++ b)
+all-append p [] b h k = k
+all-append p (Tick l ∷ a) b h k = absurd h
+all-append p (Reach w ∷ a) b h k = (h.0, all-append p a b h.1 k)
+
+passing-append : (p : Place) (a b : List Mark) → IsPassing p a → AreAllAt p b → IsPassing p (a ++ b)
+passing-append p [] b h k = absurd h
+passing-append p (Tick l ∷ a) b h k = absurd h
+passing-append p (Reach w ∷ a) b h k = (h.0, all-append p a b h.1 k)
+
+followed-none : (p : Place) (marks : List Mark) (next : Way → List Mark) → AreAllAt p marks →
+    ((v : Way) → v.at ≡ p → next v ≡ []) → followed marks next ≡ []
+followed-none p [] next h k = refl
+followed-none p (Tick l ∷ marks) next h k = absurd h
+followed-none p (Reach w ∷ marks) next h k =
+    ap (λ r. r ++ followed marks next) (k w h.0) ∙ followed-none p marks next h.1 k
+
+followed-all : (p : Place) (marks : List Mark) (next : Way → List Mark) → AreAllAt p marks →
+    ((v : Way) → v.at ≡ p → IsPassing p (next v)) → AreAllAt p (followed marks next)
+followed-all p [] next h k = tt
+followed-all p (Tick l ∷ marks) next h k = absurd h
+followed-all p (Reach w ∷ marks) next h k =
+    all-append p (next w) (followed marks next) (all-of p (next w) (k w h.0))
+    (followed-all p marks next h.1 k)
+
+followed-passing : (p : Place) (marks : List Mark) (next : Way → List Mark) → IsPassing p marks →
+    ((v : Way) → v.at ≡ p → IsPassing p (next v)) → IsPassing p (followed marks next)
+followed-passing p [] next h k = absurd h
+followed-passing p (Tick l ∷ marks) next h k = absurd h
+followed-passing p (Reach w ∷ marks) next h k =
+    passing-append p (next w) (followed marks next) (k w h.0) (followed-all p marks next h.1 k)
+
+-- ---- two parts
+
+behind-comes : (f g : Fate) (w : Way) (marks : List Mark) (next : Way → List Mark) →
+    ComesTo f w marks → ((v : Way) → ComesTo g v (next v)) →
+    ComesTo (behind f g) w (followed marks next)
+behind-comes Never g w marks next h k = ap (λ m. followed m next) h
+behind-comes Stays g w marks next h k =
+    subst (ComesTo g w) (sym (ap (λ m. followed m next) h ∙ append-nil (next w))) (k w)
+behind-comes Passes Never w marks next h k =
+    followed-none w.at marks next (all-of w.at marks h) (λ v e. k v)
+behind-comes Passes Stays w marks next h k =
+    followed-passing w.at marks next h
+    (λ v e. subst (λ p. IsPassing p (next v)) e (passing-one v (next v) (k v)))
+behind-comes Passes Passes w marks next h k =
+    followed-passing w.at marks next h (λ v e. subst (λ p. IsPassing p (next v)) e (k v))
+behind-comes Passes Tries w marks next h k = tt
+behind-comes Tries g w marks next h k = tt
+
+either-comes : (f g : Fate) (w : Way) (a b : List Mark) → ComesTo f w a → ComesTo g w b →
+    ComesTo (either f g) w (a ++ b)
+either-comes Never g w a b h k = subst (ComesTo g w) (sym (ap (λ m. m ++ b) h)) k
+either-comes Tries g w a b h k = tt
+either-comes Stays Tries w a b h k = tt
+either-comes Passes Tries w a b h k = tt
+either-comes Stays Never w a b h k = ap (λ m. m ++ b) h ∙ ap (λ m. Reach w ∷ m) k
+either-comes Passes Never w a b h k = passing-append w.at a b h (all-none w.at b k)
+either-comes Stays Stays w a b h k =
+    passing-append w.at a b (passing-one w a h) (all-of w.at b (passing-one w b k))
+either-comes Stays Passes w a b h k =
+    passing-append w.at a b (passing-one w a h) (all-of w.at b k)
+either-comes Passes Stays w a b h k =
+    passing-append w.at a b h (all-of w.at b (passing-one w b k))
+either-comes Passes Passes w a b h k = passing-append w.at a b h (all-of w.at b k)
+
+-- ---- looks
+
+-- a look takes the first way alone
+looked-never : (negative : Bool) (w : Way) (marks : List Mark) → marks ≡ [] →
+    ComesTo (looked Never negative) w (look negative w marks)
+looked-never true w marks e = ap (look true w) e
+looked-never false w marks e = ap (look false w) e
+
+looked-stays : (negative : Bool) (w : Way) (marks rest : List Mark) → marks ≡ Reach w ∷ rest →
+    ComesTo (looked Stays negative) w (look negative w marks)
+looked-stays true w marks rest e = ap (look true w) e
+looked-stays false w marks rest e = ap (look false w) e
+
+looked-passes : (negative : Bool) (w v : Way) (marks rest : List Mark) → marks ≡ Reach v ∷ rest →
+    ComesTo (looked Passes negative) w (look negative w marks)
+looked-passes true w v marks rest e = ap (look true w) e
+looked-passes false w v marks rest e =
+    subst (IsPassing w.at) (sym (ap (look false w) e)) (refl, tt)
+
+first-passing : (p : Place) (marks : List Mark) → IsPassing p marks →
+    (v : Way) × ((rest : List Mark) × ((marks ≡ Reach v ∷ rest) × (v.at ≡ p)))
+first-passing p [] h = absurd h
+first-passing p (Tick l ∷ marks) h = absurd h
+first-passing p (Reach v ∷ marks) h = (v, (marks, (refl, h.0)))
+
+looked-comes : (f : Fate) (negative : Bool) (w : Way) (marks : List Mark) → ComesTo f w marks →
+    ComesTo (looked f negative) w (look negative w marks)
+looked-comes Never negative w marks h = looked-never negative w marks h
+looked-comes Stays negative w marks h = looked-stays negative w marks [] h
+looked-comes Passes negative w marks h =
+    let first = first-passing w.at marks h in
+    looked-passes negative w first.0 marks first.1.0 first.1.1.0
+looked-comes Tries negative w marks h = tt
+
+whole-comes : (f : Fate) (w : Way) (marks : List Mark) → ComesTo f w marks →
+    ComesTo f w (ticks_first marks ++ reach_if (first_way marks))
+whole-comes Never w marks h = ap (λ m. ticks_first m ++ reach_if (first_way m)) h
+whole-comes Stays w marks h = ap (λ m. ticks_first m ++ reach_if (first_way m)) h
+whole-comes Passes w marks h =
+    let first = first-passing w.at marks h in
+    subst (IsPassing w.at)
+    (sym (ap (λ m. ticks_first m ++ reach_if (first_way m)) first.1.1.0)) (first.1.1.1, tt)
+whole-comes Tries w marks h = tt
+
+-- ---- looks behind: the first start is the place itself
+
+starts-first : (text : Text) (limit : Behind) (p : Place) →
+    (rest : List Place) × (starts_behind text limit p ≡ p ∷ rest)
+starts-first text Any p = (places_before text false p, places-first text false p)
+starts-first text (Most limit) p = (
+  take limit (places_before text false p),
+  ap (take (limit + 1)) (places-first text false p) ∙ rw add-one refl,
+)
+
+same_place-is : (p q : Place) → p ≡ q → is_same_place p q ≡ true
+same_place-is p q e =
+    let k : is_same_place q q ≡ true = grind (arith, nat_tests) in
+    ap (λ o. is_same_place o q) e ∙ k
+
+ending-first : (p : Place) (v : Way) (marks : List Mark) → v.at ≡ p →
+    ending_at p (Reach v ∷ marks) ≡ Reach v ∷ ending_at p marks
+ending-first p v marks e =
+    ap (λ b. elim b as (λ _. List Mark) [
+      | true ↦ Reach v ∷ ending_at p marks
+      | false ↦ ending_at p marks
+    ]) (same_place-is v.at p e)
+
+from-none : (part : Way → List Mark) (w : Way) (places : List Place) →
+    ((v : Way) → part v ≡ []) → from_each part w places ≡ []
+from-none part w [] k = refl
+from-none part w (p ∷ places) k =
+    ap (λ m. m ++ from_each part w places) (k (record w { at = p })) ∙ from-none part w places k
+
+module _ (text : Text) (part : Way → List Mark) (limit : Behind) (w : Way) where
+  abbrev ended : List Mark → List Mark
+  ended marks = looking_at (one_line (pos w.at.line -ℤ pos 1)) (ending_at w.at marks)
+
+  behind-none : ((v : Way) → part v ≡ []) → tried_behind text part limit w ≡ []
+  behind-none k = ap ended (from-none part w (starts_behind text limit w.at) k)
+
+  behind-first : (v : Way) (marks : List Mark) → part w ≡ Reach v ∷ marks → v.at ≡ w.at →
+      (rest : List Mark) × (tried_behind text part limit w ≡ Reach v ∷ rest)
+  behind-first v marks e at =
+      let starts = starts-first text limit w.at in
+      let more : List Mark = marks ++ from_each part w starts.0 in
+      let all : from_each part w (starts_behind text limit w.at) ≡ Reach v ∷ more =
+      ap (from_each part w) starts.1 ∙ ap (λ m. m ++ from_each part w starts.0) e in (
+        ended more,
+        ap ended all
+            ∙ ap (looking_at (one_line (pos w.at.line -ℤ pos 1))) (ending-first w.at v more at),
+      )
+
+  before-comes : (f : Fate) (negative : Bool) → ((v : Way) → ComesTo f v (part v)) →
+      ComesTo (looked f negative) w (look negative w (tried_behind text part limit w))
+  before-comes Never negative k =
+      looked-never negative w (tried_behind text part limit w) (behind-none k)
+  before-comes Stays negative k =
+      let first = behind-first w [] (k w) refl in
+      looked-stays negative w (tried_behind text part limit w) first.0 first.1
+  before-comes Passes negative k =
+      let way = first-passing w.at (part w) (k w) in
+      let first = behind-first way.0 way.1.0 way.1.1.0 way.1.1.1 in
+      looked-passes negative w way.0 (tried_behind text part limit w) first.0 first.1
+  before-comes Tries negative k = tt
+
+-- ---- counts
+
+not_after : (p q : Place) → p ≡ q → is_after p q ≡ false
+not_after p q e =
+    let k : is_after q q ≡ false = grind (arith, nat_tests) in
+    ap (λ o. is_after o q) e ∙ k
+
+other : (b : Bool) (m n : List Mark) → b ≡ false →
+    elim b as (λ _. List Mark) [ true ↦ m | false ↦ n ] ≡ n
+other true m n e = absurd (cc)
+other false m n e = refl
+
+one-way : (b : Bool) (m n : List Mark) → (b ≡ false → n ≡ m) →
+    elim b as (λ _. List Mark) [ true ↦ m | false ↦ n ] ≡ m
+one-way true m n k = refl
+one-way false m n k = k refl
+
+true_or_false : true ≡ false → ⊥
+true_or_false e = cc
+
+in_order-none : (lazy : Bool) (w : Way) (more : List Mark) → more ≡ [] →
+    in_order lazy more (Reach w ∷ []) ≡ Reach w ∷ []
+in_order-none true w more e = ap (λ m. Reach w ∷ m) e
+in_order-none false w more e = ap (λ m. m ++ Reach w ∷ []) e
+
+module _ (text : Text) (part : Way → List Mark) (lazy : Bool) where
+  -- where no turn takes anything, a count that isn't forced only stops
+  unforced-stays : (most : Option ℕ) (w : Way) → AreAllAt w.at (part w) →
+      unforced text part lazy most w ≡ Reach w ∷ []
+  unforced-stays most w h =
+      one-way (is_spent most) (Reach w ∷ []) _
+      (λ _. in_order-none lazy w _
+      (followed-none w.at (part w) _ h (λ v e. other (is_after v.at w.at) _ [] (not_after v.at w.at e))))
+
+  turns-stay : (least : ℕ) (most : Option ℕ) (w : Way) → is_forced least most ≡ false →
+      AreAllAt w.at (part w) → turns text part lazy least most w ≡ Reach w ∷ []
+  turns-stay zero most w e h = unforced-stays most w h
+  turns-stay (suc least) most w e h =
+      one-way (is_spent most) (Reach w ∷ []) _
+      (λ k. absurd (true_or_false (sym (is_forced-more least most false k) ∙ e)))
+
+  unforced-comes : (f : Fate) (least : ℕ) (most : Option ℕ) (w : Way) →
+      is_forced least most ≡ false → ((v : Way) → ComesTo f v (part v)) →
+      ComesTo (counted f false) w (turns text part lazy least most w)
+  unforced-comes Never least most w e k =
+      turns-stay least most w e (all-none w.at (part w) (k w))
+  unforced-comes Stays least most w e k =
+      turns-stay least most w e (all-of w.at (part w) (passing-one w (part w) (k w)))
+  unforced-comes Passes least most w e k =
+      turns-stay least most w e (all-of w.at (part w) (k w))
+  unforced-comes Tries least most w e k = tt
+
+  -- a forced turn that takes nothing is the last one
+  module _ (least : ℕ) (most : Option ℕ) (w : Way) where
+    abbrev after : Way → List Mark
+    after v =
+        elim (is_after v.at w.at) as (λ _. List Mark) [
+          | true ↦ turns text part lazy least (one_less most) v
+          | false ↦ unforced text part lazy (less_by most (suc least)) v
+        ]
+
+    after-stays : (v : Way) → v.at ≡ w.at → AreAllAt v.at (part v) → after v ≡ Reach v ∷ []
+    after-stays v e h =
+        other (is_after v.at w.at) _ _ (not_after v.at w.at e)
+        ∙ unforced-stays (less_by most (suc least)) v h
+
+    forced-comes : (f : Fate) → is_spent most ≡ false → ((v : Way) → ComesTo f v (part v)) →
+        ComesTo (counted f true) w (turns text part lazy (suc least) most w)
+    forced-comes Never unspent k =
+        other (is_spent most) (Reach w ∷ []) (followed (part w) after) unspent
+        ∙ ap (λ m. followed m after) (k w)
+    forced-comes Stays unspent k =
+        other (is_spent most) (Reach w ∷ []) (followed (part w) after) unspent
+        ∙ (ap (λ m. followed m after) (k w)
+        ∙ (append-nil (after w)
+        ∙ after-stays w refl (all-of w.at (part w) (passing-one w (part w) (k w)))))
+    forced-comes Passes unspent k =
+        subst (IsPassing w.at)
+        (sym (other (is_spent most) (Reach w ∷ []) (followed (part w) after) unspent))
+        (followed-passing w.at (part w) after (k w)
+        (λ v e. subst (λ p. IsPassing p (after v)) e
+        (passing-one v (after v) (after-stays v e (all-of v.at (part v) (k v))))))
+    forced-comes Tries unspent k = tt
+
+  counted-comes : (f : Fate) (least : ℕ) (most : Option ℕ) (w : Way) →
+      ((v : Way) → ComesTo f v (part v)) →
+      ComesTo (counted f (is_forced least most)) w (turns text part lazy least most w)
+  counted-comes f zero most w k = unforced-comes f zero most w refl k
+  counted-comes f (suc least) most w k =
+      elim (cases_Bool (is_spent most)) [
+        | inl spent ↦
+            let e : is_forced (suc least) most ≡ false = is_forced-more least most true spent in
+            subst (λ b. ComesTo (counted f b) w (turns text part lazy (suc least) most w)) (sym e)
+            (unforced-comes f (suc least) most w e k)
+        | inr unspent ↦
+            let e : is_forced (suc least) most ≡ true = is_forced-more least most false unspent in
+            subst (λ b. ComesTo (counted f b) w (turns text part lazy (suc least) most w)) (sym e)
+            (forced-comes least most w f unspent k)
+      ]
+
+-- ---- all nodes
+
+pub comes_to : (x : Context) (s : Shape) (w : Way) → ComesTo (fate_of s) w (visits x s w)
+comes_to x empty w = refl
+comes_to x (one a) w = tt
+comes_to x (seq a b) w =
+    behind-comes (fate_of a) (fate_of b) w (visits x a w) (visits x b) (comes_to x a w)
+    (λ v. comes_to x b v)
+comes_to x (or a b) w =
+    either-comes (fate_of a) (fate_of b) w (visits x a w) (visits x b w) (comes_to x a w)
+    (comes_to x b w)
+comes_to x (and a b) w =
+    behind-comes (looked (fate_of a) false) (fate_of b) w (look false w (visits x a w)) (visits x b)
+    (looked-comes (fate_of a) false w (visits x a w) (comes_to x a w)) (λ v. comes_to x b v)
+comes_to x (group part number) w =
+    behind-comes (fate_of part) Passes w (visits x part w) (noted number w.at) (comes_to x part w)
+    (λ v. (refl, tt))
+comes_to x (external part number) w =
+    behind-comes (fate_of part) Passes w (visits x part w) (noted_external number w.at)
+    (comes_to x part w) (λ v. (refl, tt))
+comes_to x (repeat part least most lazy) w =
+    counted-comes x.text (visits x part) lazy (fate_of part) least most w (λ v. comes_to x part v)
+comes_to x (ahead part negative) w =
+    looked-comes (fate_of part) negative w (visits x part w) (comes_to x part w)
+comes_to x (before part negative limit) w =
+    before-comes x.text (visits x part) limit w (fate_of part) negative (λ v. comes_to x part v)
+comes_to x (whole part) w =
+    whole-comes (fate_of part) w (visits x part w) (comes_to x part w)
+
+-- ---- first atoms
+
+abbrev is_settled : Fate → Bool
+is_settled Tries = false
+is_settled _ = true
+
+behind-settled : (f g : Fate) → is_settled (behind f g) ≡ true → is_settled f ≡ true
+behind-settled Never g h = refl
+behind-settled Stays g h = refl
+behind-settled Passes g h = refl
+behind-settled Tries g h = h
+
+either-settled : (f g : Fate) → is_settled (either f g) ≡ true → is_settled f ≡ true
+either-settled Never g h = refl
+either-settled Stays g h = refl
+either-settled Passes g h = refl
+either-settled Tries g h = h
+
+counted-settled : (f : Fate) (forced : Bool) → is_settled (counted f forced) ≡ true → is_settled f ≡ true
+counted-settled Never forced h = refl
+counted-settled Stays forced h = refl
+counted-settled Passes forced h = refl
+counted-settled Tries forced h = h
+
+none-either : (b : Bool) → (if b then first_atoms empty else None) ≡ None
+none-either true = refl
+none-either false = refl
+
+-- what is settled without a text tries no atom first
+no-first : (s : Shape) → is_settled (fate_of s) ≡ true → first_atoms s ≡ None
+no-first empty h = refl
+no-first (one a) h = absurd (cc)
+no-first (seq a b) h = no-first a (behind-settled (fate_of a) (fate_of b) h)
+no-first (or a b) h = ap (λ o. both_lists o (first_atoms b)) (no-first a (either-settled (fate_of a) (fate_of b) h))
+no-first (and a b) h = refl
+no-first (group part number) h = no-first part (behind-settled (fate_of part) Passes h)
+no-first (external part number) h = no-first part (behind-settled (fate_of part) Passes h)
+no-first (repeat part least most lazy) h =
+    ap (λ o. if is_forced least most then o else None) (no-first part (counted-settled (fate_of part) (is_forced least most) h))
+    ∙ none-either (is_forced least most)
+no-first (ahead part negative) h = refl
+no-first (before part negative limit) h = refl
+no-first (whole part) h = refl
+
+-- ---- what stands for a settled node
+
+pub stands_never : (s : Shape) → fate_of s ≡ Never → StandsFor (ahead empty true) s
+stands_never s e = record {
+  same = λ x w. sym (subst (λ f. ComesTo f w (visits x s w)) e (comes_to x s w));
+  numbers = λ h. tt;
+  first = sym (no-first s (ap is_settled e));
+}
+
+pub stands_stays : (s : Shape) → fate_of s ≡ Stays → StandsFor empty s
+stands_stays s e = record {
+  same = λ x w. sym (subst (λ f. ComesTo f w (visits x s w)) e (comes_to x s w));
+  numbers = λ h. tt;
+  first = sym (no-first s (ap is_settled e));
+}

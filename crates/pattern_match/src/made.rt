@@ -1,0 +1,17 @@
+//! Ready nodes, with what they come to.
+ghost use Rattle.std.specs.Prelude.{◌≡◌};
+ghost use Rattle.std.specs.Coded.{Coded-set};
+ghost use Rattle.pattern_match.specs.Fates.{fate_of};
+ghost use Rattle.pattern_match.specs.Steps.{shape_of};
+
+use crate::fate::Fate;
+use crate::step::Step;
+
+/// A ready node, and what it comes to wherever it is tried.
+#[derive(Drop)]
+pub(crate) struct Made {
+    pub step: Step,
+    pub fate: Fate,
+    ghost known: { fate ≡ fate_of (shape_of step) } by { Coded-set fate-code fate
+        (fate_of (shape_of step)) },
+}
