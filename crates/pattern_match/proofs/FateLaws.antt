@@ -1,6 +1,6 @@
 -- A node comes to what its fate says.
 use Rattle.std.proofs.Common.{◌≡◌, ℕ, zero, suc, ◌+◌, Bool, true, false, List, [], ◌∷◌, ◌++◌, inl, inr, refl, sym, ap, ◌∙◌, arith, subst, append-nil, add-one}
-use Rattle.std.specs.Prelude.{Option, None, take, pos, ◌-ℤ◌, if◌then◌else◌}
+use Rattle.std.specs.Prelude.{Option, None, take, pos, ◌-ℤ◌, ◌&&◌, not, if◌then◌else◌}
 use Rattle.std.proofs.lemmas.Bool.{cases_Bool}
 use Rattle.std.proofs.lemmas.Bool.Decides.{nat_tests}
 use Rattle.syn_base.specs.declared.places.Place.{Place}
@@ -16,8 +16,8 @@ use Rattle.match_rules.specs.Visits.{visits, noted, noted_external}
 use Rattle.pattern_screens.specs.FirstAtoms.{both_lists, first_atoms}
 use Rattle.pattern_match.specs.FirstAtom.{is_forced}
 use Rattle.pattern_match.specs.declared.fate.Fate.{Fate}
-use Rattle.pattern_match.specs.declared.fate.Fate.TheVariants.{Never, Stays, Passes, Tries}
-use Rattle.pattern_match.specs.Fates.{behind, either, counted, looked, fate_of}
+use Rattle.pattern_match.specs.declared.fate.Fate.TheVariants.{Never, Stays, Passes, Opens, Tries}
+use Rattle.pattern_match.specs.Fates.{behind, either, counted, first_of, looked, fate_of}
 use Rattle.pattern_match.specs.StandsFor.{StandsFor}
 use Rattle.pattern_match.specs.Starts.{places_before}
 use Rattle.pattern_match.proofs.FirstAtomLaws.{is_forced-more}
@@ -35,10 +35,17 @@ IsPassing p [] = ⊥
 IsPassing p (Tick l ∷ marks) = ⊥
 IsPassing p (Reach w ∷ marks) = (w.at ≡ p) × AreAllAt p marks
 
+-- a way at a place first
+abbrev pub IsOpening : Place → List Mark → Type 0
+IsOpening p [] = ⊥
+IsOpening p (Tick l ∷ marks) = ⊥
+IsOpening p (Reach w ∷ marks) = w.at ≡ p
+
 abbrev pub ComesTo : Fate → Way → List Mark → Type 0
 ComesTo Never w marks = marks ≡ []
 ComesTo Stays w marks = marks ≡ Reach w ∷ []
 ComesTo Passes w marks = IsPassing w.at marks
+ComesTo Opens w marks = IsOpening w.at marks
 ComesTo Tries w marks = Unit {0}
 
 -- ---- ways at a place
@@ -86,6 +93,26 @@ followed-passing p (Tick l ∷ marks) next h k = absurd h
 followed-passing p (Reach w ∷ marks) next h k =
     passing-append p (next w) (followed marks next) (k w h.0) (followed-all p marks next h.1 k)
 
+opening-of : (p : Place) (marks : List Mark) → IsPassing p marks → IsOpening p marks
+opening-of p [] h = absurd h
+opening-of p (Tick l ∷ marks) h = absurd h
+opening-of p (Reach w ∷ marks) h = h.0
+
+opening-one : (w : Way) (marks : List Mark) → marks ≡ Reach w ∷ [] → IsOpening w.at marks
+opening-one w marks e = opening-of w.at marks (passing-one w marks e)
+
+opening-append : (p : Place) (a b : List Mark) → IsOpening p a → IsOpening p (a ++ b)
+opening-append p [] b h = absurd h
+opening-append p (Tick l ∷ a) b h = absurd h
+opening-append p (Reach w ∷ a) b h = h
+
+followed-opening : (p : Place) (marks : List Mark) (next : Way → List Mark) → IsOpening p marks →
+    ((v : Way) → v.at ≡ p → IsOpening p (next v)) → IsOpening p (followed marks next)
+followed-opening p [] next h k = absurd h
+followed-opening p (Tick l ∷ marks) next h k = absurd h
+followed-opening p (Reach w ∷ marks) next h k =
+    opening-append p (next w) (followed marks next) (k w h)
+
 -- ---- two parts
 
 behind-comes : (f g : Fate) (w : Way) (marks : List Mark) (next : Way → List Mark) →
@@ -101,15 +128,31 @@ behind-comes Passes Stays w marks next h k =
     (λ v e. subst (λ p. IsPassing p (next v)) e (passing-one v (next v) (k v)))
 behind-comes Passes Passes w marks next h k =
     followed-passing w.at marks next h (λ v e. subst (λ p. IsPassing p (next v)) e (k v))
+behind-comes Passes Opens w marks next h k =
+    followed-opening w.at marks next (opening-of w.at marks h)
+    (λ v e. subst (λ p. IsOpening p (next v)) e (k v))
 behind-comes Passes Tries w marks next h k = tt
+behind-comes Opens Never w marks next h k = tt
+behind-comes Opens Stays w marks next h k =
+    followed-opening w.at marks next h
+    (λ v e. subst (λ p. IsOpening p (next v)) e (opening-one v (next v) (k v)))
+behind-comes Opens Passes w marks next h k =
+    followed-opening w.at marks next h
+    (λ v e. subst (λ p. IsOpening p (next v)) e (opening-of v.at (next v) (k v)))
+behind-comes Opens Opens w marks next h k =
+    followed-opening w.at marks next h (λ v e. subst (λ p. IsOpening p (next v)) e (k v))
+behind-comes Opens Tries w marks next h k = tt
 behind-comes Tries g w marks next h k = tt
 
 either-comes : (f g : Fate) (w : Way) (a b : List Mark) → ComesTo f w a → ComesTo g w b →
     ComesTo (either f g) w (a ++ b)
 either-comes Never g w a b h k = subst (ComesTo g w) (sym (ap (λ m. m ++ b) h)) k
 either-comes Tries g w a b h k = tt
-either-comes Stays Tries w a b h k = tt
-either-comes Passes Tries w a b h k = tt
+either-comes Opens g w a b h k = opening-append w.at a b h
+either-comes Stays Tries w a b h k = opening-append w.at a b (opening-one w a h)
+either-comes Passes Tries w a b h k = opening-append w.at a b (opening-of w.at a h)
+either-comes Stays Opens w a b h k = opening-append w.at a b (opening-one w a h)
+either-comes Passes Opens w a b h k = opening-append w.at a b (opening-of w.at a h)
 either-comes Stays Never w a b h k = ap (λ m. m ++ b) h ∙ ap (λ m. Reach w ∷ m) k
 either-comes Passes Never w a b h k = passing-append w.at a b h (all-none w.at b k)
 either-comes Stays Stays w a b h k =
@@ -139,29 +182,45 @@ looked-passes true w v marks rest e = ap (look true w) e
 looked-passes false w v marks rest e =
     subst (IsPassing w.at) (sym (ap (look false w) e)) (refl, tt)
 
-first-passing : (p : Place) (marks : List Mark) → IsPassing p marks →
+looked-opens : (negative : Bool) (w v : Way) (marks rest : List Mark) → marks ≡ Reach v ∷ rest →
+    ComesTo (looked Opens negative) w (look negative w marks)
+looked-opens true w v marks rest e = ap (look true w) e
+looked-opens false w v marks rest e =
+    subst (IsPassing w.at) (sym (ap (look false w) e)) (refl, tt)
+
+first-opening : (p : Place) (marks : List Mark) → IsOpening p marks →
     (v : Way) × ((rest : List Mark) × ((marks ≡ Reach v ∷ rest) × (v.at ≡ p)))
-first-passing p [] h = absurd h
-first-passing p (Tick l ∷ marks) h = absurd h
-first-passing p (Reach v ∷ marks) h = (v, (marks, (refl, h.0)))
+first-opening p [] h = absurd h
+first-opening p (Tick l ∷ marks) h = absurd h
+first-opening p (Reach v ∷ marks) h = (v, (marks, (refl, h)))
 
 looked-comes : (f : Fate) (negative : Bool) (w : Way) (marks : List Mark) → ComesTo f w marks →
     ComesTo (looked f negative) w (look negative w marks)
 looked-comes Never negative w marks h = looked-never negative w marks h
 looked-comes Stays negative w marks h = looked-stays negative w marks [] h
 looked-comes Passes negative w marks h =
-    let first = first-passing w.at marks h in
+    let first = first-opening w.at marks (opening-of w.at marks h) in
     looked-passes negative w first.0 marks first.1.0 first.1.1.0
+looked-comes Opens negative w marks h =
+    let first = first-opening w.at marks h in
+    looked-opens negative w first.0 marks first.1.0 first.1.1.0
 looked-comes Tries negative w marks h = tt
 
+whole-first : (w v : Way) (marks rest : List Mark) → marks ≡ Reach v ∷ rest → v.at ≡ w.at →
+    IsPassing w.at (ticks_first marks ++ reach_if (first_way marks))
+whole-first w v marks rest e at =
+    subst (IsPassing w.at) (sym (ap (λ m. ticks_first m ++ reach_if (first_way m)) e)) (at, tt)
+
 whole-comes : (f : Fate) (w : Way) (marks : List Mark) → ComesTo f w marks →
-    ComesTo f w (ticks_first marks ++ reach_if (first_way marks))
+    ComesTo (first_of f) w (ticks_first marks ++ reach_if (first_way marks))
 whole-comes Never w marks h = ap (λ m. ticks_first m ++ reach_if (first_way m)) h
 whole-comes Stays w marks h = ap (λ m. ticks_first m ++ reach_if (first_way m)) h
 whole-comes Passes w marks h =
-    let first = first-passing w.at marks h in
-    subst (IsPassing w.at)
-    (sym (ap (λ m. ticks_first m ++ reach_if (first_way m)) first.1.1.0)) (first.1.1.1, tt)
+    let first = first-opening w.at marks (opening-of w.at marks h) in
+    whole-first w first.0 marks first.1.0 first.1.1.0 first.1.1.1
+whole-comes Opens w marks h =
+    let first = first-opening w.at marks h in
+    whole-first w first.0 marks first.1.0 first.1.1.0 first.1.1.1
 whole-comes Tries w marks h = tt
 
 -- ---- looks behind: the first start is the place itself
@@ -220,9 +279,13 @@ module _ (text : Text) (part : Way → List Mark) (limit : Behind) (w : Way) whe
       let first = behind-first w [] (k w) refl in
       looked-stays negative w (tried_behind text part limit w) first.0 first.1
   before-comes Passes negative k =
-      let way = first-passing w.at (part w) (k w) in
+      let way = first-opening w.at (part w) (opening-of w.at (part w) (k w)) in
       let first = behind-first way.0 way.1.0 way.1.1.0 way.1.1.1 in
       looked-passes negative w way.0 (tried_behind text part limit w) first.0 first.1
+  before-comes Opens negative k =
+      let way = first-opening w.at (part w) (k w) in
+      let first = behind-first way.0 way.1.0 way.1.1.0 way.1.1.1 in
+      looked-opens negative w way.0 (tried_behind text part limit w) first.0 first.1
   before-comes Tries negative k = tt
 
 -- ---- counts
@@ -245,6 +308,11 @@ one-way false m n k = k refl
 true_or_false : true ≡ false → ⊥
 true_or_false e = cc
 
+elim-opening : (b : Bool) (p : Place) (m n : List Mark) → IsOpening p m → IsOpening p n →
+    IsOpening p (elim b as (λ _. List Mark) [ true ↦ m | false ↦ n ])
+elim-opening true p m n h k = h
+elim-opening false p m n h k = k
+
 in_order-none : (lazy : Bool) (w : Way) (more : List Mark) → more ≡ [] →
     in_order lazy more (Reach w ∷ []) ≡ Reach w ∷ []
 in_order-none true w more e = ap (λ m. Reach w ∷ m) e
@@ -266,16 +334,60 @@ module _ (text : Text) (part : Way → List Mark) (lazy : Bool) where
       one-way (is_spent most) (Reach w ∷ []) _
       (λ k. absurd (true_or_false (sym (is_forced-more least most false k) ∙ e)))
 
+  in_order-lazy : (w : Way) (more : List Mark) → lazy ≡ true →
+      IsOpening w.at (in_order lazy more (Reach w ∷ []))
+  in_order-lazy w more z =
+      subst (λ b. IsOpening w.at (in_order b more (Reach w ∷ []))) (sym z) refl
+
+  -- a lazy count that isn't forced stops first
+  lazy-opens : (least : ℕ) (most : Option ℕ) (w : Way) → is_forced least most ≡ false →
+      lazy ≡ true → IsOpening w.at (turns text part lazy least most w)
+  lazy-opens zero most w e z =
+      elim-opening (is_spent most) w.at _ _ refl (in_order-lazy w _ z)
+  lazy-opens (suc least) most w e z =
+      elim (cases_Bool (is_spent most)) [
+        | inl spent ↦ opening-one w (turns text part lazy (suc least) most w)
+            (one-way (is_spent most) (Reach w ∷ []) _
+            (λ k. absurd (true_or_false (sym spent ∙ k))))
+        | inr unspent ↦
+            absurd (true_or_false (sym (is_forced-more least most false unspent) ∙ e))
+      ]
+
+  opens-comes : (least : ℕ) (most : Option ℕ) (w : Way) → is_forced least most ≡ false →
+      ComesTo (counted Opens false lazy) w (turns text part lazy least most w)
+  opens-comes least most w e =
+      elim (cases_Bool lazy) [
+        | inl lazily ↦
+            subst (λ b. ComesTo (counted Opens false b) w (turns text part lazy least most w))
+            (sym lazily) (lazy-opens least most w e lazily)
+        | inr greedily ↦
+            subst (λ b. ComesTo (counted Opens false b) w (turns text part lazy least most w))
+            (sym greedily) tt
+      ]
+
+  tries-comes : (least : ℕ) (most : Option ℕ) (w : Way) → is_forced least most ≡ false →
+      ComesTo (counted Tries false lazy) w (turns text part lazy least most w)
+  tries-comes least most w e =
+      elim (cases_Bool lazy) [
+        | inl lazily ↦
+            subst (λ b. ComesTo (counted Tries false b) w (turns text part lazy least most w))
+            (sym lazily) (lazy-opens least most w e lazily)
+        | inr greedily ↦
+            subst (λ b. ComesTo (counted Tries false b) w (turns text part lazy least most w))
+            (sym greedily) tt
+      ]
+
   unforced-comes : (f : Fate) (least : ℕ) (most : Option ℕ) (w : Way) →
       is_forced least most ≡ false → ((v : Way) → ComesTo f v (part v)) →
-      ComesTo (counted f false) w (turns text part lazy least most w)
+      ComesTo (counted f false lazy) w (turns text part lazy least most w)
   unforced-comes Never least most w e k =
       turns-stay least most w e (all-none w.at (part w) (k w))
   unforced-comes Stays least most w e k =
       turns-stay least most w e (all-of w.at (part w) (passing-one w (part w) (k w)))
   unforced-comes Passes least most w e k =
       turns-stay least most w e (all-of w.at (part w) (k w))
-  unforced-comes Tries least most w e k = tt
+  unforced-comes Opens least most w e k = opens-comes least most w e
+  unforced-comes Tries least most w e k = tries-comes least most w e
 
   -- a forced turn that takes nothing is the last one
   module _ (least : ℕ) (most : Option ℕ) (w : Way) where
@@ -292,7 +404,7 @@ module _ (text : Text) (part : Way → List Mark) (lazy : Bool) where
         ∙ unforced-stays (less_by most (suc least)) v h
 
     forced-comes : (f : Fate) → is_spent most ≡ false → ((v : Way) → ComesTo f v (part v)) →
-        ComesTo (counted f true) w (turns text part lazy (suc least) most w)
+        ComesTo (counted f true lazy) w (turns text part lazy (suc least) most w)
     forced-comes Never unspent k =
         other (is_spent most) (Reach w ∷ []) (followed (part w) after) unspent
         ∙ ap (λ m. followed m after) (k w)
@@ -307,22 +419,38 @@ module _ (text : Text) (part : Way → List Mark) (lazy : Bool) where
         (followed-passing w.at (part w) after (k w)
         (λ v e. subst (λ p. IsPassing p (after v)) e
         (passing-one v (after v) (after-stays v e (all-of v.at (part v) (k v))))))
+    forced-comes Opens unspent k = tt
     forced-comes Tries unspent k = tt
+
+  spent-stays : (least : ℕ) (most : Option ℕ) (w : Way) → is_spent most ≡ true →
+      turns text part lazy least most w ≡ Reach w ∷ []
+  spent-stays zero most w e =
+      one-way (is_spent most) (Reach w ∷ []) _ (λ k. absurd (true_or_false (sym e ∙ k)))
+  spent-stays (suc least) most w e =
+      one-way (is_spent most) (Reach w ∷ []) _ (λ k. absurd (true_or_false (sym e ∙ k)))
+
+  unspent-comes : (f : Fate) (least : ℕ) (most : Option ℕ) (w : Way) → is_spent most ≡ false →
+      ((v : Way) → ComesTo f v (part v)) →
+      ComesTo (counted f (is_forced least most) lazy) w (turns text part lazy least most w)
+  unspent-comes f zero most w unspent k = unforced-comes f zero most w refl k
+  unspent-comes f (suc least) most w unspent k =
+      let e : is_forced (suc least) most ≡ true = is_forced-more least most false unspent in
+      subst (λ b. ComesTo (counted f b lazy) w (turns text part lazy (suc least) most w)) (sym e)
+      (forced-comes least most w f unspent k)
 
   counted-comes : (f : Fate) (least : ℕ) (most : Option ℕ) (w : Way) →
       ((v : Way) → ComesTo f v (part v)) →
-      ComesTo (counted f (is_forced least most)) w (turns text part lazy least most w)
-  counted-comes f zero most w k = unforced-comes f zero most w refl k
-  counted-comes f (suc least) most w k =
+      ComesTo (if is_spent most then Stays else counted f (is_forced least most) lazy) w
+      (turns text part lazy least most w)
+  counted-comes f least most w k =
       elim (cases_Bool (is_spent most)) [
         | inl spent ↦
-            let e : is_forced (suc least) most ≡ false = is_forced-more least most true spent in
-            subst (λ b. ComesTo (counted f b) w (turns text part lazy (suc least) most w)) (sym e)
-            (unforced-comes f (suc least) most w e k)
+            subst (λ b. ComesTo (if b then Stays else counted f (is_forced least most) lazy) w
+            (turns text part lazy least most w)) (sym spent) (spent-stays least most w spent)
         | inr unspent ↦
-            let e : is_forced (suc least) most ≡ true = is_forced-more least most false unspent in
-            subst (λ b. ComesTo (counted f b) w (turns text part lazy (suc least) most w)) (sym e)
-            (forced-comes least most w f unspent k)
+            subst (λ b. ComesTo (if b then Stays else counted f (is_forced least most) lazy) w
+            (turns text part lazy least most w)) (sym unspent)
+            (unspent-comes f least most w unspent k)
       ]
 
 -- ---- all nodes
@@ -364,36 +492,46 @@ behind-settled : (f g : Fate) → is_settled (behind f g) ≡ true → is_settle
 behind-settled Never g h = refl
 behind-settled Stays g h = refl
 behind-settled Passes g h = refl
+behind-settled Opens g h = refl
 behind-settled Tries g h = h
 
 either-settled : (f g : Fate) → is_settled (either f g) ≡ true → is_settled f ≡ true
 either-settled Never g h = refl
 either-settled Stays g h = refl
 either-settled Passes g h = refl
+either-settled Opens g h = refl
 either-settled Tries g h = h
 
-counted-settled : (f : Fate) (forced : Bool) → is_settled (counted f forced) ≡ true → is_settled f ≡ true
-counted-settled Never forced h = refl
-counted-settled Stays forced h = refl
-counted-settled Passes forced h = refl
-counted-settled Tries forced h = h
+unspent : (some spent : Bool) → (some && not spent) ≡ true → spent ≡ false
+unspent false spent h = absurd (cc h)
+unspent true true h = absurd (cc h)
+unspent true false h = refl
 
-none-either : (b : Bool) → (if b then first_atoms empty else None) ≡ None
-none-either true = refl
-none-either false = refl
+forced-settled : (spent forced lazy : Bool) (f : Fate) → spent ≡ false → forced ≡ true → is_settled (if spent then Stays else counted f forced lazy) ≡ true → is_settled f ≡ true
+forced-settled true forced lazy f a b h = absurd (cc a)
+forced-settled false false lazy f a b h = absurd (cc b)
+forced-settled false true lazy Never a b h = refl
+forced-settled false true lazy Stays a b h = refl
+forced-settled false true lazy Passes a b h = refl
+forced-settled false true lazy Opens a b h = refl
+forced-settled false true lazy Tries a b h = h
+
+none-if : {A : Type 0} (o : Option A) (b : Bool) → (b ≡ true → o ≡ None) → (if b then o else None) ≡ None
+none-if o true h = h refl
+none-if o false h = refl
 
 -- what is settled without a text tries no atom first
 no-first : (s : Shape) → is_settled (fate_of s) ≡ true → first_atoms s ≡ None
 no-first empty h = refl
-no-first (one a) h = absurd (cc)
+no-first (one a) h = absurd (cc h)
 no-first (seq a b) h = no-first a (behind-settled (fate_of a) (fate_of b) h)
 no-first (or a b) h = ap (λ o. both_lists o (first_atoms b)) (no-first a (either-settled (fate_of a) (fate_of b) h))
 no-first (and a b) h = refl
 no-first (group part number) h = no-first part (behind-settled (fate_of part) Passes h)
 no-first (external part number) h = no-first part (behind-settled (fate_of part) Passes h)
 no-first (repeat part least most lazy) h =
-    ap (λ o. if is_forced least most then o else None) (no-first part (counted-settled (fate_of part) (is_forced least most) h))
-    ∙ none-either (is_forced least most)
+    none-if (first_atoms part) (is_forced least most)
+    (λ forced. no-first part (forced-settled (is_spent most) (is_forced least most) lazy (fate_of part) (unspent _ _ forced) forced h))
 no-first (ahead part negative) h = refl
 no-first (before part negative limit) h = refl
 no-first (whole part) h = refl

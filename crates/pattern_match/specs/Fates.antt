@@ -1,10 +1,11 @@
 -- What a node comes to, whatever the text is and wherever it is tried. Atoms alone move a way or ask
--- the text, so what has none is settled when the pattern is read.
-use Rattle.std.specs.Prelude.{Bool, true, false}
+-- the text, so what happens before the first of them is settled when the pattern is made ready.
+use Rattle.std.specs.Prelude.{Bool, true, false, if◌then◌else◌}
 use Rattle.vim_pattern.specs.Shape.{Shape, empty, one, seq, or, and, group, external, repeat, ahead, before, whole}
+use Rattle.match_rules.specs.Counts.{is_spent}
 use Rattle.pattern_match.specs.FirstAtom.{is_forced}
 use Rattle.pattern_match.specs.declared.fate.Fate.{Fate}
-use Rattle.pattern_match.specs.declared.fate.Fate.TheVariants.{Never, Stays, Passes, Tries}
+use Rattle.pattern_match.specs.declared.fate.Fate.TheVariants.{Never, Stays, Passes, Opens, Tries}
 
 -- of two parts, the one behind the other
 abbrev pub behind : Fate → Fate → Fate
@@ -12,25 +13,40 @@ behind Never second = Never
 behind Stays second = second
 behind Passes Stays = Passes
 behind Passes second = second
+behind Opens Stays = Opens
+behind Opens Passes = Opens
+behind Opens Opens = Opens
+behind Opens second = Tries
 behind Tries second = Tries
 
 -- the one or the other
 abbrev pub either : Fate → Fate → Fate
 either Never second = second
 either Tries second = Tries
-either first Tries = Tries
+either Opens second = Opens
+either first Tries = Opens
+either first Opens = Opens
 either first Never = first
 either first second = Passes
 
--- a count, which has to take a turn or not: a turn that takes nothing is none
-abbrev pub counted : Fate → Bool → Fate
-counted Tries forced = Tries
-counted part true = part
-counted part false = Stays
+-- a count that may take a turn, and has to or not: a turn that takes nothing is none, and a lazy
+-- count stops first
+abbrev pub counted : Fate → (forced lazy : Bool) → Fate
+counted Tries false true = Opens
+counted Tries forced lazy = Tries
+counted Opens false true = Opens
+counted Opens forced lazy = Tries
+counted part true lazy = part
+counted part false lazy = Stays
+
+-- the first way of a part alone
+abbrev pub first_of : Fate → Fate
+first_of Opens = Passes
+first_of part = part
 
 abbrev pub looked : Fate → Bool → Fate
 looked Tries negative = Tries
-looked part false = part
+looked part false = first_of part
 looked Never true = Stays
 looked part true = Never
 
@@ -43,7 +59,8 @@ fate_of (or a b) = either (fate_of a) (fate_of b)
 fate_of (and a b) = behind (looked (fate_of a) false) (fate_of b)
 fate_of (group part number) = behind (fate_of part) Passes
 fate_of (external part number) = behind (fate_of part) Passes
-fate_of (repeat part least most lazy) = counted (fate_of part) (is_forced least most)
+fate_of (repeat part least most lazy) =
+    if is_spent most then Stays else counted (fate_of part) (is_forced least most) lazy
 fate_of (ahead part negative) = looked (fate_of part) negative
 fate_of (before part negative limit) = looked (fate_of part) negative
-fate_of (whole part) = fate_of part
+fate_of (whole part) = first_of (fate_of part)

@@ -1,6 +1,6 @@
 //! What nodes come to, whatever the text is and wherever they are tried.
 ghost use Rattle.std.specs.Prelude.{◌≡◌};
-ghost use Rattle.pattern_match.specs.Fates.{behind, either, counted, looked};
+ghost use Rattle.pattern_match.specs.Fates.{behind, either, counted, looked, first_of};
 
 /// What a node comes to, whatever the text is and wherever it is tried.
 #[derive(Clone, Copy)]
@@ -11,7 +11,9 @@ pub(crate) enum Fate {
     Stays,
     /// It tries no atom, and has ways, which all stand where it was tried.
     Passes,
-    /// It may try atoms.
+    /// It has a way first, where it was tried, and may try atoms behind it.
+    Opens,
+    /// It may try an atom first.
     Tries,
 }
 
@@ -24,7 +26,8 @@ pub(crate) fn behind(first: Fate, second: Fate) -> Fate
         (Fate::Stays, _) => second,
         (Fate::Passes, Fate::Stays) => Fate::Passes,
         (Fate::Passes, _) => second,
-        (Fate::Tries, _) => Fate::Tries,
+        (Fate::Opens, Fate::Stays | Fate::Passes | Fate::Opens) => Fate::Opens,
+        (Fate::Opens | Fate::Tries, _) => Fate::Tries,
     }
 }
 
@@ -34,19 +37,21 @@ pub(crate) fn either(first: Fate, second: Fate) -> Fate
 {
     match (first, second) {
         (Fate::Never, _) => second,
-        (Fate::Tries, _) | (_, Fate::Tries) => Fate::Tries,
+        (Fate::Tries, _) => Fate::Tries,
+        (Fate::Opens, _) | (_, Fate::Opens | Fate::Tries) => Fate::Opens,
         (_, Fate::Never) => first,
         _ => Fate::Passes,
     }
 }
 
-/// Of a count, which has to take a turn or not. A turn that takes nothing is none, so such a count
-/// only stops where none is forced.
-pub(crate) fn counted(part: Fate, forced: bool) -> Fate
-    ensures { result ≡ counted part forced }
+/// Of a count that may take a turn, and has to or not. A turn that takes nothing is none, so where
+/// none is forced, a part without atoms leaves the stop alone.
+pub(crate) fn counted(part: Fate, forced: bool, lazy: bool) -> Fate
+    ensures { result ≡ counted part forced lazy }
 {
     match part {
-        Fate::Tries => Fate::Tries,
+        Fate::Opens | Fate::Tries if !forced && lazy => Fate::Opens,
+        Fate::Opens | Fate::Tries => Fate::Tries,
         _ if forced => part,
         _ => Fate::Stays,
     }
@@ -60,6 +65,16 @@ pub(crate) fn looked(part: Fate, not: bool) -> Fate
         Fate::Tries => Fate::Tries,
         Fate::Never if not => Fate::Stays,
         _ if not => Fate::Never,
+        _ => first_of(part),
+    }
+}
+
+/// Of the first way of a part alone.
+pub(crate) fn first_of(part: Fate) -> Fate
+    ensures { result ≡ first_of part }
+{
+    match part {
+        Fate::Opens => Fate::Passes,
         _ => part,
     }
 }

@@ -1,7 +1,7 @@
 //! A pattern's nodes, made ready for the matcher.
 //!
-//! What a node without atoms comes to is known before any attempt. One that has no way becomes
-//! `Step::Never`, and one that has a single way, on which nothing changes, becomes `Step::Empty`: a
+//! What a node comes to is known before any attempt as far as no atom has a say. One that has no way
+//! becomes `Step::Never`, and one that has a single way, on which nothing changes, `Step::Empty`: a
 //! walk through their parts costs no tick, and so no budget would end it.
 ghost use Rattle.std.specs.Prelude.{◌≡◌, IfOk};
 ghost use Rattle.vim_pattern.specs.Shape.{bare, Shape, empty, one};
@@ -11,9 +11,10 @@ ghost use Rattle.pattern_match.specs.StandsFor.{StandsFor};
 ghost use Rattle.pattern_match.specs.Steps.{atom_of, shape_of};
 
 use crate::collection::Collection;
-use crate::fate::{Fate, behind, counted, either, looked};
+use crate::fate::{Fate, behind, counted, either, first_of, looked};
 use crate::made::Made;
 use crate::step::{Step, Test, is_forced};
+use crate::turns::is_spent;
 use pattern_items::{Atom, Behind};
 use std::alloc::Global;
 use syn_base::Memory;
@@ -52,9 +53,12 @@ impl Above {
             Above::Or(first) => either(first.fate, last),
             Above::And(first) => behind(looked(first.fate, false), last),
             Above::Group(_) | Above::External(_) => behind(last, Fate::Passes),
-            Above::Repeat { least, most, .. } => counted(last, is_forced(*least, *most)),
+            Above::Repeat { most, .. } if is_spent(*most) => Fate::Stays,
+            Above::Repeat { least, most, lazy } => {
+                counted(last, is_forced(*least, *most), *lazy)
+            }
             Above::Ahead { not } | Above::Before { not, .. } => looked(last, *not),
-            Above::Whole => last,
+            Above::Whole => first_of(last),
         }
     }
 }
@@ -103,7 +107,7 @@ fn settled(step: Step, fate: Fate) -> Made
                 fate,
             }
         }
-        Fate::Passes | Fate::Tries => Made { step, fate },
+        Fate::Passes | Fate::Opens | Fate::Tries => Made { step, fate },
     }
 }
 

@@ -45,7 +45,7 @@ fn less_by(most: Option<u32>, turns: u32) -> Option<u32>
 }
 
 /// Whether no turn is allowed any more.
-fn is_spent(most: Option<u32>) -> bool
+pub(crate) fn is_spent(most: Option<u32>) -> bool
     ensures { result ≡ is_spent most }
 {
     match most {
