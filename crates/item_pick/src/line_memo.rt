@@ -1,6 +1,6 @@
 //! What is remembered of a line by the screens of patterns alone: from which columns they fail.
-ghost use Rattle.std.specs.Prelude.{◌≡◌, ◌≤◌, length, slice_get, Some, IfOk, IsTrue};
-ghost use Rattle.match_rules.specs.Ways.{Text, line_at};
+ghost use Rattle.std.specs.Prelude.{◌<◌, ◌≤◌, length, IfOk, IsTrue};
+ghost use Rattle.match_rules.specs.Ways.{line_at};
 ghost use Rattle.paint_rules.specs.Rules.{item_of};
 ghost use Rattle.pattern_match.specs.Memo.{IsNext, MemoStands};
 ghost use Rattle.pattern_screens.specs.FirstAtoms.{first_cost};
