@@ -1,6 +1,7 @@
 pub mod FoundLaws
 pub mod ListLaws
 pub mod MatchLaws
+pub mod MemoLaws
 pub mod OwnLaws
 pub mod PickLaws
 pub mod QuietLaws

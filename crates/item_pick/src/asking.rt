@@ -5,6 +5,7 @@ ghost use Rattle.match_rules.specs.Ways.{line_at};
 ghost use Rattle.paint_rules.specs.Painted.{looked_first};
 ghost use Rattle.paint_rules.specs.Rules.{no_externals};
 ghost use Rattle.paint_rules.specs.Pick.{picked};
+ghost use Rattle.pattern_match.specs.Memo.{MemoStands};
 ghost use Rattle.keyword_table.specs.ItemNumbers.{AreItemsBelow};
 ghost use Rattle.syntax_set.specs.Soundness.{AreSound};
 ghost use Rattle.paint_rules.specs.States.{Fits, StateFits, WaitFits};
@@ -15,7 +16,7 @@ ghost use Rattle.item_pick.specs.Picks.{IsPicked};
 ghost use Rattle.item_pick.specs.Tables.{MemoryStands};
 
 use crate::asked::Asked;
-use crate::memo::{Memo, NoMemo};
+use crate::memo::Memo;
 use crate::memory::PickMemory;
 use crate::parts::Parts;
 use crate::picking::Picking;
@@ -23,6 +24,7 @@ use crate::starting::{Outcome, Picked};
 use crate::stop::Stop;
 use crate::syntax::Syntax;
 use crate::tried::Tried;
+use pattern_match::LineMemo;
 use state_stack::State;
 use std::alloc::Global;
 use syn_base::{Externals, ItemId, Lines, List, Looked, Memory, Place};
@@ -31,6 +33,10 @@ use syn_base::{Externals, ItemId, Lines, List, Looked, Memory, Place};
 /// defined of the matches and regions (`:syn-priority`). `floor` is the column of the last start or
 /// close in this line. `tried` are the items that have started at this place, in order: these don't
 /// start again. One attempt may cost at most `budget` (this profile).
+///
+/// `memo` is that of the line at `at` (`LineMemo::new`): columns at which the first atoms of a
+/// pattern fit nothing are found once, and passed over at each place of the line that is asked for.
+/// It changes no answer.
 pub fn pick<T: Lines>(
     alloc: Global,
     parts: &Parts,
@@ -39,6 +45,7 @@ pub fn pick<T: Lines>(
     state: &State,
     floor: usize,
     tried: &List<ItemId>,
+    memo: &mut LineMemo,
     budget: u64,
 ) -> Result<Picked, Memory>
     requires patterns { AreSound parts.now.items.now parts.now.programs.now }
@@ -47,7 +54,9 @@ pub fn pick<T: Lines>(
     requires within { at.col ≤ length (line_at (T.lines lines.now) at.line) }
     requires fits { StateFits (length parts.now.items.now) (top_first state.now) }
     requires budget { 1 ≤ budget }
-    ensures { IfOk result (λ p. (over : Bool) → IsPicked parts.now.items.now p
+    requires memo { MemoStands parts.now.programs.now parts.now.sets.now
+        (line_at (T.lines lines.now) at.line) memo.old }
+    ensures picked { IfOk result (λ p. (over : Bool) → IsPicked parts.now.items.now p
         (looked_first (Some (one_line (pos at.line)))
         (picked (record {
           rules = rules_in parts.now budget;
@@ -60,6 +69,8 @@ pub fn pick<T: Lines>(
           tried = reverse tried.now;
           is_over = over;
         })))) }
+    ensures memo { MemoStands parts.now.programs.now parts.now.sets.now
+        (line_at (T.lines lines.now) at.line) memo.new }
 {
     let externals = Externals::none(alloc)?;
     let asked = Asked {
@@ -67,7 +78,7 @@ pub fn pick<T: Lines>(
         budget,
         no_externals: &externals,
     };
-    picked_by(alloc, &asked, lines, at, state, floor, tried, &mut NoMemo)
+    picked_by(alloc, &asked, lines, at, state, floor, tried, memo)
 }
 
 /// The same as `pick`, with what is kept of the syntax and the budget. The line has to be entered

@@ -10,6 +10,7 @@ mod asked;
 mod asking;
 mod choice;
 mod columns;
+mod line_memo;
 mod memo;
 mod memory;
 mod parts;
