@@ -2,8 +2,8 @@
 # install.sh [PROGRAM]: puts the program (the proved one, unless another is named), its page and its completions where
 # they belong, below PREFIX (/usr/local where it isn't set). DESTDIR stands before it, for those who make packages.
 set -eu
-cd "$(dirname "$0")"
-program=${1:-crates/vimsyn/out/vimsyn}
+from=$(dirname "$0")
+program=${1:-$from/crates/vimsyn/out/vimsyn}
 to=${DESTDIR-}${PREFIX:-/usr/local}
 if [ ! -f "$program" ]; then
   echo "install.sh: $program isn't there: the README says how it is built" >&2
@@ -14,8 +14,8 @@ put() {
   install -m "$1" "$2" "$3"
 }
 put 755 "$program" "$to/bin/vimsyn"
-put 644 man/vimsyn.1 "$to/share/man/man1/vimsyn.1"
-put 644 completions/vimsyn.bash "$to/share/bash-completion/completions/vimsyn"
-put 644 completions/_vimsyn "$to/share/zsh/site-functions/_vimsyn"
-put 644 completions/vimsyn.fish "$to/share/fish/vendor_completions.d/vimsyn.fish"
-put 644 tools/flatten.vim "$to/share/vimsyn/flatten.vim"
+put 644 "$from/man/vimsyn.1" "$to/share/man/man1/vimsyn.1"
+put 644 "$from/completions/vimsyn.bash" "$to/share/bash-completion/completions/vimsyn"
+put 644 "$from/completions/_vimsyn" "$to/share/zsh/site-functions/_vimsyn"
+put 644 "$from/completions/vimsyn.fish" "$to/share/fish/vendor_completions.d/vimsyn.fish"
+put 644 "$from/tools/flatten.vim" "$to/share/vimsyn/flatten.vim"

@@ -21,27 +21,37 @@ _vimsyn() {
   if [[ $before == --budget= ]]; then
     return
   fi
-  # options stand before the names
-  local options='' names=0 i
+  local options='' most=2
+  case ${COMP_WORDS[1]} in
+    check) options='--assume-fromstart --folder=' most=1 ;;
+    spans) options='--assume-fromstart --folder= --budget=' ;;
+    html | edit) options='--assume-fromstart --folder= --budget= --number --no-pre' ;;
+    *) return ;;
+  esac
+  # options stand before the names, each once at most
+  local names=0 ended=0 i given
+  options=" $options "
   for ((i = 2; i < COMP_CWORD; i++)); do
-    case ${COMP_WORDS[i]} in
-      -*) ;;
-      =) ((i++)) ;;
-      *) names=1 ;;
-    esac
+    given=${COMP_WORDS[i]}
+    if [[ $given == '=' ]]; then
+      ((i++))
+    elif ((ended)) || [[ $given != -* ]]; then
+      names=$((names + 1)) ended=1
+    elif [[ $given == -- ]]; then
+      ended=1
+    else
+      options=${options/ $given / } options=${options/ $given= / }
+    fi
   done
-  if ((!names)) && [[ $word == -* ]]; then
-    case ${COMP_WORDS[1]} in
-      check) options='--assume-fromstart --folder=' ;;
-      spans) options='--assume-fromstart --folder= --budget=' ;;
-      html | edit) options='--assume-fromstart --folder= --budget= --number --no-pre' ;;
-    esac
+  if ((!ended)) && [[ $word == -* ]]; then
     mapfile -t COMPREPLY < <(compgen -W "$options" -- "$word")
     [[ ${COMPREPLY[0]-} == *= ]] && compopt -o nospace 2>/dev/null
     return
   fi
-  compopt -o filenames 2>/dev/null
-  mapfile -t COMPREPLY < <(compgen -f -- "$word")
+  if ((names < most)); then
+    compopt -o filenames 2>/dev/null
+    mapfile -t COMPREPLY < <(compgen -f -- "$word")
+  fi
 }
 
 complete -F _vimsyn vimsyn

@@ -32,8 +32,9 @@ set cpoptions&vim
 " and so does the end of the flat file, in comments. A command that Vim itself refuses is among them, with Vim's
 " message, and so are autocommands and other options than 'iskeyword', which no flat file can hold.
 "
-" The exit status is 0 where the flat file was written, and 1 where no file has the name. A syntax file is a script:
-" run it only where you would open a text with it. A flat file is made of its commands, so its licence holds on.
+" The exit status is 0 where the flat file was written, and 1 where no file has the name, or the words are too few or
+" too many. A syntax file is a script: run it only where you would open a text with it. A flat file is made of its
+" commands, so its licence holds on.
 
 " === What is kept of a run ===
 
@@ -1159,6 +1160,11 @@ func s:Ended() abort
   1cquit
 endfunc
 
+if argc() < 1 || argc() > 3 || index(argv(), '') >= 0
+  call s:Say(['usage: vim -es -u NONE -S flatten.vim SYNTAX [FOLDER [TEXT]]'])
+  visual
+  1cquit
+endif
 augroup flatten_ended
   autocmd VimLeavePre * call s:Ended()
 augroup END
