@@ -1,0 +1,7 @@
+-- what a reader must believe
+pub mod Draws
+pub mod GeneratedText
+pub mod DrawnEdits
+pub mod LargeSession
+-- what code and proofs alone cite
+pub mod Steps
