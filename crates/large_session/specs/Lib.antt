@@ -3,5 +3,6 @@ pub mod Draws
 pub mod GeneratedText
 pub mod DrawnEdits
 pub mod LargeSession
+pub mod Laws
 -- what code and proofs alone cite
 pub mod Steps

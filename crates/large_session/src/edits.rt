@@ -54,8 +54,12 @@ fn drawn_addition(alloc: Global, draws: &mut Draws, count: usize) -> Result<Repl
     ensures fits { IfOk result (λ edit. FitsLines count edit) }
 {
     let at = draws.draw(count + 1);
-    let new = one_line(alloc, draws)?;
-    Ok(Replacement { a: at, b: at, new })
+    let added = one_line(alloc, draws)?;
+    Ok(Replacement {
+        a: at,
+        b: at,
+        new: added,
+    })
 }
 
 /// A line is deleted; in place of the only one comes an empty line.

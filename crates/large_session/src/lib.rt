@@ -9,6 +9,7 @@ mod document;
 mod draws;
 mod edits;
 mod generated;
+pub mod laws;
 mod session;
 
 pub use document::LargeDocument;
