@@ -3,6 +3,7 @@ pub mod Draws
 pub mod GeneratedText
 pub mod DrawnEdits
 pub mod LargeSession
+pub mod MiniSyntax
 pub mod Laws
 -- what code and proofs alone cite
 pub mod Steps

@@ -10,9 +10,11 @@ mod draws;
 mod edits;
 mod generated;
 pub mod laws;
+mod mini;
 mod session;
 
 pub use document::LargeDocument;
 pub use draws::Draws;
 pub use generated::generated_bytes;
+pub use mini::mini_syntax;
 pub use session::{Outcome, carry_out_edits};
