@@ -2,6 +2,8 @@
 pub mod Answers
 pub mod Check
 pub mod Editing
+pub mod Large
+pub mod LargeRun
 pub mod Laws
 pub mod Painting
 pub mod Plans

@@ -6,7 +6,7 @@ use Rattle.edit_session.specs.declared.reading.End.{End}
 use Rattle.edit_session.specs.Ends.{EndsSo, SinkChange, SourceChange, Takes}
 use Rattle.edit_session.specs.Session.{most_bytes, session, start}
 use Rattle.program_words.specs.declared.words.Asked.{Asked}
-use Rattle.program_words.specs.declared.words.Asked.TheVariants.{Edit, Print}
+use Rattle.program_words.specs.declared.words.Asked.TheVariants.{Edit, Large, Print}
 use Rattle.program_words.specs.Given.{PageWords}
 use Rattle.syn_base.specs.Causes.{Rose}
 use Rattle.syn_base.specs.Outside.{AppendsPrefix, FileMap, appended}
@@ -15,6 +15,7 @@ use Rattle.vimsyn_cli.specs.declared.status.Status.{Status}
 use Rattle.vimsyn_cli.specs.declared.status.Status.TheVariants.{Done, Refused, Usage, ReadFault, WriteFault, Memory}
 use Rattle.vimsyn_cli.specs.Answers.{Closes, GivesSession, TellsAllUnread, TellsFault, TellsUnread, is_unfailed}
 use Rattle.vimsyn_cli.specs.Editing.{painter_of, script_answer, shown_of}
+use Rattle.vimsyn_cli.specs.Large.{RefusesEdit, large_lines}
 use Rattle.vimsyn_cli.specs.Painting.{painting_told}
 use Rattle.vimsyn_cli.specs.Report.{long_script, unread_script}
 use Rattle.vimsyn_cli.specs.Session.{print_lines, script_read, with_asked}
@@ -40,11 +41,13 @@ IfTold (Some files) (Some script) P = P files script
 abbrev pub IsLongScript : SourceChange → Type 0
 IsLongScript script = (bytes : List ℕ) × Takes bytes script.before script.after × (most_bytes < length bytes)
 
--- a script was refused as a whole, or one of its commands was, and then it was read to its end
+-- a script was refused as a whole, or one of its commands was, and then it was read to its end; or, of the
+-- large mode, a drawn edit was refused
 abbrev pub RefusesScript : Asked → SourceChange → SinkChange → Type 0
 RefusesScript (Edit words) script err =
     ((err.after ≡ appended err.before long_script) × IsLongScript script)
     ⊎ ((err.after ≡ err.before) × IfSome script.after (λ rest. rest ≡ []))
+RefusesScript (Large words) script err = (err.after ≡ err.before) × RefusesEdit words
 RefusesScript (Print printing) script err = ⊥
 
 -- a script couldn't be read, which `err` got the line for
@@ -117,11 +120,12 @@ pub record Runs (asked : Option Asked) (files : FilesChange) (script : SourceCha
   pub script_left : LeavesScript asked script
   pub script_ended : answer ≡ Done → EndsScript asked script
 
--- how many lines are painted at most for a command that prints at once
+-- how many lines are painted at most for a command that prints at once, and for the large mode
 abbrev pub PaintsFew : Option Asked → FileMap → ℕ → ℕ → Type 0
 PaintsFew None files before after = after ≡ before
 PaintsFew (Some (Print printing)) files before after = after ≤ before + print_lines printing files
 PaintsFew (Some (Edit words)) files before after = ⊤
+PaintsFew (Some (Large words)) files before after = after ≤ before + large_lines words
 
 -- a script was carried out on a painted text
 pub record EditsPainted (words : PageWords) (painted : PaintedText) (script : SourceChange) (out err : SinkChange) (answer : Status) : Type 0 where
