@@ -4,7 +4,7 @@ _vimsyn() {
   local word=${COMP_WORDS[COMP_CWORD]} before=${COMP_WORDS[COMP_CWORD - 1]}
   COMPREPLY=()
   if ((COMP_CWORD == 1)); then
-    mapfile -t COMPREPLY < <(compgen -W 'check spans html edit' -- "$word")
+    mapfile -t COMPREPLY < <(compgen -W 'check spans html edit large' -- "$word")
     return
   fi
   # bash cuts words at '=', so a value may be a word of its own
@@ -34,10 +34,15 @@ _vimsyn() {
     case ${COMP_WORDS[1]} in
       check) options='--assume-fromstart --folder=' ;;
       spans) options='--assume-fromstart --folder= --budget=' ;;
+      large) options='--budget=' ;;
       html | edit) options='--assume-fromstart --folder= --budget= --number --no-pre' ;;
     esac
     mapfile -t COMPREPLY < <(compgen -W "$options" -- "$word")
     [[ ${COMPREPLY[0]-} == *= ]] && compopt -o nospace 2>/dev/null
+    return
+  fi
+  # large has numbers in place of files
+  if [[ ${COMP_WORDS[1]} == large ]]; then
     return
   fi
   compopt -o filenames 2>/dev/null

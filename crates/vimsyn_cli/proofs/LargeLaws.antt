@@ -7,13 +7,13 @@ use Rattle.large_session.specs.LargeSession.{has_refused, large_text}
 use Rattle.large_session.proofs.TextLaws.{text_bytes_few, text_count, text_read_back}
 use Rattle.program_words.specs.declared.words.Asked.TheVariants.{Large}
 use Rattle.program_words.specs.Given.{LargeWords}
-use Rattle.program_words.specs.Words.{large_page}
+use Rattle.program_words.specs.Words.{asked_of, large_page}
 use Rattle.state_cache.specs.declared.refusal.EditError.{EditError}
 use Rattle.state_cache.specs.PaintedText.{PaintedText}
 use Rattle.state_cache.specs.Spans.{text_spans}
 use Rattle.syn_base.specs.declared.places.Span.{Span}
 use Rattle.syn_base.specs.Causes.{Counted, Rose}
-use Rattle.syn_base.specs.Outside.{AppendsPrefix, appended}
+use Rattle.syn_base.specs.Outside.{AppendsPrefix, FileMap, appended}
 use Rattle.syn_reader.specs.declared.syntax.Syntax.{Syntax}
 use Rattle.text_buffer.specs.BytesOfText.{bytes_of}
 use Rattle.vimsyn_cli.specs.declared.fault.Fault.{Fault as FaultOf}
@@ -29,9 +29,11 @@ use Rattle.vimsyn_cli.specs.Large.{RefusesEdit, large_files, large_painting, lar
 use Rattle.vimsyn_cli.specs.LargeRun.{DeliversLarge, IsLarge, IsOutcome, RunsLarge, TellsRefusal}
 use Rattle.vimsyn_cli.specs.Painting.{IsRefusedPainting, lines_told, painted_told, text_limit, text_told, with_spans}
 use Rattle.vimsyn_cli.specs.Plans.{IsExpected, OrUnread, RaisesItsCount, and_then, is_unread}
-use Rattle.vimsyn_cli.specs.Reading.{syntax_told}
+use Rattle.vimsyn_cli.specs.Reading.{syntax_told, with_told}
 use Rattle.vimsyn_cli.specs.Report.{cause_status}
 use Rattle.vimsyn_cli.specs.Runs.{FilesChange, Runs}
+use Rattle.vimsyn_cli.specs.Laws.{IsLargePainted}
+use Rattle.vimsyn_cli.specs.Session.{session, with_asked}
 use Rattle.vimsyn_cli.specs.Written.{Session, ends}
 use Rattle.vimsyn_cli.proofs.KeptLaws.{kept_syntax}
 use Rattle.vimsyn_cli.proofs.RunLaws.{all_of, none_of, part_of, sink_failed, told_all, unfailed_of, untouched, written_other}
@@ -225,3 +227,21 @@ large_runs words files script out err answer kept faults misses longs left reada
     by_cause : TellsRefusal words err ⊎ (RefusesEdit words × (err.after ≡ err.before)) → answer ≡ Refused → TellsFault (Large words) err.before err.after files.longs files.longs_after answer ⊎ ((err.after ≡ err.before) × RefusesEdit words)
     by_cause (inl tells) is = inl (fault_told words err files.longs files.longs_after answer tells is)
     by_cause (inr refuses) is = inr (refuses.1, refuses.0)
+
+-- ---- the law of accepted texts
+
+large_is : (words : LargeWords) (painted : PaintedText) → IsLargePainted words painted → large_painting words ≡ Ok painted
+large_is words painted is =
+    let page = (large_page words).painting in
+    let text = large_text words.seed words.lines in
+    let more : Syntax → Result PaintedText FaultOf = λ syntax. and_then (text_told (codes "large") (large_files words)) (painted_told page syntax) in
+    let P : List (List ℕ) → Type 0 = λ l. text_spans painted.syntax words.budget l ≡ Ok painted.spans in
+    let spans = subst P is.text_is is.spans_are in
+    ap (λ (e : Result Syntax FaultOf). and_then e more) (ap with_told is.syntax_is)
+    ∙ ap (λ (e : Result (List (List ℕ)) FaultOf). and_then e (painted_told page painted.syntax)) (text_kept words is.some is.few)
+    ∙ ap (with_spans page painted.syntax text) spans
+    ∙ rw (sym is.text_is, sym is.budget_is) refl
+
+pub accepted_large : (typed : List (List ℕ)) (files : FileMap) (script : List ℕ) (words : LargeWords) (painted : PaintedText) → asked_of typed ≡ Some (Large words) → IsLargePainted words painted → session typed files script ≡ large_told words (Ok painted)
+accepted_large typed files script words painted asked is =
+    ap (with_asked files script) asked ∙ ap (large_told words) (large_is words painted is)
