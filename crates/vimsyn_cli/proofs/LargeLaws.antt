@@ -1,12 +1,13 @@
 -- The large mode: its first painting, and what its run comes to.
 use Rattle.std.proofs.Common.{◌≡◌, ◌≢◌, ℕ, ◌≤◌, ◌+◌, Bool, true, false, List, [], length, refl, ap, subst, sym, ◌∙◌, inl, inr, arith}
-use Rattle.std.specs.Prelude.{◌⊎◌, codes, Option, Some, None, Result, Ok, Err, is_ok}
+use Rattle.std.specs.Prelude.{◌⊎◌, codes, Option, Some, None, IfSome, Result, Ok, Err}
 use Rattle.edit_session.specs.Ends.{SinkChange, SourceChange}
 use Rattle.large_session.specs.declared.session.Outcome.{Outcome}
-use Rattle.large_session.specs.LargeSession.{has_refused, large_text}
+use Rattle.large_session.specs.LargeSession.{edit_count, edited_often, large_text, lines_of_edits, number_behind, start}
+use Rattle.large_session.specs.Steps.{Tells}
 use Rattle.large_session.proofs.TextLaws.{text_bytes_few, text_count, text_read_back}
 use Rattle.program_words.specs.declared.words.Asked.TheVariants.{Large}
-use Rattle.program_words.specs.Given.{LargeWords}
+use Rattle.program_words.specs.Given.{LargeWords, PageWords, PaintWords}
 use Rattle.program_words.specs.Words.{asked_of, large_page}
 use Rattle.state_cache.specs.declared.refusal.EditError.{EditError}
 use Rattle.state_cache.specs.PaintedText.{PaintedText}
@@ -24,16 +25,16 @@ use Rattle.vimsyn_cli.specs.declared.fault.Stop.TheVariants as stop
 use Rattle.vimsyn_cli.specs.declared.status.Status.{Status}
 use Rattle.vimsyn_cli.specs.declared.status.Status.TheVariants.{Done, Refused, Usage, ReadFault, WriteFault, Memory}
 use Rattle.vimsyn_cli.specs.Answers.{Delivers, GivesSession, IsUntouched, TellsFault, Writes}
-use Rattle.vimsyn_cli.specs.Editing.{script_status}
-use Rattle.vimsyn_cli.specs.Large.{RefusesEdit, large_files, large_painting, large_run, large_standing, large_told}
+use Rattle.vimsyn_cli.specs.Editing.{painter_of, script_status, shown_of}
+use Rattle.vimsyn_cli.specs.Large.{RefusesEdit, large_files, large_lines, large_painter, large_painting, large_run, large_told, lines_edited}
 use Rattle.vimsyn_cli.specs.LargeRun.{DeliversLarge, IsLarge, IsOutcome, RunsLarge, TellsRefusal}
-use Rattle.vimsyn_cli.specs.Painting.{IsRefusedPainting, lines_told, painted_told, text_limit, text_told, with_spans}
-use Rattle.vimsyn_cli.specs.Plans.{IsExpected, OrUnread, RaisesItsCount, and_then, is_unread}
+use Rattle.vimsyn_cli.specs.Painting.{IsRefusedPainting, IsUnreadPaint, lines_told, painted_told, painting_told, text_limit, text_told, with_spans}
+use Rattle.vimsyn_cli.specs.Plans.{FollowsFiles, IsExpected, OrUnread, RaisesItsCount, and_then, is_unread}
 use Rattle.vimsyn_cli.specs.Reading.{syntax_told, with_told}
 use Rattle.vimsyn_cli.specs.Report.{cause_status}
 use Rattle.vimsyn_cli.specs.Runs.{FilesChange, Runs}
 use Rattle.vimsyn_cli.specs.Laws.{IsLargePainted}
-use Rattle.vimsyn_cli.specs.Session.{session, with_asked}
+use Rattle.vimsyn_cli.specs.Session.{lines_in, session, with_asked}
 use Rattle.vimsyn_cli.specs.Written.{Session, ends}
 use Rattle.vimsyn_cli.proofs.KeptLaws.{kept_syntax}
 use Rattle.vimsyn_cli.proofs.RunLaws.{all_of, none_of, part_of, sink_failed, told_all, unfailed_of, untouched, written_other}
@@ -245,3 +246,56 @@ large_is words painted is =
 pub accepted_large : (typed : List (List ℕ)) (files : FileMap) (script : List ℕ) (words : LargeWords) (painted : PaintedText) → asked_of typed ≡ Some (Large words) → IsLargePainted words painted → session typed files script ≡ large_told words (Ok painted)
 accepted_large typed files script words painted asked is =
     ap (with_asked files script) asked ∙ ap (large_told words) (large_is words painted is)
+
+-- ---- steps
+
+-- the first painting, by the words and files that it was asked by
+pub kept_painted : (words : LargeWords) (page : PageWords) (painting : PaintWords) (files : FileMap) (result : Result PaintedText Stop) → painting ≡ page.painting → page ≡ large_page words → files ≡ large_files words → FollowsFiles (Some files) (painting_told painting) (IsUnreadPaint painting) result → RaisesItsCount is_unread result 0 0 → IsExpected (large_painting words) (λ line. ⊥) result
+kept_painted words page painting files result own large kept planned counted =
+    let same : painting ≡ (large_page words).painting = own ∙ ap (λ (p : PageWords). p.painting) large in
+    let P : PaintWords → Type 0 = λ w. IsExpected (painting_told w files) (IsUnreadPaint w files) result in
+    let Q : FileMap → Type 0 = λ f. IsExpected (painting_told (large_page words).painting f) (IsUnreadPaint (large_page words).painting f) result in
+    kept_expected (large_painting words) (IsUnreadPaint (large_page words).painting (large_files words)) result (subst Q kept (subst P same planned)) counted
+
+-- it paints the lines of the text at most
+pub kept_steps : (words : LargeWords) (page : PageWords) (painting : PaintWords) (files : FileMap) (before after : ℕ) → painting ≡ page.painting → page ≡ large_page words → files ≡ large_files words → 1 ≤ words.lines → words.lines ≤ 100000 → IfSome (Some files) (λ known. after ≤ before + lines_in (text_told painting.text known)) → after ≤ before + words.lines
+kept_steps words page painting files before after own large kept some few steps =
+    let same : painting ≡ (large_page words).painting = own ∙ ap (λ (p : PageWords). p.painting) large in
+    let P : PaintWords → Type 0 = λ w. after ≤ before + lines_in (text_told w.text files) in
+    let Q : FileMap → Type 0 = λ f. after ≤ before + lines_in (text_told (codes "large") f) in
+    let bound : after ≤ before + lines_in (text_told (codes "large") (large_files words)) = subst Q kept (subst P same steps) in
+    let count : lines_in (text_told (codes "large") (large_files words)) ≡ words.lines = ap lines_in (text_kept words some few) ∙ text_count words.seed words.lines in
+    omega arith
+
+-- the edits, by the words and draws that they were asked by
+pub outcome_is : (words : LargeWords) (page : PageWords) (painted : PaintedText) (x : ℕ) (outcome : Outcome) → page ≡ large_page words → x ≡ number_behind words.seed words.lines → large_painting words ≡ Ok painted → Tells (edited_often (painter_of page painted.syntax painted.budget) (edit_count words.lines) (start (shown_of painted)) x) outcome → IsOutcome words outcome
+outcome_is words page painted x outcome large drawn is tells =
+    let P : PageWords → Type 0 = λ p. Tells (edited_often (painter_of p painted.syntax painted.budget) (edit_count words.lines) (start (shown_of painted)) x) outcome in
+    let Q : ℕ → Type 0 = λ y. Tells (edited_often (large_painter words painted) (edit_count words.lines) (start (shown_of painted)) y) outcome in
+    let own = subst Q drawn (subst P large tells) in
+    record { painted = painted; accepted = is; text = own.0; refused = own.1 }
+
+pub edited_steps : (words : LargeWords) (page : PageWords) (painted : PaintedText) (x before after : ℕ) → page ≡ large_page words → x ≡ number_behind words.seed words.lines → after ≤ before + lines_of_edits (painter_of page painted.syntax painted.budget) (edit_count words.lines) (start (shown_of painted)) x → after ≤ before + lines_edited words (Ok painted)
+edited_steps words page painted x before after large drawn steps =
+    let P : PageWords → Type 0 = λ p. after ≤ before + lines_of_edits (painter_of p painted.syntax painted.budget) (edit_count words.lines) (start (shown_of painted)) x in
+    let Q : ℕ → Type 0 = λ y. after ≤ before + lines_of_edits (large_painter words painted) (edit_count words.lines) (start (shown_of painted)) y in
+    subst Q drawn (subst P large steps)
+
+-- both paintings together
+pub all_lines : (words : LargeWords) (painted : PaintedText) (before between after : ℕ) → large_painting words ≡ Ok painted → between ≤ before + words.lines → after ≤ between + lines_edited words (Ok painted) → after ≤ before + large_lines words
+all_lines words painted before between after is first then =
+    let same : lines_edited words (large_painting words) ≡ lines_edited words (Ok painted) = ap (lines_edited words) is in
+    omega arith
+
+pub text_lines : (words : LargeWords) (before after : ℕ) → after ≤ before + words.lines → after ≤ before + large_lines words
+text_lines words before after first = omega arith
+
+pub stop_is : (words : LargeWords) (why : Stop) → IsExpected (large_painting words) (λ line. ⊥) (Err why) → IsLarge words (Err why)
+stop_is words stop.Memory is = tt
+stop_is words (stop.Fault fault) is = by_cause fault.cause is
+  where
+    by_cause : (why : FaultKind) → OrUnread why ⊥ (large_painting words ≡ Err fault) → large_painting words ≡ Err fault
+    by_cause cause.Missing at = at
+    by_cause cause.Unread at = absurd at
+    by_cause cause.TooLong at = at
+    by_cause cause.Content at = at
