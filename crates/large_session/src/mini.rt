@@ -3,6 +3,7 @@ ghost use Rattle.std.specs.Prelude.{◌≡◌};
 ghost use Rattle.large_session.specs.MiniSyntax.{mini_syntax};
 
 /// The syntax file `mini.vim`, a usual one of a small language.
+#[tactic(auto, unfolding(crate::specs::MiniSyntax::mini_syntax))]
 pub fn mini_syntax() -> &'static str
     ensures { result.now ≡ mini_syntax }
 {

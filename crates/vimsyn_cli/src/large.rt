@@ -43,6 +43,7 @@ pub(crate) fn run_large<O: Sink, E: Sink, L: Ledger>(
         result }
     ensures steps { steps.new ≤ steps.old + large_lines words.now }
 {
+    let _lines = words.lines();
     let outcome = large(alloc, words, steps);
     deliver_large(outcome, out, err)
 }
