@@ -1,7 +1,7 @@
 -- The syntax by which the large mode paints: the whole of the file `mini.vim`.
 use Rattle.std.specs.Prelude.{ℕ, List, ◌++◌, codes}
 
-pub mini_syntax : List ℕ
+unfoldable pub mini_syntax : List ℕ
 mini_syntax =
     codes "\" A small language\n"
     ++ codes "if exists(\"b:current_syntax\")\n"

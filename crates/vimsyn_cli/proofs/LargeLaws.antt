@@ -64,6 +64,7 @@ text_kept words some few =
 
 -- it is painted by the kept syntax
 pub painting_kept : (words : LargeWords) → 1 ≤ words.lines → words.lines ≤ 100000 → large_painting words ≡ painted_told (large_page words).painting (kept_syntax words).0 (large_text words.seed words.lines)
+unfolding large_painting
 painting_kept words some few =
     let more : Syntax → Result PaintedText FaultOf = λ syntax. and_then (text_told (codes "large") (large_files words)) (painted_told (large_page words).painting syntax) in
     ap (λ (e : Result Syntax FaultOf). and_then e more) (kept_syntax words).1
@@ -232,6 +233,7 @@ large_runs words files script out err answer kept faults misses longs left reada
 -- ---- the law of accepted texts
 
 large_is : (words : LargeWords) (painted : PaintedText) → IsLargePainted words painted → large_painting words ≡ Ok painted
+unfolding large_painting
 large_is words painted is =
     let page = (large_page words).painting in
     let text = large_text words.seed words.lines in
@@ -251,6 +253,7 @@ accepted_large typed files script words painted asked is =
 
 -- the first painting, by the words and files that it was asked by
 pub kept_painted : (words : LargeWords) (page : PageWords) (painting : PaintWords) (files : FileMap) (result : Result PaintedText Stop) → painting ≡ page.painting → page ≡ large_page words → files ≡ large_files words → FollowsFiles (Some files) (painting_told painting) (IsUnreadPaint painting) result → RaisesItsCount is_unread result 0 0 → IsExpected (large_painting words) (λ line. ⊥) result
+unfolding large_painting
 kept_painted words page painting files result own large kept planned counted =
     let same : painting ≡ (large_page words).painting = own ∙ ap (λ (p : PageWords). p.painting) large in
     let P : PaintWords → Type 0 = λ w. IsExpected (painting_told w files) (IsUnreadPaint w files) result in

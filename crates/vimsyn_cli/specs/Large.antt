@@ -20,7 +20,7 @@ large_files words =
     (codes "mini.vim", mini_syntax) ∷ (codes "large", bytes_of (large_text words.seed words.lines)) ∷ []
 
 -- the painted text at the start, or why there is none
-abbrev pub large_painting : LargeWords → Result PaintedText Fault
+unfoldable pub large_painting : LargeWords → Result PaintedText Fault
 large_painting words = painting_told (large_page words).painting (large_files words)
 
 -- by what the text is painted
