@@ -4,7 +4,7 @@ _vimsyn() {
   local word=${COMP_WORDS[COMP_CWORD]} before=${COMP_WORDS[COMP_CWORD - 1]}
   COMPREPLY=()
   if ((COMP_CWORD == 1)); then
-    mapfile -t COMPREPLY < <(compgen -W 'check spans html edit' -- "$word")
+    mapfile -t COMPREPLY < <(compgen -W 'check spans html edit large' -- "$word")
     return
   fi
   # bash cuts words at '=', so a value may be a word of its own
@@ -26,6 +26,7 @@ _vimsyn() {
     check) options='--assume-fromstart --folder=' most=1 ;;
     spans) options='--assume-fromstart --folder= --budget=' ;;
     html | edit) options='--assume-fromstart --folder= --budget= --number --no-pre' ;;
+    large) options='--budget=' most=0 ;;
     *) return ;;
   esac
   # options stand before the names, each once at most

@@ -43,12 +43,13 @@ complete -c vimsyn -n __fish_use_subcommand -a check -d 'Count what a syntax fil
 complete -c vimsyn -n __fish_use_subcommand -a spans -d 'Print the coloured spans of a text'
 complete -c vimsyn -n __fish_use_subcommand -a html -d 'Print a text as a page'
 complete -c vimsyn -n __fish_use_subcommand -a edit -d 'Carry out a script of edits on a text'
+complete -c vimsyn -n __fish_use_subcommand -a large -d 'Make a text, edit it and count, for measuring'
 
 complete -c vimsyn -n '__vimsyn_lacks_names 1 check' -F
 complete -c vimsyn -n '__vimsyn_lacks_names 2 spans html edit' -F
 
 complete -c vimsyn -n '__vimsyn_takes --assume-fromstart check spans html edit' -a --assume-fromstart -d 'Pass over sync methods'
 complete -c vimsyn -n '__vimsyn_takes --folder= check spans html edit' -a '(__vimsyn_folders)'
-complete -c vimsyn -n '__vimsyn_takes --budget= spans html edit' -a '--budget=' -d 'The most work of one attempt to match'
+complete -c vimsyn -n '__vimsyn_takes --budget= spans html edit large' -a '--budget=' -d 'The most work of one attempt to match'
 complete -c vimsyn -n '__vimsyn_takes --number html edit' -a --number -d 'Number the lines'
 complete -c vimsyn -n '__vimsyn_takes --no-pre html edit' -a --no-pre -d 'A page without <pre>'

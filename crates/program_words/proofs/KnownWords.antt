@@ -1,10 +1,10 @@
 -- Words, and what they ask.
 use Rattle.std.proofs.Common.{◌≡◌, ℕ, Bool, List, true, false, [], ◌∷◌, refl}
 use Rattle.std.specs.Prelude.{codes, Some, None}
-use Rattle.program_words.specs.declared.words.Asked.TheVariants.{Edit, Print}
+use Rattle.program_words.specs.declared.words.Asked.TheVariants.{Edit, Large, Print}
 use Rattle.program_words.specs.declared.words.Printing.TheVariants.{Check, Html, Spans}
-use Rattle.program_words.specs.Given.{CheckWords, PaintWords}
-use Rattle.program_words.specs.Words.{asked_of, budget_of}
+use Rattle.program_words.specs.Given.{CheckWords, LargeWords, PaintWords}
+use Rattle.program_words.specs.Words.{asked_of, budget_of, lines_of, seed_of}
 
 abbrev checked : List ℕ → List ℕ → Bool → CheckWords
 checked syntax folder fromstart = record { syntax = syntax; folder = folder; assume_fromstart = fromstart }
@@ -93,5 +93,35 @@ a_session = refl
 a_session_of_one_name : asked_of (codes "edit" ∷ codes "s" ∷ []) ≡ None
 a_session_of_one_name = refl
 
-no_large_mode : asked_of (codes "large" ∷ codes "7" ∷ codes "2000" ∷ []) ≡ None
-no_large_mode = refl
+abbrev drawn : ℕ → ℕ → ℕ → LargeWords
+drawn seed lines budget = record { seed = seed; lines = lines; budget = budget }
+
+large_of_no_seed : asked_of (codes "large" ∷ codes "0" ∷ codes "2" ∷ []) ≡ Some (Large (drawn 0 2 1000000))
+large_of_no_seed = refl
+
+the_greatest_numbers : asked_of (codes "large" ∷ codes "--budget=7" ∷ codes "4294967295" ∷ codes "100000" ∷ []) ≡ Some (Large (drawn 4294967295 100000 7))
+the_greatest_numbers = refl
+
+a_seed_more : seed_of (codes "4294967296") ≡ None
+a_seed_more = refl
+
+a_seed_with_a_zero : seed_of (codes "00") ≡ None
+a_seed_with_a_zero = refl
+
+a_line_more : lines_of (codes "100001") ≡ None
+a_line_more = refl
+
+no_line : lines_of (codes "0") ≡ None
+no_line = refl
+
+a_seed_alone : asked_of (codes "large" ∷ codes "7" ∷ []) ≡ None
+a_seed_alone = refl
+
+a_large_page : asked_of (codes "large" ∷ codes "--no-pre" ∷ codes "7" ∷ codes "2000" ∷ []) ≡ None
+a_large_page = refl
+
+a_large_folder : asked_of (codes "large" ∷ codes "--folder=a" ∷ codes "7" ∷ codes "2000" ∷ []) ≡ None
+a_large_folder = refl
+
+a_large_sync : asked_of (codes "large" ∷ codes "--assume-fromstart" ∷ codes "7" ∷ codes "2000" ∷ []) ≡ None
+a_large_sync = refl

@@ -35,3 +35,10 @@ pub record PageWords : Type 0 where
   pub painting : PaintWords
   pub number : Bool
   pub pre : Bool
+
+-- the large mode: the seed of its draws, how many lines its text has at the start, and the most ticks of
+-- one attempt
+pub record LargeWords : Type 0 where
+  pub seed : ℕ
+  pub lines : ℕ
+  pub budget : ℕ

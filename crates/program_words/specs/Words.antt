@@ -7,10 +7,10 @@ use Rattle.std.specs.List.{list_all, prefix_len, starts_with, take_while}
 use Rattle.std.specs.Str.{bytes_eq}
 use Rattle.std.specs.String.{string_bytes}
 use Rattle.program_words.specs.declared.words.Asked.{Asked}
-use Rattle.program_words.specs.declared.words.Asked.TheVariants.{Edit, Print}
+use Rattle.program_words.specs.declared.words.Asked.TheVariants.{Edit, Large, Print}
 use Rattle.program_words.specs.declared.words.Printing.{Printing}
 use Rattle.program_words.specs.declared.words.Printing.TheVariants.{Check, Html, Spans}
-use Rattle.program_words.specs.Given.{CheckWords, Options, PageWords, PaintWords, no_options}
+use Rattle.program_words.specs.Given.{CheckWords, LargeWords, Options, PageWords, PaintWords, no_options}
 
 -- the bytes of the words
 abbrev pub texts_of : {Z : Type 0} → List (String Z) → List (List ℕ)
@@ -69,27 +69,40 @@ budget_value word = if starts_with nat_eq word (codes "--budget=") then Some (dr
 abbrev pub is_digit : ℕ → Bool
 is_digit byte = nat_le 48 byte && nat_le byte 57
 
--- a number with one more digit behind it, none above 1,000,000,000
-abbrev pub with_digit : ℕ → ℕ → Option ℕ
-with_digit number byte =
-    if is_digit byte && nat_le (number * 10 + (byte - 48)) 1000000000
+-- a number with one more digit behind it, none above the greatest one
+abbrev pub with_digit : ℕ → ℕ → ℕ → Option ℕ
+with_digit most number byte =
+    if is_digit byte && nat_le (number * 10 + (byte - 48)) most
     then Some (number * 10 + (byte - 48))
     else None
 
 -- the number of these digits, behind those of another one
-abbrev pub number_after : Option ℕ → List ℕ → Option ℕ
-number_after None bytes = None
-number_after (Some number) [] = Some number
-number_after (Some number) (byte ∷ bytes) = number_after (with_digit number byte) bytes
+abbrev pub number_after : ℕ → Option ℕ → List ℕ → Option ℕ
+number_after most None bytes = None
+number_after most (Some number) [] = Some number
+number_after most (Some number) (byte ∷ bytes) = number_after most (with_digit most number byte) bytes
 
 abbrev pub at_least_one : Option ℕ → Option ℕ
 at_least_one None = None
 at_least_one (Some number) = if nat_le 1 number then Some number else None
 
--- a budget: digits without a leading zero, 1 to 1,000,000,000
+-- a number from 1 to the greatest one: digits without a leading zero
+abbrev pub positive_of : ℕ → List ℕ → Option ℕ
+positive_of most [] = None
+positive_of most (byte ∷ bytes) =
+    if byte == 48 then None else at_least_one (number_after most (Some 0) (byte ∷ bytes))
+
+-- a budget: 1 to 1,000,000,000
 abbrev pub budget_of : List ℕ → Option ℕ
-budget_of [] = None
-budget_of (byte ∷ bytes) = if byte == 48 then None else at_least_one (number_after (Some 0) (byte ∷ bytes))
+budget_of bytes = positive_of 1000000000 bytes
+
+-- a seed: 0 to 4,294,967,295
+abbrev pub seed_of : List ℕ → Option ℕ
+seed_of bytes = if bytes_eq bytes (codes "0") then Some 0 else positive_of 4294967295 bytes
+
+-- a number of lines: 1 to 100,000
+abbrev pub lines_of : List ℕ → Option ℕ
+lines_of bytes = positive_of 100000 bytes
 
 -- ---- all options
 
@@ -134,13 +147,16 @@ options_said words = with_options (Some no_options) words
 
 -- ---- commands
 
--- those that `check` has, and those that `spans` has; `html` and `edit` have them
--- all
+-- those that `check` has, those that `spans` has, and the one that `large` has; `html` and `edit` have
+-- them all
 abbrev pub are_for_spans : Options → Bool
 are_for_spans options = not options.number && not options.no_pre
 
 abbrev pub are_for_check : Options → Bool
 are_for_check options = are_for_spans options && is_none options.budget
+
+abbrev pub are_for_large : Options → Bool
+are_for_large options = are_for_spans options && not options.fromstart && is_none options.folder
 
 -- the folder is the one where the program runs unless one is named
 abbrev pub syntax_words : Options → List ℕ → CheckWords
@@ -192,6 +208,31 @@ html_of None names = None
 html_of (Some options) None = None
 html_of (Some options) (Some names) = Some (page_words options names.0 names.1)
 
+-- the two numbers of the large mode, if both are in form
+abbrev pub large_words : Options → Option ℕ → Option ℕ → Option LargeWords
+large_words options None lines = None
+large_words options (Some seed) None = None
+large_words options (Some seed) (Some lines) =
+    Some (record { seed = seed; lines = lines; budget = unwrap_or options.budget 1000000 })
+
+abbrev pub large_of : Option Options → Option (List ℕ × List ℕ) → Option LargeWords
+large_of None names = None
+large_of (Some options) None = None
+large_of (Some options) (Some names) =
+    if are_for_large options then large_words options (seed_of names.0) (lines_of names.1) else None
+
+-- what the large mode paints: a text named `large`, by the syntax of `mini.vim`
+abbrev pub large_page : LargeWords → PageWords
+large_page words = record {
+  painting = record {
+    syntax = record { syntax = codes "mini.vim"; folder = codes "."; assume_fromstart = false };
+    text = codes "large";
+    budget = words.budget;
+  };
+  number = false;
+  pre = true;
+}
+
 -- what a command asks that prints at once
 abbrev pub printing_with : List ℕ → Option Options → Option (List (List ℕ)) → Option Printing
 printing_with command options names =
@@ -204,6 +245,7 @@ printing_with command options names =
 abbrev pub asked_with : List ℕ → Option Options → Option (List (List ℕ)) → Option Asked
 asked_with command options names =
     if bytes_eq command (codes "edit") then option_map Edit (html_of options (two_names names))
+    else if bytes_eq command (codes "large") then option_map Large (large_of options (two_names names))
     else option_map Print (printing_with command options names)
 
 abbrev pub asked_of : List (List ℕ) → Option Asked

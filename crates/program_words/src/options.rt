@@ -3,13 +3,19 @@ ghost use Rattle.std.specs.Prelude.{◌≡◌, ◌≤◌, length, None, Some, tr
 ghost use Rattle.std.specs.List.{prefix_len};
 ghost use Rattle.std.specs.String.{string_bytes};
 ghost use Rattle.program_words.specs.Given.{no_options};
-ghost use Rattle.program_words.specs.Words.{are_for_check, are_for_spans, behind_options, budget_of, budget_value, folder_in, is_option, not_empty, at_least_one, number_after, options_of, options_said, texts_of, with_budget, with_digit, with_flag, with_folder, with_option};
+ghost use Rattle.program_words.specs.Words.{are_for_check, are_for_large, are_for_spans, behind_options, budget_of, budget_value, folder_in, is_option, lines_of, not_empty, at_least_one, number_after, options_of, options_said, positive_of, seed_of, texts_of, with_budget, with_digit, with_flag, with_folder, with_option};
 
 use crate::words::{has_dash, is_dashes};
 use std::marker::Model;
 
 /// The most ticks that an attempt may be given.
 const MOST_BUDGET: u64 = 1_000_000_000;
+
+/// The greatest seed of the large mode.
+const MOST_SEED: u64 = 4_294_967_295;
+
+/// The most lines with which the large mode begins.
+const MOST_LARGE_LINES: u64 = 100_000;
 
 /// The options at the front, and the words behind them.
 #[tactic(auto, using(crate::proofs::WordLaws::options_in, crate::proofs::WordLaws::behind_in))]
@@ -168,6 +174,13 @@ impl<'a> Options<'a> {
         !self.number && !self.no_pre
     }
 
+    /// Whether `large` has all of them.
+    pub(crate) fn are_for_large(&self) -> bool
+        ensures { result ≡ are_for_large self.now }
+    {
+        self.are_for_spans() && !self.fromstart && self.folder.is_none()
+    }
+
     /// Whether `check` has all of them.
     pub(crate) fn are_for_check(&self) -> bool
         ensures { result ≡ are_for_check self.now }
@@ -202,43 +215,73 @@ fn budget_value(word: &str) -> Option<&str>
     word.strip_prefix("--budget=")
 }
 
-/// The number of a budget: decimal digits without a leading zero, at most 1,000,000,000.
+/// The number of a budget: 1 to 1,000,000,000.
 fn budget_of(value: &str) -> Option<u64>
     ensures is { result ≡ budget_of value.now }
     ensures some { IfSome result (λ budget. 1 ≤ budget) }
 {
-    match value.as_bytes() {
+    positive_of(value, MOST_BUDGET)
+}
+
+/// The seed that the name gives: 0 to 4,294,967,295.
+pub(crate) fn seed_of(name: &str) -> Option<u64>
+    ensures is { result ≡ seed_of name.now }
+    ensures few { IfSome result (λ seed. seed ≤ 4294967295) }
+{
+    if name == "0" {
+        return Some(0);
+    }
+    positive_of(name, MOST_SEED)
+}
+
+/// The number of lines that the name gives: 1 to 100,000.
+pub(crate) fn lines_of(name: &str) -> Option<u64>
+    ensures is { result ≡ lines_of name.now }
+    ensures some { IfSome result (λ lines. 1 ≤ lines) }
+    ensures few { IfSome result (λ lines. lines ≤ 100000) }
+{
+    positive_of(name, MOST_LARGE_LINES)
+}
+
+/// A number from 1 to the greatest one: decimal digits without a leading zero.
+fn positive_of(text: &str, most: u64) -> Option<u64>
+    requires { most ≤ 4294967295 }
+    ensures is { result ≡ positive_of most text.now }
+    ensures some { IfSome result (λ number. 1 ≤ number) }
+    ensures few { IfSome result (λ number. number ≤ most) }
+{
+    match text.as_bytes() {
         [] => None,
         [b'0', ..] => None,
         digits => {
-            let number = number_of(digits)?;
+            let number = number_of(digits, most)?;
             if number >= 1 { Some(number) } else { None }
         }
     }
 }
 
-fn number_of(digits: &[u8]) -> Option<u64>
-    ensures { result ≡ number_after (Some 0) digits.now }
+fn number_of(digits: &[u8], most: u64) -> Option<u64>
+    requires { most ≤ 4294967295 }
+    ensures is { result ≡ number_after most (Some 0) digits.now }
+    ensures few { IfSome result (λ number. number ≤ most) }
 {
     let mut number: u64 = 0;
     for byte in digits {
-        number = with_digit(number, *byte)?;
+        number = with_digit(number, *byte, most)?;
     }
     Some(number)
 }
 
 /// A number with one more digit behind it.
-fn with_digit(number: u64, byte: u8) -> Option<u64>
-    requires { number ≤ 1000000000 }
-    ensures { result ≡ with_digit number byte }
+fn with_digit(number: u64, byte: u8, most: u64) -> Option<u64>
+    requires number { number ≤ most }
+    requires most { most ≤ 4294967295 }
+    ensures is { result ≡ with_digit most number byte }
+    ensures few { IfSome result (λ more. more ≤ most) }
 {
     if byte < b'0' || b'9' < byte {
         return None;
     }
     let more = number * 10 + u64::from(byte - b'0');
-    if more <= MOST_BUDGET {
-        Some(more)
-    } else {
-        None
-    }
+    if more <= most { Some(more) } else { None }
 }

@@ -2,10 +2,10 @@
 ghost use Rattle.std.specs.Prelude.{◌≡◌, ◌≤◌, None, Some, MatchOption};
 ghost use Rattle.std.specs.List.{list_all};
 ghost use Rattle.std.specs.String.{string_bytes};
-ghost use Rattle.program_words.specs.Words.{asked_of, check_of, has_dash, html_of, is_dashes, is_full, is_name, names_in, one_name, options_said, paint_words, printing_with, spans_of, syntax_words, texts_of, two_names};
+ghost use Rattle.program_words.specs.Words.{asked_of, check_of, has_dash, html_of, is_dashes, is_full, is_name, large_of, large_page, large_words, lines_of, names_in, one_name, options_said, paint_words, printing_with, seed_of, spans_of, syntax_words, texts_of, two_names};
 ghost use Rattle.std.specs.Prelude.{option_map};
 
-use crate::options::{Options, split_options};
+use crate::options::{Options, lines_of, seed_of, split_options};
 use std::marker::Model;
 
 /// The folder where the program runs.
@@ -14,11 +14,18 @@ const HERE: &str = ".";
 /// The most ticks of an attempt, where the words give no other number.
 const USUAL_BUDGET: u64 = 1_000_000;
 
+/// The name of the syntax file by which the large mode paints.
+const LARGE_SYNTAX: &str = "mini.vim";
+
+/// The name of the text that the large mode paints.
+const LARGE_TEXT: &str = "large";
+
 /// What the words ask.
 #[derive(Drop)]
 pub enum Asked<'a> {
     Print(Printing<'a>),
     Edit(PageWords<'a>),
+    Large(LargeWords),
 }
 
 /// What is read from files and printed at once.
@@ -84,6 +91,27 @@ impl<'a> Model for PageWords<'a> {
     ghost view = { λ w. record { painting = w.painting; number = w.number; pre = w.pre } };
 }
 
+/// The large mode: the seed of its draws, how many lines its text has at the start, and the most ticks of
+/// one attempt, which are 1 at least.
+#[derive(Drop)]
+pub struct LargeWords {
+    seed: u64,
+    lines: u64,
+    budget: u64,
+}
+
+impl Model for LargeWords {
+    ghost use Rattle.program_words.specs.Given as given;
+
+    ghost Value = { given.LargeWords };
+
+    ghost use Rattle.std.specs.Prelude.{◌≤◌};
+
+    ghost view = { λ w. record { seed = w.seed; lines = w.lines; budget = w.budget } };
+
+    ghost invariant = { λ w. (w.seed ≤ 4294967295) × (1 ≤ w.lines) × (w.lines ≤ 100000) × (1 ≤ w.budget) };
+}
+
 impl<'a> Asked<'a> {
     /// What the words ask, if they are in the table of words (this profile). `words` are those behind
     /// the program's name.
@@ -96,6 +124,9 @@ impl<'a> Asked<'a> {
         let (front, rest) = split_options(behind);
         if command.as_str() == "edit" {
             return Some(Asked::Edit(PageWords::read(front, rest)?));
+        }
+        if command.as_str() == "large" {
+            return Some(Asked::Large(LargeWords::read(front, rest)?));
         }
         Some(Asked::Print(Printing::read(command.as_str(), front, rest)?))
     }
@@ -245,6 +276,70 @@ impl<'a> PageWords<'a> {
         ensures { result ≡ self.now.pre }
     {
         self.pre
+    }
+}
+
+impl LargeWords {
+    /// What the words behind `large` ask.
+    fn read(front: &[String], rest: &[String]) -> Option<LargeWords>
+        ensures { result ≡ large_of (options_said (texts_of front.now)) (two_names (names_in (texts_of rest.now))) }
+    {
+        let options = Options::read(front)?;
+        let (seed, lines) = two_names(rest)?;
+        if !options.are_for_large() {
+            return None;
+        }
+        LargeWords::of(&options, seed, lines)
+    }
+
+    /// The large mode with these numbers, if both are in form.
+    fn of(options: &Options<'_>, seed: &str, lines: &str) -> Option<LargeWords>
+        ensures { result ≡ large_words options.now (seed_of seed.now) (lines_of lines.now) }
+    {
+        let seed = seed_of(seed)?;
+        let lines = lines_of(lines)?;
+        Some(LargeWords {
+            seed,
+            lines,
+            budget: options.budget.unwrap_or(USUAL_BUDGET),
+        })
+    }
+
+    /// The seed of the draws.
+    pub fn seed(&self) -> u64
+        ensures is { result ≡ self.now.seed }
+        ensures few { result ≤ 4294967295 }
+    {
+        self.seed
+    }
+
+    /// How many lines the text has at the start.
+    pub fn lines(&self) -> u64
+        ensures is { result ≡ self.now.lines }
+        ensures some { 1 ≤ result }
+        ensures few { result ≤ 100000 }
+    {
+        self.lines
+    }
+
+    /// What is painted, in the words of a page. It names no file of the outside: the syntax and the
+    /// text are the large mode's own.
+    pub fn page(&self) -> PageWords<'static>
+        ensures { result ≡ large_page self.now }
+    {
+        PageWords {
+            painting: PaintWords {
+                syntax: CheckWords {
+                    syntax: LARGE_SYNTAX,
+                    folder: HERE,
+                    assume_fromstart: false,
+                },
+                text: LARGE_TEXT,
+                budget: self.budget,
+            },
+            number: false,
+            pre: true,
+        }
     }
 }
 

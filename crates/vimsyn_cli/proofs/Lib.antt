@@ -1,4 +1,6 @@
 mod EditLaws
+mod KeptLaws
+mod LargeLaws
 mod PaintLaws
 mod PlanLaws
 mod PrintLaws

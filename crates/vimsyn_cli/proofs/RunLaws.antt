@@ -5,7 +5,7 @@ use Rattle.std.proofs.lemmas.List.{append-nil}
 use Rattle.std.proofs.Math.Seq.{take-length}
 use Rattle.edit_session.specs.Ends.{SinkChange, SourceChange, Takes}
 use Rattle.program_words.specs.declared.words.Asked.{Asked}
-use Rattle.program_words.specs.declared.words.Asked.TheVariants.{Edit, Print}
+use Rattle.program_words.specs.declared.words.Asked.TheVariants.{Edit, Large, Print}
 use Rattle.syn_base.specs.Causes.{Counted, Rose}
 use Rattle.syn_base.specs.Outside.{AppendsPrefix, FileMap, appended}
 use Rattle.vimsyn_cli.specs.declared.fault.FaultKind.{FaultKind}
@@ -241,7 +241,7 @@ not_usage Unread is = absurd cc
 not_usage TooLong is = absurd cc
 not_usage Content is = absurd cc
 
-written_other : (sink : SinkChange) (bytes : List ℕ) (planned answer other : Status) → Writes sink bytes planned answer → answer ≡ other → planned ≢ other → other ≢ WriteFault → ⊥
+pub written_other : (sink : SinkChange) (bytes : List ℕ) (planned answer other : Status) → Writes sink bytes planned answer → answer ≡ other → planned ≢ other → other ≢ WriteFault → ⊥
 written_other sink bytes planned answer other (inl all) is un write = un (sym all.status ∙ is)
 written_other sink bytes planned answer other (inr some) is un write = write (sym is ∙ some.status)
 
@@ -266,7 +266,7 @@ delivered_read (Err stop.Memory) out err faults faults_after misses misses_after
 delivered_read (Err (stop.Fault fault)) out err faults faults_after misses misses_after answer delivered unread missing is =
     fault_read fault.cause faults faults_after misses misses_after (delivered_status err fault.line (cause_status fault.cause) answer ReadFault delivered.1 is (λ w. absurd cc)) unread missing
 
-sink_failed : (sink : SinkChange) (bytes : List ℕ) (planned answer : Status) → Writes sink bytes planned answer → answer ≡ WriteFault → planned ≢ WriteFault → Rose sink.faults sink.faults_after
+pub sink_failed : (sink : SinkChange) (bytes : List ℕ) (planned answer : Status) → Writes sink bytes planned answer → answer ≡ WriteFault → planned ≢ WriteFault → Rose sink.faults sink.faults_after
 sink_failed sink bytes planned answer (inl all) is un = absurd (un (sym all.status ∙ is))
 sink_failed sink bytes planned answer (inr some) is un = some.failed
 
@@ -310,6 +310,7 @@ delivered_done test (Err (stop.Fault fault)) out err before after answer deliver
 leaves : (asked : Asked) (script : SourceChange) → script.after ≡ script.before → script.faults_after ≡ script.faults → LeavesScript (Some asked) script
 leaves (Print printing) script left readable = (left, readable)
 leaves (Edit words) script left readable = tt
+leaves (Large words) script left readable = (left, readable)
 
 takes_none : (before after : Option (List ℕ)) → after ≡ before → Takes [] before after
 takes_none before None same = sym same
@@ -319,6 +320,7 @@ takes_none before (Some rest) same = sym same
 stops_at_start : (asked : Asked) (files : Option FileMap) (script : SourceChange) (out : SinkChange) → script.after ≡ script.before → out.after ≡ appended out.before [] → IfSome files (λ known. StopsSoFar (Some asked) known script out)
 stops_at_start asked None script out left same = tt
 stops_at_start (Print printing) (Some known) script out left same = tt
+stops_at_start (Large words) (Some known) script out left same = tt
 stops_at_start (Edit words) (Some known) script out left same =
     λ painted is. record { bytes = []; taken = takes_none script.before script.after left; printed = same }
 

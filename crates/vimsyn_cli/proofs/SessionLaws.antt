@@ -26,15 +26,15 @@ use Rattle.vimsyn_cli.specs.Session.{session, session_told, with_asked}
 use Rattle.vimsyn_cli.specs.Written.{shows}
 
 -- the bytes of a file, or its fault
-abbrev told_by : List ℕ → Result (List ℕ) NamedFault → Result (List ℕ) Fault
+abbrev pub told_by : List ℕ → Result (List ℕ) NamedFault → Result (List ℕ) Fault
 told_by name read = elim read [ Ok bytes ↦ Ok bytes | Err fault ↦ Err (fault_of name fault) ]
 
 -- the lines of bytes, or their fault
-abbrev with_lines : List ℕ → Result (List (List ℕ)) TextError → Result (List (List ℕ)) Fault
+abbrev pub with_lines : List ℕ → Result (List (List ℕ)) TextError → Result (List (List ℕ)) Fault
 with_lines name read = elim read [ Ok lines ↦ Ok lines | Err fault ↦ Err (fault_of name (text_fault fault)) ]
 
 -- a file that is there and short enough
-file_is : (files : FileMap) (name bytes : List ℕ) (limit : ℕ) → file_named files name ≡ Some bytes → length bytes ≤ limit → file_bytes files name limit ≡ Ok bytes
+pub file_is : (files : FileMap) (name bytes : List ℕ) (limit : ℕ) → file_named files name ≡ Some bytes → length bytes ≤ limit → file_bytes files name limit ≡ Ok bytes
 file_is files name bytes limit there short = rw (there, le-ltb limit (length bytes) short) refl
 
 text_is : (words : PaintWords) (files : FileMap) (painted : PaintedText) → IsAccepted words files painted → text_told words.text files ≡ Ok painted.text

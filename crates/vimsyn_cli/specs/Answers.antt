@@ -1,10 +1,10 @@
 -- What a run's clauses say of the bytes that the sinks got and of the status.
-use Rattle.std.specs.Prelude.{◌≡◌, ◌⊎◌, ℕ, Bool, true, false, List, Option, Result, Ok, Err}
+use Rattle.std.specs.Prelude.{◌≡◌, ◌⊎◌, ℕ, codes, Bool, true, false, List, Option, Result, Ok, Err}
 use Rattle.edit_session.specs.declared.reading.End.{End}
 use Rattle.edit_session.specs.declared.reading.End.TheVariants as end
 use Rattle.edit_session.specs.Ends.{SinkChange}
 use Rattle.program_words.specs.declared.words.Asked.{Asked}
-use Rattle.program_words.specs.declared.words.Asked.TheVariants.{Edit, Print}
+use Rattle.program_words.specs.declared.words.Asked.TheVariants.{Edit, Large, Print}
 use Rattle.program_words.specs.declared.words.Printing.{Printing}
 use Rattle.program_words.specs.declared.words.Printing.TheVariants.{Check, Html, Spans}
 use Rattle.program_words.specs.Given.{PageWords}
@@ -18,7 +18,7 @@ use Rattle.vimsyn_cli.specs.declared.fault.Stop.TheVariants as stop
 use Rattle.vimsyn_cli.specs.declared.status.Status.{Status}
 use Rattle.vimsyn_cli.specs.declared.status.Status.TheVariants.{Done, Refused, Usage, ReadFault, WriteFault, Memory}
 use Rattle.state_cache.specs.PaintedText.{PaintedText}
-use Rattle.vimsyn_cli.specs.Painting.{IsPaintFault, IsUnreadPaint, painting_told}
+use Rattle.vimsyn_cli.specs.Painting.{IsPaintFault, IsRefusedPainting, IsUnreadPaint, painting_told}
 use Rattle.vimsyn_cli.specs.Reading.{IsReadFault, IsUnreadAsked}
 use Rattle.vimsyn_cli.specs.Report.{cause_status, long_script, unread_script}
 use Rattle.vimsyn_cli.specs.Written.{Session}
@@ -45,10 +45,12 @@ IsFaultOfPrint (Check words) fault = IsReadFault fault
 IsFaultOfPrint (Spans words) fault = IsPaintFault words fault
 IsFaultOfPrint (Html words) fault = IsPaintFault words.painting fault
 
--- the same of any command: `edit` tells what `html` tells
+-- the same of any command: `edit` tells what `html` tells, and `large` that the painting of its text is
+-- refused
 abbrev pub IsFaultOfAsked : Asked → FaultOf → Type 0
 IsFaultOfAsked (Print printing) fault = IsFaultOfPrint printing fault
 IsFaultOfAsked (Edit words) fault = IsPaintFault words.painting fault
+IsFaultOfAsked (Large words) fault = IsRefusedPainting (codes "large") fault
 
 -- the line for a file that can't be read: one that the words name, or that the rules of reading ask for
 abbrev pub IsUnreadPrint : Printing → FileMap → List ℕ → Type 0
@@ -61,11 +63,12 @@ pub record AsksForScript (words : PageWords) (files : FileMap) : Type 0 where
   pub painted : PaintedText
   pub accepted : painting_told words.painting files ≡ Ok painted
 
--- the same of any command; `edit` has the line for its script too
+-- the same of any command; `edit` has the line for its script too, and `large` reads no file
 abbrev pub IsUnreadLine : Asked → FileMap → List ℕ → Type 0
 IsUnreadLine (Print printing) files line = IsUnreadPrint printing files line
 IsUnreadLine (Edit words) files line =
     IsUnreadPaint words.painting files line ⊎ (AsksForScript words files × (line ≡ unread_script))
+IsUnreadLine (Large words) files line = ⊥
 
 -- `err` got the whole line of a fault, and the answer is the status of that fault; it is of a file too
 -- long only where the count of such files rose

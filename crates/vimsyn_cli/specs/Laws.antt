@@ -1,10 +1,11 @@
 -- Laws of the session in the subject's own terms: what an accepted run gives.
-use Rattle.std.specs.Prelude.{◌≡◌, ℕ, ◌≤◌, List, length, Some, Ok}
+use Rattle.std.specs.Prelude.{◌≡◌, ℕ, ◌≤◌, List, length, codes, Some, Ok, IsOk}
 use Rattle.edit_session.specs.Session.{is_too_long}
-use Rattle.program_words.specs.declared.words.Asked.TheVariants.{Edit, Print}
+use Rattle.large_session.specs.LargeSession.{large_text}
+use Rattle.program_words.specs.declared.words.Asked.TheVariants.{Edit, Large, Print}
 use Rattle.program_words.specs.declared.words.Printing.TheVariants.{Check, Html, Spans}
-use Rattle.program_words.specs.Given.{CheckWords, PageWords, PaintWords}
-use Rattle.program_words.specs.Words.{asked_of}
+use Rattle.program_words.specs.Given.{CheckWords, LargeWords, PageWords, PaintWords}
+use Rattle.program_words.specs.Words.{asked_of, large_page}
 use Rattle.syn_base.specs.Outside.{FileMap, file_named}
 use Rattle.syn_reader.specs.declared.syntax.Syntax.{Syntax}
 use Rattle.syn_reader.specs.SyntaxOf.{syntax_of}
@@ -13,6 +14,7 @@ use Rattle.state_cache.specs.Spans.{text_spans}
 use Rattle.text_buffer.specs.TextOfBytes.{text_of}
 use Rattle.vimsyn_cli.specs.Check.{syntax_counts}
 use Rattle.vimsyn_cli.specs.Editing.{script_answer, script_end}
+use Rattle.vimsyn_cli.specs.Large.{large_files, large_told}
 use Rattle.vimsyn_cli.specs.Printing.{page_bytes, spans_bytes}
 use Rattle.vimsyn_cli.specs.Reading.{options_of}
 use Rattle.vimsyn_cli.specs.Session.{session}
@@ -46,6 +48,28 @@ AcceptedTextsAreEdited =
     (typed : List (List ℕ)) (files : FileMap) (script : List ℕ) (words : PageWords) (painted : PaintedText)
     → asked_of typed ≡ Some (Edit words) → IsAccepted words.painting files painted
     → session typed files script ≡ script_end (is_too_long script) (script_answer words painted script)
+
+-- the generated text of the large mode, of as many lines as the table of words has it, all of which are
+-- painted by the kept syntax
+pub record IsLargePainted (words : LargeWords) (painted : PaintedText) : Type 0 where
+  pub some : 1 ≤ words.lines
+  pub few : words.lines ≤ 100000
+  pub syntax_is : syntax_of (large_files words) (codes "mini.vim") (options_of (large_page words).painting.syntax) ≡ Ok painted.syntax
+  pub text_is : painted.text ≡ large_text words.seed words.lines
+  pub budget_is : painted.budget ≡ words.budget
+  pub spans_are : text_spans painted.syntax words.budget painted.text ≡ Ok painted.spans
+
+-- such a run prints the five lines of the edits on it
+abbrev pub AcceptedLargeTextsAreEdited : Type 0
+AcceptedLargeTextsAreEdited =
+    (typed : List (List ℕ)) (files : FileMap) (script : List ℕ) (words : LargeWords) (painted : PaintedText)
+    → asked_of typed ≡ Some (Large words) → IsLargePainted words painted
+    → session typed files script ≡ large_told words (Ok painted)
+
+-- the kept syntax file is accepted
+abbrev pub KeptSyntaxIsAccepted : Type 0
+KeptSyntaxIsAccepted =
+    (words : LargeWords) → IsOk (syntax_of (large_files words) (codes "mini.vim") (options_of (large_page words).painting.syntax))
 
 -- words of the table for `check`, with a syntax file that the rules of reading accept, by the files that
 -- it asks for

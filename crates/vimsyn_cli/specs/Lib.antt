@@ -3,6 +3,8 @@ pub mod Answers
 pub mod Changes
 pub mod Check
 pub mod Editing
+pub mod Large
+pub mod LargeRun
 pub mod Laws
 pub mod Painting
 pub mod Plans

@@ -6,7 +6,7 @@ use Rattle.edit_session.specs.declared.reading.End.{End}
 use Rattle.edit_session.specs.Ends.{EndsSo, ReadsToEnd, SinkChange, SourceChange, Takes}
 use Rattle.edit_session.specs.Session.{most_bytes, session, start}
 use Rattle.program_words.specs.declared.words.Asked.{Asked}
-use Rattle.program_words.specs.declared.words.Asked.TheVariants.{Edit, Print}
+use Rattle.program_words.specs.declared.words.Asked.TheVariants.{Edit, Large, Print}
 use Rattle.program_words.specs.Given.{PageWords}
 use Rattle.syn_base.specs.Causes.{Rose}
 use Rattle.syn_base.specs.Outside.{AppendsPrefix, FileMap, appended}
@@ -16,6 +16,7 @@ use Rattle.vimsyn_cli.specs.declared.status.Status.TheVariants.{Done, Refused, U
 use Rattle.vimsyn_cli.specs.Answers.{Closes, GivesSession, TellsAllUnread, TellsFault, TellsUnread, is_unfailed}
 use Rattle.vimsyn_cli.specs.Changes.{FilesChange}
 use Rattle.vimsyn_cli.specs.Editing.{painter_of, script_answer, shown_of}
+use Rattle.vimsyn_cli.specs.Large.{RefusesEdit, large_lines}
 use Rattle.vimsyn_cli.specs.Painting.{painting_told}
 use Rattle.vimsyn_cli.specs.Report.{long_script, unread_script}
 use Rattle.vimsyn_cli.specs.Session.{print_lines, script_read, with_asked}
@@ -37,11 +38,13 @@ pub record ReadsScript (words : PageWords) (told : Option FileMap) (refused : Bo
   pub of_files : IfSome told (λ known. painting_told words.painting known ≡ Ok painted)
   pub read : ReadsToEnd (painter_of words painted.syntax painted.budget) (start (shown_of painted)) refused script out
 
--- a script was refused as a whole, or one of its commands was, and then it was read to its end
+-- a script was refused as a whole, or one of its commands was, and then it was read to its end; or, of the
+-- large mode, a drawn edit was refused
 abbrev pub RefusesScript : Asked → Option FileMap → SourceChange → SinkChange → SinkChange → Type 0
 RefusesScript (Edit words) told script out err =
     ((err.after ≡ appended err.before long_script) × IsLongScript script)
     ⊎ ((err.after ≡ err.before) × ReadsScript words told true script out)
+RefusesScript (Large words) told script out err = (err.after ≡ err.before) × RefusesEdit words
 RefusesScript (Print printing) told script out err = ⊥
 
 -- a script couldn't be read, which `err` got the line for
@@ -114,11 +117,12 @@ pub record Runs (asked : Option Asked) (files : FilesChange) (script : SourceCha
   pub script_left : LeavesScript asked script
   pub script_ended : answer ≡ Done → EndsScript asked files.told script out
 
--- how many lines are painted at most for a command that prints at once
+-- how many lines are painted at most for a command that prints at once, and for the large mode
 abbrev pub PaintsFew : Option Asked → FileMap → ℕ → ℕ → Type 0
 PaintsFew None files before after = after ≡ before
 PaintsFew (Some (Print printing)) files before after = after ≤ before + print_lines printing files
 PaintsFew (Some (Edit words)) files before after = ⊤
+PaintsFew (Some (Large words)) files before after = after ≤ before + large_lines words
 
 -- a script was carried out on a painted text
 pub record EditsPainted (words : PageWords) (painted : PaintedText) (script : SourceChange) (out err : SinkChange) (answer : Status) : Type 0 where

@@ -2,7 +2,7 @@
 -- files and the script.
 use Rattle.std.specs.Prelude.{ℕ, Bool, true, false, List, [], length, Option, Some, None, Result, Ok, Err}
 use Rattle.program_words.specs.declared.words.Asked.{Asked}
-use Rattle.program_words.specs.declared.words.Asked.TheVariants.{Edit, Print}
+use Rattle.program_words.specs.declared.words.Asked.TheVariants.{Edit, Large, Print}
 use Rattle.program_words.specs.declared.words.Printing.{Printing}
 use Rattle.program_words.specs.declared.words.Printing.TheVariants.{Check, Html, Spans}
 use Rattle.program_words.specs.Words.{asked_of}
@@ -11,6 +11,7 @@ use Rattle.vimsyn_cli.specs.declared.fault.Fault.{Fault}
 use Rattle.vimsyn_cli.specs.declared.status.Status.TheVariants.{Usage}
 use Rattle.vimsyn_cli.specs.Check.{check_told}
 use Rattle.vimsyn_cli.specs.Editing.{edit_session}
+use Rattle.vimsyn_cli.specs.Large.{large_run}
 use Rattle.vimsyn_cli.specs.Painting.{text_told}
 use Rattle.vimsyn_cli.specs.Printing.{html_told, spans_told}
 use Rattle.vimsyn_cli.specs.Report.{usage_line}
@@ -30,6 +31,7 @@ session_told (Err fault) = ends fault
 abbrev pub asked_session : Asked → FileMap → List ℕ → Session
 asked_session (Print printing) files script = session_told (print_told printing files)
 asked_session (Edit words) files script = edit_session words files script
+asked_session (Large words) files script = large_run words
 
 -- the session with words, or with words that aren't in the table
 abbrev pub with_asked : FileMap → List ℕ → Option Asked → Session
@@ -43,6 +45,7 @@ session words files script = with_asked files script (asked_of words)
 abbrev pub script_read : Option Asked → Option (List ℕ) → Option (List ℕ)
 script_read (Some (Edit words)) script = script
 script_read (Some (Print printing)) script = Some []
+script_read (Some (Large words)) script = Some []
 script_read None script = Some []
 
 -- how many lines a command paints at most that prints at once: those of the text, if it is asked for one

@@ -12,6 +12,8 @@ mod edit;
 mod fault;
 mod file_fault;
 mod html;
+mod kept_files;
+mod large;
 pub mod laws;
 mod painting;
 mod print;

@@ -10,12 +10,14 @@ ghost use Rattle.syn_base.specs.Causes.{Rose};
 ghost use Rattle.syn_base.specs.Outside.{AppendsPrefix, appended};
 ghost use Rattle.vimsyn_cli.specs.Answers.{GivesSession, TellsAllUnread, TellsFault, TellsUnread, is_unfailed};
 ghost use Rattle.vimsyn_cli.specs.Changes.{files_change, sink_change, source_change};
+ghost use Rattle.vimsyn_cli.specs.LargeRun.{RunsIfLarge};
 ghost use Rattle.vimsyn_cli.specs.Runs.{EndsScript, FailsScript, IfTold, LeavesScript, PaintsFew, RefusesScript, Runs, StopsSoFar};
 ghost use Rattle.vimsyn_cli.specs.Session.{print_lines, script_read, session};
 
 use crate::Status;
 use crate::deliver::{deliver, finish};
 use crate::edit::run_edit;
+use crate::large::run_large;
 use crate::print::print;
 use program_words::{Asked, Printing};
 use std::alloc::Global;
@@ -28,10 +30,10 @@ const USAGE: &[u8; 58] = b"usage: vimsyn check|spans|html|edit|large [options] n
 ///
 /// Where the files and the script tell their bytes, what is written and the status are those of
 /// the session, a definition that reads the whole syntax and paints the whole text anew, for
-/// `edit` at each command that changes the text. A read fault comes only where a file or the
+/// `edit` at each command that changes the text and for `large` at each edit. A read fault comes only where a file or the
 /// script couldn't be read or a file is absent, a write fault only where a write failed. Want of
 /// memory may be answered wherever the words are in the table. `edit` alone takes from `script`,
-/// of which it reads at most 64 MiB.
+/// of which it reads at most 64 MiB. `large` reads no file: its syntax and its text are its own.
 pub fn run<F: Files, I: Source, O: Sink, E: Sink, L: Ledger>(
     alloc: Global,
     words: &[String],
@@ -130,6 +132,13 @@ pub fn run<F: Files, I: Source, O: Sink, E: Sink, L: Ledger>(
     ensures done_longs { result ≡ Status.Done → F.longs files.new ≡ F.longs files.old }
     ensures files_kept { F.told files.new ≡ F.told files.old }
 
+    // Of the large mode all this holds whatever the files and the script tell.
+    ensures large { RunsIfLarge (asked_of (texts_of words.now))
+        (sink_change (O.written out.old) (O.written out.new)
+        (O.faults out.old) (O.faults out.new))
+        (sink_change (E.written err.old) (E.written err.new)
+        (E.faults err.old) (E.faults err.new)) result }
+
     // No command but `edit` takes from the script, and that one reads it to its end.
     ensures script_left { LeavesScript (asked_of (texts_of words.now))
         (source_change (I.left script.old) (I.left script.new)
@@ -142,7 +151,8 @@ pub fn run<F: Files, I: Source, O: Sink, E: Sink, L: Ledger>(
         (O.faults out.old) (O.faults out.new)) }
 
     // Lines that are painted for a command that prints at once: at most those of its text, and
-    // none for words that name no text.
+    // none for words that name no text. For the large mode: at most those of its text, and at each
+    // edit those of the changed text.
     ensures steps { IfSome (F.told files.old) (λ known.
         PaintsFew (asked_of (texts_of words.now)) known steps.old steps.new) }
     ensures steps_kept { asked_of (texts_of words.now) ≡ None → steps.new ≡ steps.old }
@@ -164,6 +174,11 @@ fn run_asked<F: Files, I: Source, O: Sink, E: Sink, L: Ledger>(
     ensures steps { IfSome (F.told files.old) (λ known.
         PaintsFew asked.entry known steps.old steps.new) }
     ensures steps_kept { asked.entry ≡ None → steps.new ≡ steps.old }
+    ensures large { RunsIfLarge asked.entry
+        (sink_change (O.written out.old) (O.written out.new)
+        (O.faults out.old) (O.faults out.new))
+        (sink_change (E.written err.old) (E.written err.new)
+        (E.faults err.old) (E.faults err.new)) result }
     ensures runs { Runs asked.entry
         (files_change (F.told files.old) (F.told files.new)
         (F.faults files.old) (F.faults files.new) (F.misses files.old) (F.misses files.new)
@@ -178,6 +193,7 @@ fn run_asked<F: Files, I: Source, O: Sink, E: Sink, L: Ledger>(
         None => finish(err, USAGE, Status::Usage),
         Some(Asked::Print(printing)) => run_print(alloc, files, script, &printing, out, err, steps),
         Some(Asked::Edit(words)) => run_edit(alloc, files, &words, script, out, err, steps),
+        Some(Asked::Large(words)) => run_large(alloc, &words, out, err, steps),
     }
 }
 

@@ -1,5 +1,6 @@
 //! A painted text as a session of edits changes and prints it.
 ghost use Rattle.std.specs.Prelude.{◌≡◌, ◌≢◌, ◌++◌, codes, length, IfOk, OnOk};
+ghost use Rattle.std.specs.List.{sum_by};
 ghost use Rattle.vimsyn_cli.specs.Editing.{cause_words, painter_of, place_words};
 ghost use Rattle.vimsyn_cli.specs.Refusal.{IsUnedited};
 
@@ -8,6 +9,7 @@ use crate::refusal::group_of;
 use crate::spans::{push_line, spans_at};
 use byte_text::{push_bytes, push_number_from_one};
 use edit_session::{Document, Replacement, Unedited};
+use large_session::LargeDocument;
 use program_words::PageWords;
 use state_cache::{EditError, Painted, Repainted};
 use std::alloc::{AllocError, Global};
@@ -60,6 +62,25 @@ impl<'a> Document for Sheet<'a> {
             Err(error) => Err(unedited(alloc, self.painted.syntax(), error)),
         }
     }
+}
+
+impl<'a> LargeDocument for Sheet<'a> {
+    fn span_count(&self) -> Result<usize, Memory> {
+        span_count(&self.painted)
+    }
+}
+
+/// How many spans the lines have together.
+fn span_count(painted: &Painted) -> Result<usize, Memory>
+    ensures { IfOk result (λ count. count ≡ sum_by length painted.now.spans) }
+{
+    let _syntax = painted.syntax();
+    let mut count = 0usize;
+    for number in 0..painted.len() {
+        let more = spans_at(painted, number).len();
+        count = count.checked_add(more).ok_or(Memory)?;
+    }
+    Ok(count)
 }
 
 /// The lines to tell of a text each of whose lines has its spans.

@@ -5,5 +5,5 @@ use Rattle.program_words.proofs.options.number_of.Given as goal
 
 abbrev pub invariant-loop-byte : goal.invariant-loop-byte
 invariant-loop-byte l =
-    (l.number ≤ 1000000000)
-    × (number_after (Some 0) l.digits ≡ number_after (Some l.number) (drop l.byte-index l.digits))
+    (l.number ≤ l.most)
+    × (number_after l.most (Some 0) l.digits ≡ number_after l.most (Some l.number) (drop l.byte-index l.digits))

@@ -1,6 +1,7 @@
 use Rattle.std.proofs.Common.{subst, sym}
 use Rattle.std.specs.Prelude.{Option}
 use Rattle.program_words.specs.declared.words.Asked.{Asked}
+use Rattle.vimsyn_cli.specs.LargeRun.{RunsIfLarge}
 use Rattle.vimsyn_cli.specs.Runs.{Runs}
 use Rattle.vimsyn_cli.proofs.session.run.Goals as goal
 
@@ -192,3 +193,10 @@ returns-clause-script_ended g c =
     (record { before = g.O.Sink.written c.args.out.now; after = g.O.Sink.written c.run_asked.new.out; faults = g.O.Sink.faults c.args.out.now; faults_after = g.O.Sink.faults c.run_asked.new.out })
     (record { before = g.E.Sink.written c.args.err.now; after = g.E.Sink.written c.run_asked.new.err; faults = g.E.Sink.faults c.args.err.now; faults_after = g.E.Sink.faults c.run_asked.new.err }) c.run_asked.result in
     (subst R c.read-asked.ensures c.run_asked.ensures.runs).script_ended
+
+pub returns-clause-large : goal.returns-clause-large
+returns-clause-large g c =
+    let R : Option Asked → Type 0 = λ asked. RunsIfLarge asked
+    (record { before = g.O.Sink.written c.args.out.now; after = g.O.Sink.written c.run_asked.new.out; faults = g.O.Sink.faults c.args.out.now; faults_after = g.O.Sink.faults c.run_asked.new.out })
+    (record { before = g.E.Sink.written c.args.err.now; after = g.E.Sink.written c.run_asked.new.err; faults = g.E.Sink.faults c.args.err.now; faults_after = g.E.Sink.faults c.run_asked.new.err }) c.run_asked.result in
+    subst R c.read-asked.ensures c.run_asked.ensures.large

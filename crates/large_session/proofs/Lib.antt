@@ -1,0 +1,5 @@
+pub mod OnwardLaws
+pub mod CountLaws
+pub mod PlainLaws
+pub mod TextLaws
+pub mod KnownDraws
