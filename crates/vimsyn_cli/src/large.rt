@@ -79,7 +79,11 @@ fn deliver_large<O: Sink, E: Sink>(
 fn status_of(refused: bool) -> Status
     ensures { result ≡ script_status refused }
 {
-    if refused { Status::Refused } else { Status::Done }
+    if refused {
+        Status::Refused
+    } else {
+        Status::Done
+    }
 }
 
 /// What the large mode prints, or why it prints nothing.
