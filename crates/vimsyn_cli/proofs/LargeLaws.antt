@@ -1,6 +1,6 @@
 -- The large mode: its first painting, and what its run comes to.
 use Rattle.std.proofs.Common.{◌≡◌, ◌≢◌, ℕ, ◌≤◌, ◌+◌, Bool, true, false, List, [], length, refl, ap, subst, sym, ◌∙◌, inl, inr, arith}
-use Rattle.std.specs.Prelude.{◌⊎◌, codes, Option, Some, None, IfSome, Result, Ok, Err}
+use Rattle.std.specs.Prelude.{◌⊎◌, codes, Some, IfSome, Result, Ok, Err}
 use Rattle.edit_session.specs.Ends.{SinkChange, SourceChange}
 use Rattle.large_session.specs.declared.session.Outcome.{Outcome}
 use Rattle.large_session.specs.LargeSession.{edit_count, edited_often, large_text, lines_of_edits, number_behind, start}
@@ -13,7 +13,7 @@ use Rattle.state_cache.specs.declared.refusal.EditError.{EditError}
 use Rattle.state_cache.specs.PaintedText.{PaintedText}
 use Rattle.state_cache.specs.Spans.{text_spans}
 use Rattle.syn_base.specs.declared.places.Span.{Span}
-use Rattle.syn_base.specs.Causes.{Counted, Rose}
+use Rattle.syn_base.specs.Causes.{Counted}
 use Rattle.syn_base.specs.Outside.{AppendsPrefix, FileMap, appended}
 use Rattle.syn_reader.specs.declared.syntax.Syntax.{Syntax}
 use Rattle.text_buffer.specs.BytesOfText.{bytes_of}
@@ -31,7 +31,7 @@ use Rattle.vimsyn_cli.specs.Large.{RefusesEdit, large_files, large_lines, large_
 use Rattle.vimsyn_cli.specs.LargeRun.{DeliversLarge, IsLarge, IsOutcome, RunsLarge, TellsRefusal}
 use Rattle.vimsyn_cli.specs.Painting.{IsRefusedPainting, IsUnreadPaint, lines_told, painted_told, painting_told, text_limit, text_told, with_spans}
 use Rattle.vimsyn_cli.specs.Plans.{FollowsFiles, IsExpected, OrUnread, RaisesItsCount, and_then, is_unread}
-use Rattle.vimsyn_cli.specs.Reading.{syntax_told, with_told}
+use Rattle.vimsyn_cli.specs.Reading.{with_told}
 use Rattle.vimsyn_cli.specs.Report.{cause_status}
 use Rattle.vimsyn_cli.specs.Runs.{Runs}
 use Rattle.vimsyn_cli.specs.Laws.{IsLargePainted}

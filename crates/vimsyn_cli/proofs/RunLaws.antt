@@ -1,6 +1,6 @@
 -- What a run delivers, against the session that it is a run of.
 use Rattle.std.proofs.Common.{◌≡◌, ◌≢◌, ℕ, Bool, true, false, List, [], length, refl, ap, subst, sym, ◌∙◌, inl, inr}
-use Rattle.std.specs.Prelude.{◌⊎◌, Option, Some, None, Result, Ok, Err, IfSome, IsSomeAnd}
+use Rattle.std.specs.Prelude.{◌⊎◌, Option, Some, None, Result, Ok, Err, IfSome}
 use Rattle.std.proofs.lemmas.List.{append-nil}
 use Rattle.std.proofs.Math.Seq.{take-length}
 use Rattle.edit_session.specs.Ends.{SinkChange, SourceChange, Takes}
@@ -15,12 +15,12 @@ use Rattle.vimsyn_cli.specs.declared.fault.Stop.{Stop}
 use Rattle.vimsyn_cli.specs.declared.fault.Stop.TheVariants as stop
 use Rattle.vimsyn_cli.specs.declared.status.Status.{Status}
 use Rattle.vimsyn_cli.specs.declared.status.Status.TheVariants.{Done, Refused, Usage, ReadFault, WriteFault, Memory}
-use Rattle.vimsyn_cli.specs.Answers.{Closes, Delivers, GivesSession, IsFaultOfAsked, IsUnreadLine, IsUntouched, TellsAllUnread, TellsFault, TellsUnread, Writes, WroteAll, is_unfailed}
+use Rattle.vimsyn_cli.specs.Answers.{Delivers, GivesSession, IsFaultOfAsked, IsUnreadLine, IsUntouched, TellsAllUnread, TellsFault, TellsUnread, Writes, WroteAll, is_unfailed}
 use Rattle.vimsyn_cli.specs.Changes.{FilesChange}
 use Rattle.vimsyn_cli.specs.Report.{cause_status, usage_line}
 use Rattle.vimsyn_cli.specs.Session.{asked_session, script_read}
 use Rattle.vimsyn_cli.specs.Plans.{RaisesItsCount, IfFault, OrUnread, is_missing, is_too_long, is_unread}
-use Rattle.vimsyn_cli.specs.Runs.{EndsScript, IfTold, LeavesScript, PrintsSoFar, Runs, StopsSoFar}
+use Rattle.vimsyn_cli.specs.Runs.{EndsScript, IfTold, LeavesScript, Runs, StopsSoFar}
 use Rattle.vimsyn_cli.proofs.PlanLaws.{Plans}
 use Rattle.vimsyn_cli.specs.Written.{Session, ends}
 

@@ -1,6 +1,6 @@
 -- The large mode as a run: a generated text named `large` is painted by the syntax `mini.vim`, which the
 -- program keeps, and drawn edits are carried out on it. No file of the outside is read, and no script.
-use Rattle.std.specs.Prelude.{◌≡◌, ℕ, ◌+◌, Bool, true, List, [], ◌∷◌, codes, Result, Ok, Err}
+use Rattle.std.specs.Prelude.{◌≡◌, ℕ, ◌+◌, true, [], ◌∷◌, codes, Result, Ok, Err}
 use Rattle.program_words.specs.Given.{LargeWords}
 use Rattle.program_words.specs.Words.{large_page}
 use Rattle.text_buffer.specs.BytesOfText.{bytes_of}

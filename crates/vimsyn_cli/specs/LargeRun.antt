@@ -1,5 +1,5 @@
 -- What the steps of the large mode say.
-use Rattle.std.specs.Prelude.{◌≡◌, ◌≢◌, ◌⊎◌, ℕ, codes, Option, Some, Result, Ok, Err, ⊤}
+use Rattle.std.specs.Prelude.{◌≡◌, ◌≢◌, ◌⊎◌, codes, Option, Some, Result, Ok, Err, ⊤}
 use Rattle.edit_session.specs.Ends.{SinkChange}
 use Rattle.large_session.specs.declared.session.Outcome.{Outcome}
 use Rattle.large_session.specs.LargeSession.{five_lines, has_refused}

@@ -1,4 +1,4 @@
-use Rattle.std.proofs.Common.{subst, sym}
+use Rattle.std.proofs.Common.{subst}
 use Rattle.std.specs.Prelude.{Option}
 use Rattle.program_words.specs.declared.words.Asked.{Asked}
 use Rattle.vimsyn_cli.specs.LargeRun.{RunsIfLarge}
