@@ -1,6 +1,6 @@
 -- What a session of edits on a painted text comes to.
-use Rattle.std.proofs.Common.{◌≡◌, ◌≢◌, ℕ, ◌<◌, Bool, true, false, List, [], ◌++◌, length, refl, ap, subst, sym, ◌∙◌, inl, inr, arith}
-use Rattle.std.specs.Prelude.{◌⊎◌, Option, Some, None, Ok, Err, Result, IfSome}
+use Rattle.std.proofs.Common.{◌≡◌, ◌≢◌, ℕ, ◌<◌, Bool, true, false, List, ◌++◌, length, refl, ap, subst, sym, ◌∙◌, inl, inr, arith}
+use Rattle.std.specs.Prelude.{Option, Some, None, Ok, Err, Result, IfSome}
 use Rattle.std.proofs.lemmas.List.{length-append}
 use Rattle.edit_session.specs.declared.reading.End.{End}
 use Rattle.edit_session.specs.declared.reading.End.TheVariants as end
@@ -11,14 +11,13 @@ use Rattle.edit_session.proofs.EndLaws.{over_told, whole_told}
 use Rattle.program_words.specs.declared.words.Asked.TheVariants.{Edit}
 use Rattle.program_words.specs.Given.{PageWords, PaintWords}
 use Rattle.state_cache.specs.PaintedText.{PaintedText}
-use Rattle.syn_base.specs.Causes.{Rose}
 use Rattle.syn_base.specs.Outside.{AppendsPrefix, FileMap, appended}
 use Rattle.vimsyn_cli.specs.declared.fault.Fault.{Fault as FaultOf}
 use Rattle.vimsyn_cli.specs.declared.fault.FaultKind.{FaultKind}
 use Rattle.vimsyn_cli.specs.declared.fault.Stop.{Stop}
 use Rattle.vimsyn_cli.specs.declared.fault.Stop.TheVariants as stop
 use Rattle.vimsyn_cli.specs.declared.status.Status.{Status}
-use Rattle.vimsyn_cli.specs.declared.status.Status.TheVariants.{Done, Refused, Usage, ReadFault, WriteFault, Memory}
+use Rattle.vimsyn_cli.specs.declared.status.Status.TheVariants.{Done, Refused, ReadFault, WriteFault, Memory}
 use Rattle.vimsyn_cli.specs.Answers.{Closes, Delivers, GivesSession, IsFaultOfAsked, IsUnreadLine, IsUntouched, WroteAll, WroteSome, is_unfailed}
 use Rattle.vimsyn_cli.specs.Changes.{FilesChange}
 use Rattle.vimsyn_cli.specs.Editing.{edit_session, edit_told, painter_of, script_answer, script_end, script_status, shown_of}
@@ -28,7 +27,7 @@ use Rattle.vimsyn_cli.specs.Report.{long_script, unread_script}
 use Rattle.vimsyn_cli.specs.Runs.{EditsPainted, IfTold, PrintsSoFar, Runs, StopsSoFar}
 use Rattle.vimsyn_cli.specs.Written.{Session, ends}
 use Rattle.vimsyn_cli.proofs.PlanLaws.{Plans, led}
-use Rattle.vimsyn_cli.proofs.RunLaws.{none_of, not_done, part_of, told_both, unfailed_of, untouched}
+use Rattle.vimsyn_cli.proofs.RunLaws.{none_of, not_done, part_of, told_both, untouched}
 
 -- the session of a text that is painted, where the length of its script is known
 session_is : (words : PageWords) (painted : PaintedText) (known : FileMap) (bytes : List ℕ) (long : Bool) → painting_told words.painting known ≡ Ok painted → is_too_long bytes ≡ long → edit_session words known bytes ≡ script_end long (script_answer words painted bytes)

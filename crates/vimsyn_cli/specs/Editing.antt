@@ -1,5 +1,5 @@
 -- The session of edits on a text file: its painting by the syntax, and how it is told and printed.
-use Rattle.std.specs.Prelude.{ℕ, ◌+◌, Bool, true, false, List, [], ◌++◌, codes, decimal, Result, Ok, Err, if◌then◌else◌}
+use Rattle.std.specs.Prelude.{ℕ, ◌+◌, Bool, true, false, List, [], ◌++◌, codes, decimal, Result, Ok, Err}
 use Rattle.edit_session.specs.Painter.{Painter, Painted}
 use Rattle.edit_session.specs.Session.{Answer, is_too_long, script_session}
 use Rattle.program_words.specs.Given.{PageWords}

@@ -1,6 +1,6 @@
 -- What a run of a command comes to: its answer, what the sinks got, and what became of the files and of the
 -- script.
-use Rattle.std.specs.Prelude.{◌≡◌, ◌≢◌, ◌⊎◌, ℕ, ◌+◌, ◌<◌, ◌≤◌, Bool, true, false, List, [], length, Option, Some, None, IfSome, IsSomeAnd, Ok, ⊤}
+use Rattle.std.specs.Prelude.{◌≡◌, ◌≢◌, ◌⊎◌, ℕ, ◌+◌, ◌<◌, ◌≤◌, Bool, true, false, List, length, Option, Some, None, IfSome, IsSomeAnd, Ok, ⊤}
 use Rattle.edit_script.specs.Entries.{entries_of}
 use Rattle.edit_session.specs.declared.reading.End.{End}
 use Rattle.edit_session.specs.Ends.{EndsSo, ReadsToEnd, SinkChange, SourceChange, Takes}
