@@ -1,6 +1,6 @@
 -- The painting of a file, step by step.
-use Rattle.std.proofs.Common.{◌≡◌, ℕ, ◌+◌, ◌≤◌, Bool, List, refl, subst, inl, inr}
-use Rattle.std.specs.Prelude.{Option, IfSome, Result, Ok, Err}
+use Rattle.std.proofs.Common.{◌≡◌, ℕ, ◌+◌, ◌≤◌, Bool, List, length, refl, subst, sym, inl, inr}
+use Rattle.std.specs.Prelude.{Option, Some, None, IfSome, Result, Ok, Err}
 use Rattle.program_words.specs.Given.{CheckWords, PageWords, PaintWords}
 use Rattle.state_cache.specs.PaintedText.{PaintedText}
 use Rattle.syn_base.specs.Outside.{FileMap}
@@ -78,6 +78,14 @@ both_read told after words asked syntax name text result kept same is named read
     (followed after after (text_told words.text) (λ files. painted_told words syntax) (IsUnreadText words) (λ files line. ⊥) (IsUnreadText words) text result
     refl (λ files line ok u. absurd u) (text_read after words name (Ok text) named read)
     (always after (painted_told words syntax text) (λ line. ⊥) result expected))
+
+-- no more lines were painted than the text has
+pub text_counted : (told after : Option FileMap) (words : PaintWords) (name : List ℕ) (text : List (List ℕ)) (before now : ℕ) → after ≡ told → name ≡ words.text → FollowsFiles after (text_told name) (IsUnreadNamed name) (Ok text) → now ≤ before + length text → IfSome told (λ known. now ≤ before + lines_in (text_told words.text known))
+text_counted None after words name text before now kept named read few = tt
+text_counted (Some known) after words name text before now kept named read few =
+    let P : Option FileMap → List ℕ → Type 0 = λ o n. FollowsFiles o (text_told n) (IsUnreadNamed n) (Ok text) in
+    let told : text_told words.text known ≡ Ok text = subst (λ (o : Option FileMap). P o words.text) kept (subst (P after) named read) in
+    subst (λ (r : Result (List (List ℕ)) FaultOf). now ≤ before + lines_in r) (sym told) few
 
 -- ---- the page of a painting
 

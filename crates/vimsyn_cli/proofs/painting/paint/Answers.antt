@@ -2,7 +2,7 @@ use Rattle.std.proofs.Common.{ap, ◌∙◌}
 use Rattle.std.specs.Prelude.{Err}
 use Rattle.std.proofs.lemmas.Result.{err_from_is_err_and}
 use Rattle.text_buffer.specs.TextSeen.{TextSeen}
-use Rattle.vimsyn_cli.proofs.PaintLaws.{both_read, syntax_stopped, text_fault_told, text_stopped}
+use Rattle.vimsyn_cli.proofs.PaintLaws.{both_read, syntax_stopped, text_counted, text_fault_told, text_stopped}
 use Rattle.vimsyn_cli.proofs.painting.paint.Goals as goal
 
 pub returns-in_err-text-clause-told : goal.returns-in_err-text-clause-told
@@ -27,3 +27,8 @@ pub returns-clause-planned : goal.returns-clause-planned
 returns-clause-planned g c =
     both_read (g.F.Files.told c.args.files.now) (g.F.Files.told c.read.new.files) c.args.words.now c.syntax.result.now c.in_ok-syntax.syntax c.text.result.now c.in_ok-text.text.lines c.paint_text.result
     c.in_ok-syntax.ensures.kept c.syntax.ensures c.in_ok-syntax.ensures.planned c.text.ensures c.in_ok-text.ensures.planned c.paint_text.ensures.planned
+
+pub returns-clause-steps : goal.returns-clause-steps
+returns-clause-steps g c =
+    text_counted (g.F.Files.told c.args.files.now) (g.F.Files.told c.read.new.files) c.args.words.now c.text.result.now c.in_ok-text.text.lines c.args.steps.now c.paint_text.new.steps
+    c.in_ok-syntax.ensures.kept c.text.ensures c.in_ok-text.ensures.planned c.paint_text.ensures.steps
