@@ -12,3 +12,4 @@ pub mod Starting
 pub mod Turns
 pub mod Spans
 pub mod Quiet
+pub mod Stretches

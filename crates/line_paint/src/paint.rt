@@ -14,7 +14,7 @@ ghost use Rattle.state_stack.specs.TopFirst.{top_first};
 ghost use Rattle.line_paint.specs.Turns.{Held};
 
 use crate::line_start::line_start;
-use crate::shown::shown;
+use crate::shown::{Stretch, shown};
 use crate::spans::Spans;
 use crate::standing::Standing;
 use crate::{Picker, Site, Stop};
@@ -135,9 +135,13 @@ fn show_quiet<S: Site>(
         (standing_of standing.now) spans.new)) }
 {
     let mut c = from;
+    let mut stretch = Stretch {
+        group: None,
+        until: from,
+    };
     'quiet: while c < to {
-        let place = Spot::At { ahead: 0, col: c };
-        spans.show(c, shown(site, place, &standing.state.stack))?;
+        stretch = stretch.at(site, c, &standing.state.stack);
+        spans.show(c, stretch.group)?;
         c += 1;
     }
     Ok(())

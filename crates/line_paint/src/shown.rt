@@ -1,7 +1,11 @@
 //! The group that a character shows.
-ghost use Rattle.std.specs.Prelude.{◌≡◌, ◌<◌, length, reverse};
+ghost use Rattle.std.specs.Prelude.{◌≡◌, ◌<◌, ◌≤◌, ◌^◌, ◌-◌, ℕ, length, reverse};
+ghost use Rattle.paint_rules.specs.declared.Spot.TheVariants.{At};
 ghost use Rattle.paint_rules.specs.Line.{is_clear, holds, shown};
+ghost use Rattle.paint_rules.specs.Close.{is_reached};
+ghost use Rattle.paint_rules.specs.KeptEnd.{is_before};
 ghost use Rattle.paint_rules.specs.States.{Fits};
+ghost use Rattle.line_paint.specs.Stretches.{ShowsOver};
 
 use crate::Site;
 use crate::spots::{is_before, is_reached};
@@ -41,5 +45,98 @@ pub(crate) fn shown<S: Site>(site: &S, place: Spot, stack: &Stack) -> Option<Gro
         } else {
             shown(site, place, below)
         },
+    }
+}
+
+/// What the characters of a stretch of columns show, from some column up to, and without, another.
+#[derive(Clone, Copy)]
+pub(crate) struct Stretch {
+    pub group: Option<GroupId>,
+    pub until: usize,
+}
+
+/// A column behind another one, up to which the same holds of a spot: whether it is before them.
+fn next_change(c: usize, spot: Spot) -> usize
+    requires { c < 2 ^ 64 - 1 }
+    ensures behind { c < result }
+    ensures same { (d : ℕ) → c ≤ d → d < result → is_before (At 0 d) spot ≡ is_before (At 0 c) spot }
+{
+    match spot {
+        Spot::At { ahead: 0, col } if c < col => col,
+        _ => usize::MAX,
+    }
+}
+
+/// The same of an end: whether it is reached.
+fn next_end(c: usize, end: Option<Spot>) -> usize
+    requires { c < 2 ^ 64 - 1 }
+    ensures behind { c < result }
+    ensures same { (d : ℕ) → c ≤ d → d < result
+        → is_reached (At 0 d) end ≡ is_reached (At 0 c) end }
+{
+    match end {
+        None => usize::MAX,
+        Some(spot) => next_change(c, spot),
+    }
+}
+
+/// A column behind another one, up to which a frame's highlight holds what stands there as it does
+/// at the first.
+fn held_until(c: usize, frame: &Frame) -> usize
+    requires { c < 2 ^ 64 - 1 }
+    ensures behind { c < result }
+    ensures same { (d : ℕ) → c ≤ d → d < result
+        → holds (At 0 d) frame.now ≡ holds (At 0 c) frame.now }
+{
+    next_change(c, frame.high_from).min(next_end(c, frame.high_to))
+}
+
+/// What the characters from a column of the painted line on show, as far as it is the same.
+pub(crate) fn shown_from<S: Site>(site: &S, c: usize, stack: &Stack) -> Stretch
+    requires column { c < 2 ^ 64 - 1 }
+    requires fits { Fits (length (S.here site.now).rules.items) (reverse stack.now) }
+    ensures behind { c < result.until }
+    ensures shows { ShowsOver (S.here site.now).rules (reverse stack.now) c result }
+{
+    let place = Spot::At { ahead: 0, col: c };
+    match stack.top_and_below() {
+        None => Stretch {
+            group: None,
+            until: usize::MAX,
+        },
+        Some((top, below)) => {
+            if is_clear(site, top) {
+                return shown_from(site, c, below);
+            }
+            let until = held_until(c, top);
+            if holds(place, top) {
+                return Stretch {
+                    group: Some(top.shows),
+                    until,
+                };
+            }
+            let rest = shown_from(site, c, below);
+            Stretch {
+                group: rest.group,
+                until: until.min(rest.until),
+            }
+        }
+    }
+}
+
+impl Stretch {
+    /// The stretch that holds a column: this one, or one that begins there.
+    pub(crate) fn at<S: Site>(self, site: &S, c: usize, stack: &Stack) -> Stretch
+        requires column { c < 2 ^ 64 - 1 }
+        requires fits { Fits (length (S.here site.now).rules.items) (reverse stack.now) }
+        requires shows { ShowsOver (S.here site.now).rules (reverse stack.now) c self }
+        ensures behind { c < result.until }
+        ensures shows { ShowsOver (S.here site.now).rules (reverse stack.now) c result }
+    {
+        if c < self.until {
+            self
+        } else {
+            shown_from(site, c, stack)
+        }
     }
 }

@@ -1,4 +1,4 @@
-use Rattle.std.proofs.Common.{◌≡◌, ◌<◌, ◌+◌, ◌∙◌, ap, suc, List, ℕ, length, drop, get_or, drop-cons, arith}
+use Rattle.std.proofs.Common.{◌≡◌, ◌<◌, ◌+◌, ◌∙◌, ap, sym, suc, List, ℕ, length, drop, get_or, drop-cons, arith}
 use Rattle.std.specs.Prelude.{Some, Option, pos}
 use Rattle.syn_base.specs.Looked.{one_line}
 use Rattle.syn_base.specs.declared.places.GroupId.{GroupId}
@@ -28,11 +28,13 @@ quiet-preserved g c =
           (c.requires.quiet at c.quiet.invariant.from c.quiet-test.true) j c.quiet.spans
           c.show.new.self (get_or line at 0) (drop (suc at) line) c.requires.held
           (λ rest. c.in_ok-show.ensures rest
-          ∙ ap (λ (g : Option GroupId). chained c.quiet.spans (joined at g rest)) c.shown.ensures)
+          ∙ ap (λ (g : Option GroupId). chained c.quiet.spans (joined at g rest))
+          (sym (c.at-stretch.ensures.shows at (omega arith) c.at-stretch.ensures.behind)))
           ∙ ap (λ (n : ℕ). looked_first (Some j) (painted_rest h n (drop n line) s c.show.new.self))
           next));
       from = omega (arith, c.quiet.invariant.from);
       to = omega (arith, c.quiet-test.true);
+      shows = λ d from within. c.at-stretch.ensures.shows d (omega (arith, from)) within;
     }
 
 pub returns : goal.returns

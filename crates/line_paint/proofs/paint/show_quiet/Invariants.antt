@@ -1,9 +1,10 @@
-use Rattle.std.proofs.Common.{◌≡◌, ◌≤◌, ◌-◌, drop}
+use Rattle.std.proofs.Common.{◌≡◌, ◌≤◌, ◌-◌, drop, reverse}
 use Rattle.std.specs.Prelude.{Some}
 use Rattle.paint_rules.specs.Painted.{looked_first}
 use Rattle.paint_rules.specs.Rules.{this_line}
 use Rattle.line_paint.specs.Leads.{standing_of}
 use Rattle.line_paint.specs.Line.{painted_rest}
+use Rattle.line_paint.specs.Stretches.{ShowsOver}
 use Rattle.line_paint.proofs.paint.show_quiet.Given as goal
 
 -- what is left is the line from `c` on
@@ -17,6 +18,7 @@ invariant-quiet g l =
           (painted_rest h l.c (drop l.c (this_line h)) (standing_of l.standing) l.spans);
       from : l.from ≤ l.c;
       to : l.c ≤ l.to;
+      shows : ShowsOver h.rules (reverse (l.standing).state.stack) l.c l.stretch;
     }
 
 abbrev pub decreases-quiet : goal.decreases-quiet
