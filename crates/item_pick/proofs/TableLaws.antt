@@ -1,6 +1,6 @@
 -- What is kept says of an item, and what that means for picking.
 use Rattle.std.proofs.Common.{◌≡◌, ◌∙◌, refl, sym, ap, subst, arith, ℕ, zero, suc, ◌+◌, ◌-◌, ◌<◌, ◌≤◌, ◌⊎◌, inl, inr, Bool, true, false, List, [], ◌∷◌, length, get_or}
-use Rattle.std.specs.Prelude.{IfSome, IsTrue, slice_get, Result, Ok, Err, IfOk, Option, Some, None, not, ◌&&◌, ◌||◌, nat_lt, nat_eq, is_none, pos, ◌+ℤ◌}
+use Rattle.std.specs.Prelude.{IfSome, IsTrue, slice_get, Result, Ok, Err, IfOk, Option, Some, None, not, slice_index, ◌&&◌, ◌||◌, nat_lt, nat_eq, is_none, pos, ◌+ℤ◌}
 use Rattle.std.specs.List.{All, list_any}
 use Rattle.std.proofs.lemmas.Bool.{cases_lt}
 use Rattle.std.proofs.lemmas.Bool.Decides.{nat_tests}
@@ -18,7 +18,10 @@ use Rattle.paint_rules.specs.Painted.{looked_first}
 use Rattle.paint_rules.specs.Rules.{Rules, item_of, no_externals, place_at, same_item}
 use Rattle.paint_rules.specs.ItemMatch.{match_from}
 use Rattle.paint_rules.specs.Offsets.{within_line}
-use Rattle.pattern_screens.specs.Keys.{AreNumbers, key_numbered, key_of}
+use Rattle.char_class.specs.declared.sets.Sets.{Sets}
+use Rattle.match_rules.specs.Atoms.{has_keyword}
+use Rattle.pattern_screens.specs.Keys.{AreNumbers, is_first, key_numbered, key_of, last_of}
+use Rattle.pattern_screens.specs.declared.key.Key.{Key}
 use Rattle.pattern_screens.proofs.Stands.{both_true}
 use Rattle.item_pick.specs.declared.choice.Choice.{Choice}
 use Rattle.item_pick.specs.declared.memory.PickMemory.{PickMemory}
@@ -30,7 +33,7 @@ use Rattle.item_pick.specs.Runs.{Covers, TellsOf}
 use Rattle.item_pick.specs.Screens.{HoldsLine, IsIdle, IsLater, IsSettled}
 use Rattle.item_pick.specs.Standing.{first_pattern, has_one_start, IsFirst, IsPatternOf}
 use Rattle.item_pick.specs.Started.{admits, is_free}
-use Rattle.item_pick.specs.Tables.{fails, is_vain, passes, IsEnough, IsMissed, IsNextAt, IsNextIn, IsNumberAt, IsVainAt, Lacks, ListStands, MemoryStands, RunStands, StaysOut, TablesStand, VainStands}
+use Rattle.item_pick.specs.Tables.{fails, is_vain, passes, AnchorStands, IsAnchored, IsEnough, IsMissed, IsNextAt, IsNextIn, IsNumberAt, IsVainAt, Lacks, ListStands, MemoryStands, RunStands, StaysOut, TablesStand, VainStands}
 use Rattle.item_pick.proofs.MatchLaws.{no_start}
 use Rattle.item_pick.proofs.QuietLaws.{earlier}
 use Rattle.item_pick.proofs.ScreenLaws.{futile_idle}
@@ -267,3 +270,35 @@ narrowed r choice number all list stands kept j within admitted lacks = elim (ha
   | inr has ↦ subst (λ n. StaysOut r number (item_numbered n)) has.2
       (kept has.0 has.1 (omega (arith, has.2, within)) (subst (Lacks list) (sym has.2) lacks))
 ]
+
+-- ---- items that match from a line's first column alone
+
+-- what was answered of a first pattern is true of the item
+pub anchored_by : (r : Rules) (i : ItemId) (ignore : Bool) → ignore ≡ (item_of r.items i).ignore → (pattern : Pattern) → IsFirst r i pattern →
+    ((number : ℕ) → number < 777 → is_first (key_numbered number).last ≡ false → is_vain r.sets r.budget ignore number pattern ≡ true) → IsAnchored r i
+anchored_by r i ignore same pattern first told number below behind other own =
+    subst (λ (q : Pattern). is_vain r.sets r.budget (item_of r.items i).ignore number q ≡ true) (one_first r i pattern other first own)
+    (subst (λ b. is_vain r.sets r.budget b number pattern ≡ true) same (told number below behind))
+
+-- behind the first column something stands before
+not_first : (sets : Sets) (line : List ℕ) (col : ℕ) → 0 < col → is_first (key_of sets line col).last ≡ false
+not_first sets line zero h = absurd (omega (arith, h))
+not_first sets line (suc col) h = elim (has_keyword sets (slice_get line col)) as (λ b. is_first (last_of b) ≡ false) [ true ↦ refl | false ↦ refl ]
+
+-- so it is missed from each column but a line's first one
+pub anchored_missed : (r : Rules) (t : Text) (l : ℕ) (memory : PickMemory) → MemoryStands r t l memory → (i : ItemId) → IsAnchored r i → (pattern : Pattern) → IsFirst r i pattern →
+    (col : ℕ) → 0 < col → col < length memory.numbers.items → IsMissed r (line_at t l) i pattern col
+anchored_missed r t l memory stands i anchored pattern first col behind within =
+    let line = line_at t l in
+    let number = slice_index memory.numbers.items col in
+    let below : col < length line + 1 = omega (arith, within, stands.keys.many) in
+    let is : key_numbered number ≡ key_of r.sets line col = stands.keys.are col below in
+    let h : is_first (key_numbered number).last ≡ false = subst (λ (k : Key). is_first k.last ≡ false) (sym is) (not_first r.sets line col behind) in
+    vain_is_missed r line col number (omega (arith, below), is) i (anchored number (stands.keys.below col below) h) pattern first
+
+-- what is missed by what stood of a line, is so where only tables were made
+pub missed_still : (r : Rules) (a b : PickMemory) → TablesStand r b → b.numbers ≡ a.numbers → b.runs ≡ a.runs → (i : ItemId) (pattern : Pattern) (from : ℕ) (result : Result ℕ Memory) →
+    IfOk result (λ to. (t : Text) (l : ℕ) → MemoryStands r t l b → (c : ℕ) → from ≤ c → c < to → IsMissed r (line_at t l) i pattern c) →
+    IfOk result (λ to. (t : Text) (l : ℕ) → MemoryStands r t l a → (c : ℕ) → from ≤ c → c < to → IsMissed r (line_at t l) i pattern c)
+missed_still r a b tables numbers runs i pattern from (Ok to) h = λ t l stands. h t l (still_stands r t l a b tables numbers runs stands)
+missed_still r a b tables numbers runs i pattern from (Err memory) h = tt

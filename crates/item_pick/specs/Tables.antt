@@ -9,9 +9,10 @@ use Rattle.match_rules.specs.Ways.{Text, line_at}
 use Rattle.syntax_set.specs.declared.item.Pattern.{Pattern}
 use Rattle.paint_rules.specs.Rules.{Rules, item_of}
 use Rattle.pattern_screens.specs.Bounds.{failing_cost}
-use Rattle.pattern_screens.specs.Keys.{AreNumbers, key_numbered, key_of}
+use Rattle.pattern_screens.specs.Keys.{AreNumbers, is_first, key_numbered, key_of}
 use Rattle.pattern_screens.specs.Screens.{is_futile, verdict}
 use Rattle.pattern_screens.specs.declared.key.Key.{Key}
+use Rattle.item_pick.specs.declared.anchors.Anchor.{Anchor}
 use Rattle.item_pick.specs.declared.choice.Choice.{Choice}
 use Rattle.item_pick.specs.declared.memory.PickMemory.{PickMemory}
 use Rattle.item_pick.specs.declared.runs.Run.{Run}
@@ -84,6 +85,14 @@ IsVainAt r number i =
 abbrev pub VainStands : Rules → Vain → Type 0
 VainStands r vain = vain.is ≡ true → IsVainAt r vain.number vain.item
 
+-- they are in vain at each column that has one before it, whatever stands there
+abbrev pub IsAnchored : Rules → ItemId → Type 0
+IsAnchored r i =
+    (number : ℕ) → number < 777 → is_first (key_numbered number).last ≡ false → IsVainAt r number i
+
+abbrev pub AnchorStands : Rules → Anchor → Type 0
+AnchorStands r anchor = anchor.is ≡ true → IsAnchored r anchor.item
+
 -- an attempt at a column of a line has no way, looks at its line alone, and is within the budget
 abbrev pub IsMissed : Rules → List ℕ → ItemId → Pattern → ℕ → Type 0
 IsMissed r line i pattern c =
@@ -93,6 +102,7 @@ IsMissed r line i pattern c =
 pub record TablesStand (r : Rules) (memory : PickMemory) : Type 0 where
   pub rows : All (RowStands r) memory.rows.items
   pub vains : All (VainStands r) memory.vains.list.items
+  pub anchors : All (AnchorStands r) memory.anchors.list.items
 
 -- ---- what is known of the line
 

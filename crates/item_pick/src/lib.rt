@@ -5,6 +5,7 @@
 #![tactic(auto)]
 
 mod allowed;
+mod anchors;
 mod answer;
 mod asked;
 mod asking;

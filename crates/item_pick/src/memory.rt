@@ -7,8 +7,9 @@ ghost use Rattle.item_pick.specs.PartsSeen.{rules_in};
 ghost use Rattle.item_pick.specs.Quiet.{IsQuiet, item_numbered};
 ghost use Rattle.item_pick.specs.Runs.{TellsOf};
 ghost use Rattle.item_pick.specs.Standing.{ChoiceFits, IsFirst, IsItem, IsOwn};
-ghost use Rattle.item_pick.specs.Tables.{IsMissed, IsNextAt, IsNextIn, IsNumberAt, IsVainAt, MemoryStands, RowStands, RunStands, TablesStand};
+ghost use Rattle.item_pick.specs.Tables.{IsAnchored, IsMissed, IsNextAt, IsNextIn, IsNumberAt, IsVainAt, MemoryStands, RowStands, RunStands, TablesStand};
 
+use crate::anchors::{Anchor, Anchors};
 use crate::asked::Asked;
 use crate::choice::Choice;
 use crate::columns::Columns;
@@ -44,6 +45,7 @@ pub struct PickMemory {
     /// Where a row of a choice and a key would be.
     places: Vec<usize>,
     vains: Vains,
+    anchors: Anchors,
     numbers: Vec<u16>,
     runs: Runs,
 }
@@ -59,6 +61,7 @@ impl PickMemory {
             starts: Vec::new(alloc),
             places: Vec::new(alloc),
             vains: Vains::new(alloc),
+            anchors: Anchors::new(alloc),
             numbers: Vec::new(alloc),
             runs: Runs::new(alloc),
         }
@@ -101,6 +104,7 @@ impl PickMemory {
     fn note(&mut self, choice: Choice, number: u16) -> Result<(), Memory>
         ensures rows { self.new.rows ≡ self.old.rows }
         ensures vains { self.new.vains ≡ self.old.vains }
+        ensures anchors { self.new.anchors ≡ self.old.anchors }
         ensures numbers { self.new.numbers ≡ self.old.numbers }
         ensures runs { self.new.runs ≡ self.old.runs }
     {
@@ -317,8 +321,9 @@ impl PickMemory {
         }
     }
 
-    /// The first column from one on from which an item may match by its first start pattern.
-    fn first_open(
+    /// The first column from one on from which an item isn't known not to match by its first start
+    /// pattern.
+    fn first_unmissed(
         &mut self,
         asked: &Asked,
         id: ItemId,
@@ -346,6 +351,56 @@ impl PickMemory {
             }
         }
         Ok(from.max(end))
+    }
+
+    /// Whether an item has no match by its first start pattern but from a line's first column. The
+    /// answer is kept.
+    fn is_anchored(&mut self, asked: &Asked, id: ItemId, pattern: &Pattern) -> Result<bool, Memory>
+        requires item { IsItem (rules_in asked.now.parts.now asked.now.budget) id }
+        requires first { IsFirst (rules_in asked.now.parts.now asked.now.budget) id pattern.now }
+        requires stands { TablesStand (rules_in asked.now.parts.now asked.now.budget) self.old }
+        ensures stands { TablesStand (rules_in asked.now.parts.now asked.now.budget) self.new }
+        ensures numbers { self.new.numbers ≡ self.old.numbers }
+        ensures runs { self.new.runs ≡ self.old.runs }
+        ensures anchored { IfOk result (λ anchored. IsTrue anchored →
+            IsAnchored (rules_in asked.now.parts.now asked.now.budget) id) }
+    {
+        match self.anchors.known(id) {
+            Some(is) => return Ok(is),
+            None => {}
+        }
+        let ignore = item_of(asked.parts.items, id).ignore;
+        let is = asked.is_anchored(ignore, pattern);
+        self.anchors.keep(Anchor { item: id, is })?;
+        Ok(is)
+    }
+
+    /// The first column from one on from which an item may match by its first start pattern.
+    fn first_open(
+        &mut self,
+        asked: &Asked,
+        id: ItemId,
+        pattern: &Pattern,
+        from: usize,
+    ) -> Result<usize, Memory>
+        requires item { IsItem (rules_in asked.now.parts.now asked.now.budget) id }
+        requires first { IsFirst (rules_in asked.now.parts.now asked.now.budget) id pattern.now }
+        requires stands { TablesStand (rules_in asked.now.parts.now asked.now.budget) self.old }
+        ensures stands { TablesStand (rules_in asked.now.parts.now asked.now.budget) self.new }
+        ensures numbers { self.new.numbers ≡ self.old.numbers }
+        ensures runs { self.new.runs ≡ self.old.runs }
+        ensures from { IfOk result (λ to. from ≤ to) }
+        ensures missed { IfOk result (λ to. (t : Text) (l : ℕ) →
+            MemoryStands (rules_in asked.now.parts.now asked.now.budget) t l self.old →
+            (c : ℕ) → from ≤ c → c < to →
+            IsMissed (rules_in asked.now.parts.now asked.now.budget) (line_at t l) id pattern.now
+            c) }
+    {
+        let anchored = self.is_anchored(asked, id, pattern)?;
+        if anchored && from > 0 {
+            return Ok(from.max(self.numbers.len()));
+        }
+        self.first_unmissed(asked, id, pattern, from)
     }
 
     /// The run of an item that holds a column or ends there, and tells of a place: one that has no

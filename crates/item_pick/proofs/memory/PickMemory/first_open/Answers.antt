@@ -1,24 +1,17 @@
-use Rattle.std.proofs.Common.{◌≡◌, ◌∙◌, ℕ, subst, arith, inl, inr}
-use Rattle.std.proofs.lemmas.Bool.{cases_lt}
-use Rattle.match_rules.specs.Ways.{line_at}
+use Rattle.std.proofs.Common.{◌<◌, arith, length, subst}
 use Rattle.item_pick.specs.PartsSeen.{rules_in}
-use Rattle.item_pick.specs.Tables.{IsMissed}
-use Rattle.item_pick.proofs.TableLaws.{still_stands}
+use Rattle.item_pick.proofs.TableLaws.{anchored_missed, missed_still}
 use Rattle.item_pick.proofs.memory.PickMemory.first_open.Goals as goal
 
-pub loop-col-preserved : goal.loop-col-preserved
-loop-col-preserved c =
+pub returns-then-from-gt0-clause-missed : goal.returns-then-from-gt0-clause-missed
+returns-then-from-gt0-clause-missed c t l stands k from below =
     let r = rules_in c.args.asked.now.parts.now c.args.asked.now.budget in
-    let before = c.loop-col.invariant in
-    record {
-      stands = c.is_missed.ensures.stands;
-      numbers = c.is_missed.ensures.numbers ∙ before.numbers;
-      runs = c.is_missed.ensures.runs ∙ before.runs;
-      missed = λ t l memory k from below. elim (cases_lt k c.loop-col.col) [
-        | inl early ↦ before.missed t l memory k from early
-        | inr behind ↦
-            let here : c.loop-col.col ≡ k = omega (arith, below, behind) in
-            subst (λ (n : ℕ). IsMissed r (line_at t l) c.args.id c.args.pattern.now n) here
-            (c.in_ok-missed.ensures.missed c.if-not-missed.false t l (still_stands r t l c.args.self.now c.loop-col.self before.stands before.numbers before.runs memory))
-      ];
-    }
+    let within : k < length (c.is_anchored.new.self.numbers.items) = omega (arith, from, below, c.max.ensures, c.len.ensures) in
+    anchored_missed r t l c.args.self.now stands c.args.id (c.in_ok-anchored.ensures.anchored c.if-anchored.true) c.args.pattern.now c.requires.first k
+    (omega (arith, c.if-from-gt0.true, from)) (subst (λ v. k < length v.items) c.is_anchored.ensures.numbers within)
+
+pub returns-clause-missed : goal.returns-clause-missed
+returns-clause-missed c =
+    let r = rules_in c.args.asked.now.parts.now c.args.asked.now.budget in
+    missed_still r c.args.self.now c.is_anchored.new.self c.is_anchored.ensures.stands c.is_anchored.ensures.numbers c.is_anchored.ensures.runs
+    c.args.id c.args.pattern.now c.args.from c.first_unmissed.result c.first_unmissed.ensures.missed

@@ -16,6 +16,7 @@ returns-in_err-keep-clause-stands c =
       rows = c.requires.stands.rows;
       vains = c.keep.ensures r c.requires.stands.vains
           (vain_stands r c.args.id c.args.number c.item_of.result.now.ignore (ap (λ (x : Item). x.ignore) c.item_of.ensures) c.args.pattern.now c.requires.first c.is_vain-is.result c.is_vain-is.ensures);
+      anchors = c.requires.stands.anchors;
     }
 
 pub returns-clause-stands : goal.returns-clause-stands
@@ -25,4 +26,5 @@ returns-clause-stands c =
       rows = c.requires.stands.rows;
       vains = c.keep.ensures r c.requires.stands.vains
           (vain_stands r c.args.id c.args.number c.item_of.result.now.ignore (ap (λ (x : Item). x.ignore) c.item_of.ensures) c.args.pattern.now c.requires.first c.is_vain-is.result c.is_vain-is.ensures);
+      anchors = c.requires.stands.anchors;
     }

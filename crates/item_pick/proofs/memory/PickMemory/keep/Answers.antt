@@ -1,7 +1,7 @@
 use Rattle.std.proofs.Common.{sym, subst, [], ◌∷◌}
 use Rattle.std.specs.List.{All}
 use Rattle.std.proofs.lemmas.List.Elements.{All-append, All-cons, All-nil}
-use Rattle.item_pick.specs.Tables.{RowStands, VainStands}
+use Rattle.item_pick.specs.Tables.{AnchorStands, RowStands, VainStands}
 use Rattle.item_pick.proofs.memory.PickMemory.keep.Goals as goal
 
 pub returns-clause-stands : goal.returns-clause-stands
@@ -11,4 +11,5 @@ returns-clause-stands c r tables row = record {
       (subst (λ rows. All (RowStands r) rows.items) (sym c.note.ensures.rows) tables.rows)
       (All-cons (RowStands r) c.args.row [] row (All-nil (RowStands r))));
   vains = subst (λ vains. All (VainStands r) vains.list.items) (sym c.note.ensures.vains) tables.vains;
+  anchors = subst (λ anchors. All (AnchorStands r) anchors.list.items) (sym c.note.ensures.anchors) tables.anchors;
 }

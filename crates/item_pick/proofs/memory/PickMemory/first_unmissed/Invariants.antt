@@ -2,7 +2,7 @@ use Rattle.std.proofs.Common.{◌≡◌, ◌<◌, ◌≤◌, ℕ}
 use Rattle.match_rules.specs.Ways.{Text, line_at}
 use Rattle.item_pick.specs.PartsSeen.{rules_in}
 use Rattle.item_pick.specs.Tables.{IsMissed, MemoryStands, TablesStand}
-use Rattle.item_pick.proofs.memory.PickMemory.first_open.Given as goal
+use Rattle.item_pick.proofs.memory.PickMemory.first_unmissed.Given as goal
 
 -- the columns before are missed
 abbrev pub invariant-loop-col : goal.invariant-loop-col
