@@ -13,7 +13,7 @@ use Rattle.paint_rules.specs.Painted.{Painted, Done, looked_first, done, ◌>>=�
 use Rattle.paint_rules.specs.Rules.{Rules, Matched, Cause, attempted, no_externals, place_at}
 use Rattle.paint_rules.specs.Offsets.{within_line}
 use Rattle.paint_rules.specs.ItemMatch.{may_start, starts_at, looks_at_end, match_from, item_match}
-use Rattle.item_pick.specs.Screens.{HoldsLine, IsIdle, IsSettled}
+use Rattle.item_pick.specs.Screens.{HoldsLines, IsIdle, IsSettled}
 use Rattle.item_pick.specs.Columns.{may_start_at, Holds}
 use Rattle.item_pick.specs.declared.columns.Columns.{Columns}
 use Rattle.paint_rules.proofs.PaintedLaws.{goes_on}
@@ -91,11 +91,10 @@ module _ (r : Rules) (t : Text) (i : ItemId) (pattern : Pattern) (p : Place) (la
 -- what an attempt tells of all places of its line
 module _ (r : Rules) (t : Text) (l : ℕ) (i : ItemId) (pattern : Pattern) (c : ℕ) (found : Option Matched) (looked : Looked)
     (told : attempted r t i no_externals pattern (place_at l c) ≡ Done found (Some looked)) where
-  module _ (at : ℕ) (alone : looked ≡ one_line (pos l)) (k : Looked) (held : HoldsLine k l) where
+  module _ (at : ℕ) (k : Looked) (held : HoldsLines k looked) where
     told_after : looked_first (Some k) (attempted r t i no_externals pattern (place_at l c)) ≡ Done found (Some k)
     told_after =
-        ap (looked_first (Some k)) told
-        ∙ ap (λ (n : Looked). Done found (Some n)) (ap (hull_of k) alone ∙ held)
+        ap (looked_first (Some k)) told ∙ ap (λ (n : Looked). Done found (Some n)) held
 
     by_found : (m : Option Matched) → found ≡ m → starts_at t pattern (place_at l at) m ≡ false →
         may_start_at pattern (length (line_at t l)) at c ≡ true → IsIdle (match_from r t i pattern (place_at l at)) k c
@@ -107,7 +106,7 @@ module _ (r : Rules) (t : Text) (l : ℕ) (i : ItemId) (pattern : Pattern) (c : 
     by_may s true e = by_found found refl s e
 
   pub told_settled : (above below : ℕ) →
-      ((at : ℕ) → above ≤ at → at < below → (looked ≡ one_line (pos l)) × (starts_at t pattern (place_at l at) found ≡ false)) →
-      IsSettled r t l i pattern above below c
-  told_settled above below h at a b k held =
-      by_may at (h at a b).0 k held (h at a b).1 (may_start_at pattern (length (line_at t l)) at c) refl
+      ((at : ℕ) → above ≤ at → at < below → starts_at t pattern (place_at l at) found ≡ false) →
+      IsSettled r t l i pattern above below looked c
+  told_settled above below h at a b k _ held =
+      by_may at k held (h at a b) (may_start_at pattern (length (line_at t l)) at c) refl

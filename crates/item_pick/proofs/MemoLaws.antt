@@ -11,12 +11,13 @@ use Rattle.pattern_screens.specs.FirstAtoms.{first_cost}
 use Rattle.pattern_screens.proofs.FirstScreens.{first-law}
 use Rattle.paint_rules.specs.Rules.{item_of, no_externals, place_at}
 use Rattle.paint_rules.specs.Syntax.{attempt_by, context_of}
+use Rattle.syn_base.specs.declared.looked.Looked.{Looked}
 use Rattle.syn_base.specs.declared.places.Place.{Place}
 use Rattle.syn_base.specs.declared.places.ItemId.{ItemId}
 use Rattle.syntax_set.specs.declared.item.Pattern.{Pattern}
 use Rattle.item_pick.specs.Attempts.{IsFutile}
 use Rattle.item_pick.specs.PartsSeen.{rules_in}
-use Rattle.item_pick.specs.Screens.{IsLater}
+use Rattle.item_pick.specs.Screens.{HoldsLine, IsLater}
 use Rattle.item_pick.specs.declared.parts.Parts.{Parts}
 use Rattle.item_pick.proofs.ScreenLaws.{futile_idle}
 
@@ -28,17 +29,17 @@ vain_futile sets tree t ignore l c e =
     let h = first-law tree (context_of sets t ignore no_externals) l c e in
     (ap (option_map (match_of t (place_at l c))) h.way, h.cost, h.looked)
 
-module _ (parts : Parts) (budget : ℕ) (t : Text) (p : Place) (i : ItemId) (pattern : Pattern) (cheap : first_cost pattern.tree.node ≤ budget) where
+module _ (parts : Parts) (budget : ℕ) (t : Text) (p : Place) (i : ItemId) (pattern : Pattern) (cheap : first_cost pattern.tree.node ≤ budget) (k : Looked) (held : HoldsLine k p.line) where
   -- the screen of the item's pattern at a column of the line
   abbrev screen : ℕ → Bool
   screen c = passes_at pattern.tree parts.sets.now (item_of parts.items.now i).ignore (line_at t p.line) c
 
   -- the match of an item may be sought behind columns where the screen fails
   later_by : (col next : ℕ) → col ≤ next → ((c : ℕ) → col ≤ c → c < next → c ≤ length (line_at t p.line) → screen c ≡ false) →
-      IsLater (rules_in parts budget) t i pattern p col next
+      IsLater (rules_in parts budget) t i pattern p k col next
   later_by col next ahead fails = record {
     ahead = ahead;
-    idle = λ k held c from below within.
+    idle = λ c from below within.
         futile_idle (rules_in parts budget) t i pattern p c (first_cost pattern.tree.node) k held
         (vain_futile parts.sets.now pattern.tree t (item_of parts.items.now i).ignore p.line c (fails c from below within)) cheap;
   }
@@ -51,14 +52,14 @@ module _ (parts : Parts) (budget : ℕ) (t : Text) (p : Place) (i : ItemId) (pat
     of_line = subst (λ (xs : List ℕ). is_next xs col found) is told
 
     -- from the column that the memo answers
-    pub later_found : (next : ℕ) → found ≡ Some next → IsLater (rules_in parts budget) t i pattern p col next
+    pub later_found : (next : ℕ) → found ≡ Some next → IsLater (rules_in parts budget) t i pattern p k col next
     later_found next e =
         let h = subst (is_next (line_at t p.line) col) e of_line in
         later_by col next h.from (λ c from below within. h.least c from below)
 
     -- from behind the line's end, where it answers none
     pub later_none : (last : ℕ) → last ≡ length (line_at t p.line) → col ≤ last → found ≡ None →
-        IsLater (rules_in parts budget) t i pattern p col (last + 1)
+        IsLater (rules_in parts budget) t i pattern p k col (last + 1)
     later_none last is_last ahead e =
         let h = subst (is_next (line_at t p.line) col) e of_line in
         later_by col (last + 1) (omega (arith, ahead)) (λ c from below within. h c from within)

@@ -17,7 +17,7 @@ use Rattle.paint_rules.specs.Pick.{Starting, match_start, region_start, start_by
 use Rattle.item_pick.specs.declared.choice.Choice.{Choice}
 use Rattle.item_pick.specs.Quiet.{IsEarlier, IsNextItem, IsQuiet, item_numbered}
 use Rattle.item_pick.specs.Standing.{IsPatternOf}
-use Rattle.item_pick.specs.Screens.{HoldsLine, IsIdle}
+use Rattle.item_pick.specs.Screens.{IsIdle}
 use Rattle.item_pick.specs.Started.{here_at, is_free, start_at, start_if_free}
 use Rattle.item_pick.proofs.FoundLaws.{below, below_none, skip_rest}
 use Rattle.paint_rules.proofs.PaintedLaws.{goes_on}
@@ -27,11 +27,11 @@ some_at [] n h = absurd (omega arith)
 some_at (x ∷ xs) zero h = (x, refl)
 some_at (x ∷ xs) (suc n) h = some_at xs n (omega arith)
 
-module _ (r : Rules) (t : Text) (p : Place) (floor : ℕ) (k : Looked) (held : HoldsLine k p.line) where
-  module _ (i : ItemId) (quiet : IsQuiet r t p floor i) where
+module _ (r : Rules) (t : Text) (p : Place) (floor : ℕ) (k : Looked) where
+  module _ (i : ItemId) (quiet : IsQuiet r t p floor k i) where
     pattern_quiet : (pattern : Pattern) → IsPatternOf (item_of r.items i).kind pattern → looked_first (Some k) (item_match r t i pattern p floor) ≡ Done None (Some k)
     pattern_quiet pattern its =
-        skip_rest (match_from r t i pattern p) (length (line_at t p.line)) k (floor - pattern.lc) (quiet pattern its k held)
+        skip_rest (match_from r t i pattern p) (length (line_at t p.line)) k (floor - pattern.lc) (quiet pattern its)
 
     starts_quiet : (starts : List Pattern) → ((n : ℕ) (pattern : Pattern) → Some pattern ≡ slice_get starts n → IsPatternOf (item_of r.items i).kind pattern) →
         (n : ℕ) → n ≤ length starts → below (start_at r t p floor i) starts k n ≡ Done None (Some k)
@@ -61,15 +61,15 @@ module _ (r : Rules) (t : Text) (p : Place) (floor : ℕ) (k : Looked) (held : H
       quiet_idle = by_free (is_free r tried choice i)
 
   pub passed_idle : (tried : List ItemId) (choice : Choice) (i : ItemId) →
-      ((is_free r tried choice i ≡ false) ⊎ IsQuiet r t p floor i) → IsIdle (start_if_free r t p floor tried choice) k i
+      ((is_free r tried choice i ≡ false) ⊎ IsQuiet r t p floor k i) → IsIdle (start_if_free r t p floor tried choice) k i
   passed_idle tried choice i (inl e) =
       ap (λ b. looked_first (Some k) (elim b as (λ _. Painted Cause (Option Starting)) [ true ↦ start_by (here_at r t p) p.col floor i (item_of r.items i).kind | false ↦ done None ])) e
   passed_idle tried choice i (inr quiet) = quiet_idle i quiet tried choice
 
 -- the items behind those that are left may be passed over
-pub earlier : (r : Rules) (t : Text) (p : Place) (floor : ℕ) (tried : List ItemId) (choice : Choice) (left next : ℕ) →
-    IsNextItem r t p floor tried choice left next → IsEarlier r t p floor tried choice left next
-earlier r t p floor tried choice left next h = record {
+pub earlier : (r : Rules) (t : Text) (p : Place) (floor : ℕ) (tried : List ItemId) (choice : Choice) (k : Looked) (left next : ℕ) →
+    IsNextItem r t p floor tried choice k left next → IsEarlier r t p floor tried choice k left next
+earlier r t p floor tried choice k left next h = record {
   behind = h.0;
-  idle = λ k held j a b. passed_idle r t p floor k held tried choice (item_numbered j) (h.1 j a b);
+  idle = λ j a b. passed_idle r t p floor k tried choice (item_numbered j) (h.1 j a b);
 }

@@ -1,11 +1,10 @@
 -- Places at which nothing starts.
 use Rattle.std.proofs.Common.{◌≡◌, ◌∙◌, refl, ap, arith, ℕ, inl, Bool, false, List, [], ◌∷◌, length}
-use Rattle.std.specs.Prelude.{Option, Some, None, ℤ, pos, option_map, take, drop, ◌-◌}
+use Rattle.std.specs.Prelude.{Option, Some, None, option_map, take, drop, ◌-◌}
 use Rattle.std.specs.List.{find, list_any}
-use Rattle.std.proofs.lemmas.Int.{ints}
 use Rattle.syn_base.specs.declared.places.Place.{Place}
 use Rattle.syn_base.specs.declared.places.ItemId.{ItemId}
-use Rattle.syn_base.specs.Looked.{one_line, lesser, greater}
+use Rattle.syn_base.specs.declared.looked.Looked.{Looked}
 use Rattle.match_rules.specs.Ways.{Text, line_at}
 use Rattle.keyword_table.specs.Candidates.{candidates}
 use Rattle.keyword_table.specs.Words.{begins_word, word_end}
@@ -18,22 +17,12 @@ use Rattle.item_pick.specs.declared.choice.Choice.{Choice}
 use Rattle.item_pick.specs.declared.choice.Choice.TheVariants.{NoItem}
 use Rattle.item_pick.specs.Quiet.{IsNextItem, item_numbered}
 use Rattle.item_pick.specs.QuietPlaces.{IsQuietAt}
-use Rattle.item_pick.specs.Screens.{HoldsLine}
 use Rattle.item_pick.specs.Started.{admits, here_at, is_free, start_if_free}
 use Rattle.item_pick.specs.Tables.{IsNextAt}
 use Rattle.item_pick.proofs.FoundLaws.{items_skip}
 use Rattle.item_pick.proofs.PickLaws.{allowed_as, among, no_word}
 use Rattle.item_pick.proofs.QuietLaws.{earlier}
 use Rattle.item_pick.proofs.TableLaws.{next_items, not_free}
-
-same_least : (a : ℤ) → lesser a a ≡ a
-same_least a = grind (arith, ints)
-
-same_greatest : (a : ℤ) → greater a a ≡ a
-same_greatest a = grind (arith, ints)
-
-holds_itself : (l : ℕ) → HoldsLine (one_line (pos l)) l
-holds_itself l = λ i. record { low = same_least (pos l) i; high = same_greatest (pos l) i }
 
 no_end : (line : List ℕ) (c : ℕ) (set : List ℕ) → begins_word set line c ≡ false → word_end line c set ≡ None
 unfolding word_end
@@ -52,38 +41,36 @@ none_admitted : (r : Rules) (test : ItemId → Bool) → ((i : ItemId) → test 
 none_admitted r test none line c None = refl
 none_admitted r test none line c (Some end) = ap (option_map (λ (i : ItemId). record { item = i; end = end })) (find_none test none (candidates r.keywords (take (end - c) (drop c line))))
 
-module _ (r : Rules) (t : Text) (p : Place) (floor : ℕ) (choice : Choice) where
+module _ (r : Rules) (t : Text) (p : Place) (floor : ℕ) (k : Looked) (choice : Choice) where
   -- without a keyword, where all items may be passed over
   quiet_by : keyword_at r (is_free r [] choice) (line_at t p.line) p.col ≡ None →
-      IsNextItem r t p floor [] choice (length r.items) 0 → IsQuietAt r t choice floor p
+      IsNextItem r t p floor [] choice k (length r.items) 0 → IsQuietAt r t choice floor k p
   quiet_by word next =
-      let k = one_line (pos p.line) in
-      let e = earlier r t p floor [] choice (length r.items) 0 next in
+      let e = earlier r t p floor [] choice k (length r.items) 0 next in
       ap (looked_first (Some k)) (no_word r t p floor [] choice word)
-      ∙ items_skip (start_if_free r t p floor [] choice) k (length r.items) 0 (length r.items) (omega arith) (e.idle k (holds_itself p.line))
+      ∙ items_skip (start_if_free r t p floor [] choice) k (length r.items) 0 (length r.items) (omega arith) e.idle
 
 never_free : (r : Rules) (i : ItemId) → is_free r [] NoItem i ≡ false
 never_free r i = not_free (list_any (same_item i) []) false refl
 
 -- nothing starts where nothing is allowed
-pub none_starts : (r : Rules) (t : Text) (p : Place) (floor : ℕ) → IsQuietAt r t NoItem floor p
-none_starts r t p floor =
-    quiet_by r t p floor NoItem (none_admitted r (is_free r [] NoItem) (never_free r) (line_at t p.line) p.col (word_end (line_at t p.line) p.col r.sets.keyword))
+pub none_starts : (r : Rules) (t : Text) (p : Place) (floor : ℕ) (k : Looked) → IsQuietAt r t NoItem floor k p
+none_starts r t p floor k =
+    quiet_by r t p floor k NoItem (none_admitted r (is_free r [] NoItem) (never_free r) (line_at t p.line) p.col (word_end (line_at t p.line) p.col r.sets.keyword))
     (omega arith, λ j a b. inl (never_free r (item_numbered j)))
 
 -- nothing starts where no word begins and no item of the choice is left
-pub row_empty : (r : Rules) (t : Text) (p : Place) (floor : ℕ) (choice : Choice) →
-    begins_word r.sets.keyword (line_at t p.line) p.col ≡ false → IsNextAt r t p floor choice (length r.items) 0 → IsQuietAt r t choice floor p
-row_empty r t p floor choice word next =
-    quiet_by r t p floor choice (no_keyword r (is_free r [] choice) (line_at t p.line) p.col word)
-    (next_items r t p floor [] choice (length r.items) 0 next)
+pub row_empty : (r : Rules) (t : Text) (p : Place) (floor : ℕ) (k : Looked) (choice : Choice) →
+    begins_word r.sets.keyword (line_at t p.line) p.col ≡ false → IsNextAt r t p floor k choice (length r.items) 0 → IsQuietAt r t choice floor k p
+row_empty r t p floor k choice word next =
+    quiet_by r t p floor k choice (no_keyword r (is_free r [] choice) (line_at t p.line) p.col word)
+    (next_items r t p floor [] choice k (length r.items) 0 next)
 
 -- so nothing is picked
 pub nothing_picked : (r : Rules) (t : Text) (at : Place) (c : ℕ) (stack : List Frame) (choice : Choice) →
-    ((i : ItemId) → is_allowed r stack i ≡ admits r choice i) → (floor : ℕ) → IsQuietAt r t choice floor (place_at at.line c) → (over : Bool) →
-    looked_first (Some (one_line (pos at.line))) (picked (here_at r t at) c (record { stack = stack; waiting = None; floor = floor; tried = []; is_over = over })) ≡ Done Nothing (Some (one_line (pos at.line)))
-nothing_picked r t at c stack choice same floor quiet over =
-    let k = one_line (pos at.line) in
+    ((i : ItemId) → is_allowed r stack i ≡ admits r choice i) → (floor : ℕ) (k : Looked) → IsQuietAt r t choice floor k (place_at at.line c) → (over : Bool) →
+    looked_first (Some k) (picked (here_at r t at) c (record { stack = stack; waiting = None; floor = floor; tried = []; is_over = over })) ≡ Done Nothing (Some k)
+nothing_picked r t at c stack choice same floor k quiet over =
     let p = place_at at.line c in
     ap (looked_first (Some k)) (allowed_as r t p floor [] choice stack same)
     ∙ goes_on k k (among r t p floor [] choice) None (λ found. done (or_nothing found)) quiet

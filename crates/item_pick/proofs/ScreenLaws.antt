@@ -5,7 +5,7 @@ use Rattle.std.proofs.lemmas.Int.{ints}
 use Rattle.std.proofs.lemmas.Bool.Decides.{nat_tests}
 use Rattle.syn_base.specs.declared.looked.Looked.{Looked}
 use Rattle.syn_base.specs.declared.places.Place.{Place}
-use Rattle.syn_base.specs.Looked.{hull_of, one_line}
+use Rattle.syn_base.specs.Looked.{hull_of, one_line, lesser, greater}
 use Rattle.match_rules.specs.Ways.{Text}
 use Rattle.match_rules.specs.Ways.{line_at}
 use Rattle.syn_base.specs.declared.places.ItemId.{ItemId}
@@ -15,7 +15,7 @@ use Rattle.paint_rules.specs.Rules.{Rules, Attempt, item_of, no_externals, place
 use Rattle.paint_rules.specs.ItemMatch.{match_from}
 use Rattle.item_pick.specs.Attempts.{IsFutile}
 use Rattle.item_pick.specs.Columns.{may_start_at}
-use Rattle.item_pick.specs.Screens.{HoldsLine, IsIdle}
+use Rattle.item_pick.specs.Screens.{HoldsLine, HoldsLines, IsIdle}
 use Rattle.paint_rules.proofs.PaintedLaws.{hull_assoc}
 use Rattle.item_pick.proofs.MatchLaws.{match_absent, no_start}
 
@@ -28,12 +28,34 @@ max_comm a b = grind (arith, ints)
 hull_comm : (a b : Looked) → hull_of a b ≡ hull_of b a
 hull_comm a b = λ i. record { low = min_comm a.low b.low i; high = max_comm a.high b.high i }
 
+same_least : (a : ℤ) → lesser a a ≡ a
+same_least a = grind (arith, ints)
+
+same_greatest : (a : ℤ) → greater a a ≡ a
+same_greatest a = grind (arith, ints)
+
+pub holds_itself : (l : ℕ) → HoldsLine (one_line (pos l)) l
+holds_itself l = λ i. record { low = same_least (pos l) i; high = same_greatest (pos l) i }
+
 -- lines looked at stay among those looked at
 wider : (j n : Looked) (l : ℕ) → HoldsLine j l → HoldsLine (hull_of j n) l
 wider j n l h =
     hull_assoc j n (one_line (pos l))
     ∙ (ap (hull_of j) (hull_comm n (one_line (pos l)))
     ∙ (sym (hull_assoc j (one_line (pos l)) n) ∙ ap (λ (k : Looked). hull_of k n) h))
+
+lesser_less : (k a b : ℤ) → lesser k (lesser a b) ≡ k → (lesser k a ≡ k) × (lesser k b ≡ k)
+lesser_less k a b e = (grind (arith, ints), grind (arith, ints))
+
+greater_less : (k a b : ℤ) → greater k (greater a b) ≡ k → (greater k a ≡ k) × (greater k b ≡ k)
+greater_less k a b e = (grind (arith, ints), grind (arith, ints))
+
+-- where the lines of two were looked at, those of each were
+pub each_held : (k a b : Looked) → HoldsLines k (hull_of a b) → HoldsLines k a × HoldsLines k b
+each_held k a b h =
+    let low = lesser_less k.low a.low b.low (ap (λ (x : Looked). x.low) h) in
+    let high = greater_less k.high a.high b.high (ap (λ (x : Looked). x.high) h) in
+    (λ i. record { low = low.0 i; high = high.0 i }, λ i. record { low = low.1 i; high = high.1 i })
 
 abbrev looked_then : {E A : Type 0} → Looked → Painted E A → Looked
 looked_then j (Done a None) = j

@@ -5,6 +5,7 @@ use Rattle.std.specs.List.{All, list_any}
 use Rattle.std.proofs.lemmas.Bool.{cases_lt}
 use Rattle.std.proofs.lemmas.Bool.Decides.{nat_tests}
 use Rattle.syn_base.specs.declared.looked.Looked.{Looked}
+use Rattle.syn_base.specs.Looked.{hull_of}
 use Rattle.syn_base.specs.declared.places.ItemId.{ItemId}
 use Rattle.syn_base.specs.declared.places.Place.{Place}
 use Rattle.syn_base.specs.declared.want_of_memory.Memory.{Memory}
@@ -26,17 +27,18 @@ use Rattle.pattern_screens.proofs.Stands.{both_true}
 use Rattle.item_pick.specs.declared.choice.Choice.{Choice}
 use Rattle.item_pick.specs.declared.memory.PickMemory.{PickMemory}
 use Rattle.item_pick.specs.declared.runs.Run.{Run}
+use Rattle.item_pick.specs.declared.runs.Search.{Search}
 use Rattle.item_pick.specs.Attempts.{IsFutile}
 use Rattle.item_pick.specs.Columns.{may_start_at}
 use Rattle.item_pick.specs.Quiet.{IsEarlier, IsNextItem, IsQuiet, item_numbered}
 use Rattle.item_pick.specs.Runs.{Covers, TellsOf}
-use Rattle.item_pick.specs.Screens.{HoldsLine, IsIdle, IsLater, IsSettled}
+use Rattle.item_pick.specs.Screens.{HoldsLine, HoldsLines, IsIdle, IsLater, IsSettled}
 use Rattle.item_pick.specs.Standing.{first_pattern, has_one_start, IsFirst, IsPatternOf}
 use Rattle.item_pick.specs.Started.{admits, is_free}
 use Rattle.item_pick.specs.Tables.{fails, is_vain, passes, AnchorStands, IsAnchored, IsEnough, IsMissed, IsNextAt, IsNextIn, IsNumberAt, IsVainAt, Lacks, ListStands, MemoryStands, RunStands, StaysOut, TablesStand, VainStands}
 use Rattle.item_pick.proofs.MatchLaws.{no_start}
 use Rattle.item_pick.proofs.QuietLaws.{earlier}
-use Rattle.item_pick.proofs.ScreenLaws.{futile_idle}
+use Rattle.item_pick.proofs.ScreenLaws.{each_held, futile_idle}
 
 -- the law of screens
 abbrev pub IsLaw : Rules → Type 0
@@ -78,17 +80,18 @@ module _ (r : Rules) (law : IsLaw r) (t : Text) (p : Place) (number : ℕ) (is :
         let at-key : fails r.sets r.budget ignore (key_of r.sets line p.col) tree ≡ true = subst (λ key. fails r.sets r.budget ignore key tree ≡ true) is b.1 in
         missed_idle r law t p i pattern k held c within (ap (λ d. passes r.sets r.budget tree ignore line d) here ∙ ap not at-key)
 
-  pub stays_quiet : (floor : ℕ) → IsQuiet r t p floor i
-  stays_quiet floor pattern its k held c from within =
+  pub stays_quiet : (floor : ℕ) (k : Looked) → HoldsLine k p.line → IsQuiet r t p floor k i
+  stays_quiet floor k held pattern its c from within =
       column_out pattern its k held c within (may_start_at pattern (length (line_at t p.line)) p.col c) refl
 
 -- what a row leaves, of the admitted items
-pub next_at : (r : Rules) → IsLaw r → (t : Text) (p : Place) (number floor : ℕ) → IsNumberAt r (line_at t p.line) p.col number → (choice : Choice) (list : List ℕ) → ListStands r choice number list →
-    (left next : ℕ) → left ≤ length r.items → IsNextIn r t p floor list left next → IsNextAt r t p floor choice left next
-next_at r law t p number floor key choice list stands left next within h = (
+pub next_at : (r : Rules) → IsLaw r → (t : Text) (p : Place) (number floor : ℕ) (k : Looked) → HoldsLine k p.line → IsNumberAt r (line_at t p.line) p.col number →
+    (choice : Choice) (list : List ℕ) → ListStands r choice number list →
+    (left next : ℕ) → left ≤ length r.items → IsNextIn r t p floor k list left next → IsNextAt r t p floor k choice left next
+next_at r law t p number floor k held key choice list stands left next within h = (
   h.0,
   λ j a b admitted. elim (h.1 j a b) [
-    | inl lacks ↦ stays_quiet r law t p number key.1 (item_numbered j) (stands j (omega (arith, b, within)) admitted lacks) floor
+    | inl lacks ↦ stays_quiet r law t p number key.1 (item_numbered j) (stands j (omega (arith, b, within)) admitted lacks) floor k held
     | inr quiet ↦ quiet
   ],
 )
@@ -97,24 +100,24 @@ pub not_free : (tried admitted : Bool) → admitted ≡ false → (not tried && 
 not_free true admitted e = refl
 not_free false admitted e = e
 
-passed_by : (r : Rules) (t : Text) (p : Place) (floor : ℕ) (tried : List ItemId) (choice : Choice) (i : ItemId) →
-    (b : Bool) → admits r choice i ≡ b → (admits r choice i ≡ true → IsQuiet r t p floor i) →
-    (is_free r tried choice i ≡ false) ⊎ IsQuiet r t p floor i
-passed_by r t p floor tried choice i true e quiet = inr (quiet e)
-passed_by r t p floor tried choice i false e quiet = inl (not_free (list_any (same_item i) tried) (admits r choice i) e)
+passed_by : (r : Rules) (t : Text) (p : Place) (floor : ℕ) (k : Looked) (tried : List ItemId) (choice : Choice) (i : ItemId) →
+    (b : Bool) → admits r choice i ≡ b → (admits r choice i ≡ true → IsQuiet r t p floor k i) →
+    (is_free r tried choice i ≡ false) ⊎ IsQuiet r t p floor k i
+passed_by r t p floor k tried choice i true e quiet = inr (quiet e)
+passed_by r t p floor k tried choice i false e quiet = inl (not_free (list_any (same_item i) tried) (admits r choice i) e)
 
 -- what is left of the admitted items is what is left to try
-pub next_items : (r : Rules) (t : Text) (p : Place) (floor : ℕ) (tried : List ItemId) (choice : Choice) (left next : ℕ) →
-    IsNextAt r t p floor choice left next → IsNextItem r t p floor tried choice left next
-next_items r t p floor tried choice left next h = (
+pub next_items : (r : Rules) (t : Text) (p : Place) (floor : ℕ) (tried : List ItemId) (choice : Choice) (k : Looked) (left next : ℕ) →
+    IsNextAt r t p floor k choice left next → IsNextItem r t p floor tried choice k left next
+next_items r t p floor tried choice k left next h = (
   h.0,
-  λ j a b. passed_by r t p floor tried choice (item_numbered j) (admits r choice (item_numbered j)) refl (h.1 j a b),
+  λ j a b. passed_by r t p floor k tried choice (item_numbered j) (admits r choice (item_numbered j)) refl (h.1 j a b),
 )
 
-pub next_ok : (r : Rules) (t : Text) (p : Place) (floor : ℕ) (tried : List ItemId) (choice : Choice) (left : ℕ) (result : Result ℕ Memory) →
-    IfOk result (IsNextAt r t p floor choice left) → IfOk result (IsEarlier r t p floor tried choice left)
-next_ok r t p floor tried choice left (Ok next) h = earlier r t p floor tried choice left next (next_items r t p floor tried choice left next h)
-next_ok r t p floor tried choice left (Err memory) h = tt
+pub next_ok : (r : Rules) (t : Text) (p : Place) (floor : ℕ) (tried : List ItemId) (choice : Choice) (k : Looked) (left : ℕ) (result : Result ℕ Memory) →
+    IfOk result (IsNextAt r t p floor k choice left) → IfOk result (IsEarlier r t p floor tried choice k left)
+next_ok r t p floor tried choice k left (Ok next) h = earlier r t p floor tried choice k left next (next_items r t p floor tried choice k left next h)
+next_ok r t p floor tried choice k left (Err memory) h = tt
 
 -- ---- what is known of columns
 
@@ -161,7 +164,7 @@ pub run_goes_on : (r : Rules) → IsLaw r → (t : Text) (l : ℕ) (i : ItemId) 
 run_goes_on r law t l i pattern first run to same stands missed = record {
   settled = λ other its c from below within. elim (cases_lt c run.to) [
     | inl before ↦ stands.settled other its c from before within
-    | inr behind ↦ λ at above under k held.
+    | inr behind ↦ λ at above under k held _.
         let its-own : IsFirst r i other = subst (λ j. IsFirst r j other) same its in
         let alike : pattern ≡ other = one_first r i pattern other first its-own in
         subst (λ j. IsIdle (match_from r t j other (place_at l at)) k c) (sym same)
@@ -173,46 +176,48 @@ run_goes_on r law t l i pattern first run to same stands missed = record {
 
 -- and over one that told of some places
 pub run_and : (r : Rules) (t : Text) (l : ℕ) (i : ItemId) (pattern : Pattern) → IsFirst r i pattern → (run : Run) (col above below : ℕ) → run.item ≡ i → RunStands r t l run → run.to ≡ col →
-    IsSettled r t l i pattern above below col → (first end : ℕ) → run.places.first ≤ first → above ≤ first → end ≤ run.places.end → end ≤ below →
-    RunStands r t l (record run { to = col + 1; places = record { first = first; end = end } })
-run_and r t l i pattern is run col above below same stands here settled first end f g h j = record {
+    (lines all : Looked) → all ≡ hull_of run.looked lines → IsSettled r t l i pattern above below lines col → (first end : ℕ) → run.places.first ≤ first → above ≤ first → end ≤ run.places.end → end ≤ below →
+    RunStands r t l (record run { to = col + 1; places = record { first = first; end = end }; looked = all })
+run_and r t l i pattern is run col above below same stands here lines all both settled first end f g h j = record {
   settled = λ other its c from under within. elim (cases_lt c run.to) [
-    | inl before ↦ λ at a b. stands.settled other its c from before within at (omega (arith, a, f)) (omega (arith, b, h))
-    | inr behind ↦ λ at a b k held.
+    | inl before ↦ λ at a b k held told.
+        stands.settled other its c from before within at (omega (arith, a, f)) (omega (arith, b, h)) k held (each_held k run.looked lines (subst (HoldsLines k) both told)).0
+    | inr behind ↦ λ at a b k held told.
         let its-own : IsFirst r i other = subst (λ n. IsFirst r n other) same its in
         let alike : pattern ≡ other = one_first r i pattern other is its-own in
         let now : col ≡ c = omega (arith, under, behind, here) in
         subst (λ n. IsIdle (match_from r t n other (place_at l at)) k c) (sym same)
         (subst (λ (q : Pattern). IsIdle (match_from r t i q (place_at l at)) k c) alike
         (subst (λ n. IsIdle (match_from r t i pattern (place_at l at)) k n) now
-        (settled at (omega (arith, a, g)) (omega (arith, b, j)) k held)))
+        (settled at (omega (arith, a, g)) (omega (arith, b, j)) k held (each_held k run.looked lines (subst (HoldsLines k) both told)).1)))
   ];
   enough = stands.enough;
 }
 
 -- so a match may be sought from its end on
 pub later_by : (r : Rules) (t : Text) (p : Place) (i : ItemId) (pattern : Pattern) → IsFirst r i pattern → (run : Run) (col : ℕ) → TellsOf i col p.col run → (to : ℕ) → run.to ≤ to →
-    RunStands r t p.line (record run { to = to }) → IsLater r t i pattern p col to
-later_by r t p i pattern first run col tells to more stands = record {
+    (k : Looked) → HoldsLine k p.line → HoldsLines k run.looked → RunStands r t p.line (record run { to = to }) → IsLater r t i pattern p k col to
+later_by r t p i pattern first run col tells to more k held all stands = record {
   ahead = omega (arith, tells.to, more);
-  idle = λ k held c a b h.
+  idle = λ c a b h.
       subst (λ n. IsIdle (match_from r t n pattern p) k c) tells.same
-      (stands.settled pattern (subst (λ n. IsFirst r n pattern) (sym tells.same) first) c (omega (arith, tells.from, a)) b h p.col tells.above tells.below k held);
+      (stands.settled pattern (subst (λ n. IsFirst r n pattern) (sym tells.same) first) c (omega (arith, tells.from, a)) b h p.col tells.above tells.below k held all);
 }
 
 -- an item that a run covers has no match
-pub covered_quiet : (r : Rules) (t : Text) (l at floor end : ℕ) (i : ItemId) (run : Run) → RunStands r t l run → Covers run i at floor end → end ≡ length (line_at t l) + 1 →
-    IsQuiet r t (place_at l at) floor i
-covered_quiet r t l at floor end i run stands covers is pattern its k held c from within =
+pub covered_quiet : (r : Rules) (t : Text) (l : ℕ) (search : Search) (end : ℕ) (i : ItemId) (run : Run) → HoldsLine search.looked l → RunStands r t l run → Covers run i search end →
+    end ≡ length (line_at t l) + 1 → IsQuiet r t (place_at l search.at) search.floor search.looked i
+covered_quiet r t l search end i run held stands covers is pattern its c from within =
     let own : IsPatternOf (item_of r.items run.item).kind pattern = subst (λ n. IsPatternOf (item_of r.items n).kind pattern) (sym covers.same) its in
     let enough : IsEnough r run.item run.from covers.enough.0 = subst (λ o. IfSome o (IsEnough r run.item run.from)) covers.enough.1 stands.enough in
     let e = enough pattern own in
-    subst (λ n. IsIdle (match_from r t n pattern (place_at l at)) k c) covers.same
-    (stands.settled pattern e.0 c (omega (arith, e.1 floor covers.enough.2, from)) (omega (arith, within, covers.to, is)) within at covers.above covers.below k held)
+    subst (λ n. IsIdle (match_from r t n pattern (place_at l search.at)) search.looked c) covers.same
+    (stands.settled pattern e.0 c (omega (arith, e.1 search.floor covers.enough.2, from)) (omega (arith, within, covers.to, is)) within search.at covers.above covers.below search.looked held covers.held)
 
 -- a run without columns, of an item that it names wrongly or rightly, says nothing
-pub nothing_known : (r : Rules) (t : Text) (l : ℕ) (i : ItemId) → RunStands r t l (record { item = i; from = 0; to = 0; places = record { first = 0; end = 0 }; least = None })
-nothing_known r t l i = record {
+pub nothing_known : (r : Rules) (t : Text) (l : ℕ) (i : ItemId) (lines : Looked) →
+    RunStands r t l (record { item = i; from = 0; to = 0; places = record { first = 0; end = 0 }; looked = lines; least = None })
+nothing_known r t l i lines = record {
   settled = λ pattern first c from below within. absurd (omega (arith, below));
   enough = tt;
 }

@@ -10,6 +10,10 @@ use Rattle.paint_rules.specs.Painted.{Painted, Done, looked_first}
 use Rattle.paint_rules.specs.Rules.{Rules, Cause, place_at}
 use Rattle.paint_rules.specs.ItemMatch.{match_from}
 
+-- these lines are among those that were looked at
+abbrev pub HoldsLines : Looked → Looked → Type 0
+HoldsLines k lines = hull_of k lines ≡ k
+
 -- the line was looked at
 abbrev pub HoldsLine : Looked → ℕ → Type 0
 HoldsLine k l = hull_of k (one_line (pos l)) ≡ k
@@ -19,14 +23,15 @@ abbrev pub IsIdle : {A B : Type 0} → (A → Painted Cause (Option B)) → Look
 IsIdle f k a = looked_first (Some k) (f a) ≡ Done None (Some k)
 
 -- a match from this column has its item start at none of the columns from `above` up to, and without,
--- `below`
-abbrev pub IsSettled : Rules → Text → ℕ → ItemId → Pattern → ℕ → ℕ → ℕ → Type 0
-IsSettled r t l i pattern above below c =
-    (at : ℕ) → above ≤ at → at < below → (k : Looked) → HoldsLine k l →
+-- `below`, and to tell so looks at none but some lines
+abbrev pub IsSettled : Rules → Text → ℕ → ItemId → Pattern → ℕ → ℕ → Looked → ℕ → Type 0
+IsSettled r t l i pattern above below lines c =
+    (at : ℕ) → above ≤ at → at < below → (k : Looked) → HoldsLine k l → HoldsLines k lines →
     IsIdle (match_from r t i pattern (place_at l at)) k c
 
--- the match of an item may be sought from this column on in place of an earlier one
-pub record IsLater (r : Rules) (t : Text) (i : ItemId) (pattern : Pattern) (p : Place) (col next : ℕ) : Type 0 where
+-- once some lines were looked at, the match of an item may be sought from this column on in place of
+-- an earlier one
+pub record IsLater (r : Rules) (t : Text) (i : ItemId) (pattern : Pattern) (p : Place) (k : Looked) (col next : ℕ) : Type 0 where
   pub ahead : col ≤ next
-  pub idle : (k : Looked) → HoldsLine k p.line →
-      (c : ℕ) → col ≤ c → c < next → c ≤ length (line_at t p.line) → IsIdle (match_from r t i pattern p) k c
+  pub idle : (c : ℕ) → col ≤ c → c < next → c ≤ length (line_at t p.line) →
+      IsIdle (match_from r t i pattern p) k c

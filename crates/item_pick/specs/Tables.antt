@@ -3,6 +3,7 @@ use Rattle.std.specs.Prelude.{◌≡◌, ◌<◌, ◌≤◌, ◌+◌, ◌-◌, �
 use Rattle.std.specs.List.{All}
 use Rattle.char_class.specs.declared.sets.Sets.{Sets}
 use Rattle.vim_pattern.specs.Tree.{PatternTree}
+use Rattle.syn_base.specs.declared.looked.Looked.{Looked}
 use Rattle.syn_base.specs.declared.places.ItemId.{ItemId}
 use Rattle.syn_base.specs.declared.places.Place.{Place}
 use Rattle.match_rules.specs.Ways.{Text, line_at}
@@ -56,17 +57,17 @@ ListStands r choice number list =
     StaysOut r number (item_numbered j)
 
 -- the admitted items from one on, below another, can't start at a place
-abbrev pub IsNextAt : Rules → Text → Place → ℕ → Choice → ℕ → ℕ → Type 0
-IsNextAt r t p floor choice left next =
+abbrev pub IsNextAt : Rules → Text → Place → ℕ → Looked → Choice → ℕ → ℕ → Type 0
+IsNextAt r t p floor k choice left next =
     (next ≤ left) ×
     ((j : ℕ) → next ≤ j → j < left → admits r choice (item_numbered j) ≡ true →
-    IsQuiet r t p floor (item_numbered j))
+    IsQuiet r t p floor k (item_numbered j))
 
 -- those that a list has not, or that can't start at a place
-abbrev pub IsNextIn : Rules → Text → Place → ℕ → List ℕ → ℕ → ℕ → Type 0
-IsNextIn r t p floor list left next =
+abbrev pub IsNextIn : Rules → Text → Place → ℕ → Looked → List ℕ → ℕ → ℕ → Type 0
+IsNextIn r t p floor k list left next =
     (next ≤ left) ×
-    ((j : ℕ) → next ≤ j → j < left → Lacks list j ⊎ IsQuiet r t p floor (item_numbered j))
+    ((j : ℕ) → next ≤ j → j < left → Lacks list j ⊎ IsQuiet r t p floor k (item_numbered j))
 
 abbrev pub RowStands : Rules → Row → Type 0
 RowStands r row = ListStands r row.choice row.number row.items.items
@@ -115,7 +116,7 @@ IsEnough r i from least =
 pub record RunStands (r : Rules) (t : Text) (l : ℕ) (run : Run) : Type 0 where
   pub settled : (pattern : Pattern) → IsFirst r run.item pattern →
       (c : ℕ) → run.from ≤ c → c < run.to → c ≤ length (line_at t l) →
-      IsSettled r t l run.item pattern run.places.first run.places.end c
+      IsSettled r t l run.item pattern run.places.first run.places.end run.looked c
   pub enough : IfSome run.least (IsEnough r run.item run.from)
 
 -- besides, the line is entered

@@ -1,8 +1,7 @@
 -- What an attempt at a column tells.
-use Rattle.std.specs.Prelude.{◌≡◌, ◌<◌, ◌≤◌, ℕ, false, Option, Some, None, Result, Ok, Err, pos}
+use Rattle.std.specs.Prelude.{◌≡◌, ◌<◌, ◌≤◌, ℕ, false, Option, Some, None, Result, Ok, Err}
 use Rattle.syn_base.specs.declared.places.Place.{Place}
 use Rattle.syn_base.specs.declared.places.ItemId.{ItemId}
-use Rattle.syn_base.specs.Looked.{one_line}
 use Rattle.match_rules.specs.Ways.{Text, is_same_place}
 use Rattle.pattern_match.specs.declared.answer.Match.{Match}
 use Rattle.syntax_set.specs.declared.item.Pattern.{Pattern}
@@ -26,17 +25,17 @@ abbrev pub IsBeside : ℕ → Place → Columns → Type 0
 IsBeside l start columns =
     (at : ℕ) → columns.first ≤ at → at < columns.end → is_same_place start (place_at l at) ≡ false
 
--- what was seen looks at its line alone, and has its item start at none of these columns
-abbrev pub HasNoStart : Text → ℕ → Pattern → Seen → Columns → Type 0
-HasNoStart t l pattern seen columns =
+-- what was found has its item start at none of these columns
+abbrev pub HasNoStart : Text → ℕ → Pattern → Option Match → Columns → Type 0
+HasNoStart t l pattern found columns =
     (at : ℕ) → columns.first ≤ at → at < columns.end →
-    (seen.looked ≡ one_line (pos l)) × (starts_at t pattern (place_at l at) seen.found ≡ false)
+    starts_at t pattern (place_at l at) found ≡ false
 
 abbrev pub match_in : Tried → Option Match
 match_in (Here m) = Some m
-match_in (Not columns) = None
+match_in (Not columns looked) = None
 
 abbrev pub IsNotFrom : Rules → Text → ℕ → ItemId → Pattern → ℕ → Tried → Type 0
 IsNotFrom r t l i pattern c (Here m) = Unit {0}
-IsNotFrom r t l i pattern c (Not columns) =
-    IsSettled r t l i pattern columns.first columns.end c
+IsNotFrom r t l i pattern c (Not columns looked) =
+    IsSettled r t l i pattern columns.first columns.end looked c

@@ -13,6 +13,7 @@ ghost use Rattle.state_stack.specs.TopFirst.{top_first};
 ghost use Rattle.item_pick.specs.PartsSeen.{rules_in};
 ghost use Rattle.item_pick.specs.Started.{here_at, standing_at};
 ghost use Rattle.item_pick.specs.Picks.{IsPicked};
+ghost use Rattle.item_pick.specs.Screens.{HoldsLine};
 ghost use Rattle.item_pick.specs.Tables.{MemoryStands};
 
 use crate::asked::Asked;
@@ -78,12 +79,15 @@ pub fn pick<T: Lines>(
         budget,
         no_externals: &externals,
     };
-    picked_by(alloc, &asked, lines, at, state, floor, tried, memo)
+    let _count = lines.len();
+    let own = Looked::one(at.line as i64);
+    picked_by(alloc, &asked, lines, at, state, floor, tried, own, memo)
 }
 
 /// The same as `pick`, with what is kept of the syntax and the budget. The line has to be entered
-/// (`PickMemory::enter_line`). `none` are nine empty texts (`Externals::none`), so that none are made
-/// here.
+/// (`PickMemory::enter_line`). `so_far` are the lines looked at before, the place's own among them,
+/// which are in the answer: an attempt that is known to tell nothing but by these lines isn't made
+/// again. `none` are nine empty texts (`Externals::none`), so that none are made here.
 pub fn pick_with<T: Lines>(
     alloc: Global,
     parts: &Parts,
@@ -92,6 +96,7 @@ pub fn pick_with<T: Lines>(
     state: &State,
     floor: usize,
     tried: &List<ItemId>,
+    so_far: Looked,
     none: &Externals,
     memory: &mut PickMemory,
     budget: u64,
@@ -102,11 +107,12 @@ pub fn pick_with<T: Lines>(
     requires within { at.col ≤ length (line_at (T.lines lines.now) at.line) }
     requires fits { StateFits (length parts.now.items.now) (top_first state.now) }
     requires budget { 1 ≤ budget }
+    requires held { HoldsLine so_far at.line }
     requires none { none.now ≡ no_externals }
     requires memory { MemoryStands (rules_in parts.now budget) (T.lines lines.now) at.line
         memory.old }
     ensures picked { IfOk result (λ p. (over : Bool) → IsPicked parts.now.items.now p
-        (looked_first (Some (one_line (pos at.line)))
+        (looked_first (Some so_far)
         (picked (here_at (rules_in parts.now budget) (T.lines lines.now) at) at.col (record {
           stack = reverse state.now.stack;
           waiting = state.now.waiting;
@@ -122,7 +128,9 @@ pub fn pick_with<T: Lines>(
         budget,
         no_externals: none,
     };
-    picked_by(alloc, &asked, lines, at, state, floor, tried, memory)
+    picked_by(
+        alloc, &asked, lines, at, state, floor, tried, so_far, memory,
+    )
 }
 
 /// What starts at a place of a present line.
@@ -134,6 +142,7 @@ fn picked_by<T: Lines, S: Syntax, M: Memo<S>>(
     state: &State,
     floor: usize,
     tried: &List<ItemId>,
+    so_far: Looked,
     memo: &mut M,
 ) -> Result<Picked, Memory>
     requires valid { S.valid syntax.now }
@@ -141,9 +150,10 @@ fn picked_by<T: Lines, S: Syntax, M: Memo<S>>(
     requires within { at.col ≤ length (line_at (T.lines lines.now) at.line) }
     requires frames { Fits (length (S.rules syntax.now).items) (reverse state.now.stack) }
     requires waiting { WaitFits (length (S.rules syntax.now).items) state.now.waiting }
+    requires held { HoldsLine so_far at.line }
     requires memo { M.stands memo.old syntax.now (T.lines lines.now) at.line }
     ensures picked { IfOk result (λ p. IsPicked (S.rules syntax.now).items p
-        (looked_first (Some (one_line (pos at.line)))
+        (looked_first (Some so_far)
         (picked (here_at (S.rules syntax.now) (T.lines lines.now) at) at.col
         (standing_at (reverse state.now.stack) state.now.waiting floor (reverse tried.now))))) }
     ensures memo { M.stands memo.new syntax.now (T.lines lines.now) at.line }
@@ -158,7 +168,7 @@ fn picked_by<T: Lines, S: Syntax, M: Memo<S>>(
         floor,
         tried: &tried,
     };
-    let mut looked = Looked::one(at.line as i64);
+    let mut looked = so_far;
     match picking.pick(&state.stack, state.waiting, &mut looked, memo) {
         Ok(Outcome::Start(starting)) => Ok(Picked::Start(starting, looked)),
         Ok(Outcome::SkipOn) => Ok(Picked::SkipOn(looked)),

@@ -13,7 +13,7 @@ use crate::memo::Memo;
 use crate::picking::Picking;
 use pattern_match::{Context, LineMemo};
 use region_ends::item_of;
-use syn_base::{ItemId, Lines, Memory};
+use syn_base::{ItemId, Lines, Looked, Memory};
 use syntax_set::Pattern;
 
 impl Asked<'_> {
@@ -65,6 +65,7 @@ impl Memo<Asked<'_>> for LineMemo {
         _start: usize,
         pattern: &Pattern,
         col: usize,
+        _looked: Looked,
     ) -> Result<usize, Memory> {
         let last = picking.last();
         if last < col || !picking.syntax.affords(pattern) {
@@ -87,6 +88,7 @@ impl Memo<Asked<'_>> for LineMemo {
         _pattern: &Pattern,
         _col: usize,
         _places: Columns,
+        _lines: Looked,
     ) -> Result<(), Memory> {
         Ok(())
     }
@@ -96,6 +98,7 @@ impl Memo<Asked<'_>> for LineMemo {
         _picking: &Picking<'_, T, Asked<'_>>,
         _choice: Choice,
         left: usize,
+        _looked: Looked,
     ) -> Result<usize, Memory> {
         Ok(left)
     }

@@ -2,14 +2,14 @@
 ghost use Rattle.std.specs.Prelude.{◌≡◌, ◌≤◌, ℕ, length, reverse, IfOk};
 ghost use Rattle.match_rules.specs.Ways.{Text, line_at};
 ghost use Rattle.item_pick.specs.Quiet.{IsEarlier};
-ghost use Rattle.item_pick.specs.Screens.{IsLater, IsSettled};
+ghost use Rattle.item_pick.specs.Screens.{HoldsLine, IsLater, IsSettled};
 ghost use Rattle.item_pick.specs.Standing.{ChoiceFits, IsFirst, IsOwn, IsPlace};
 
 use crate::choice::Choice;
 use crate::columns::Columns;
 use crate::picking::Picking;
 use crate::syntax::Syntax;
-use syn_base::{ItemId, Lines, Memory};
+use syn_base::{ItemId, Lines, Looked, Memory};
 use syntax_set::Pattern;
 
 /// A memo of a line.
@@ -18,7 +18,7 @@ pub(crate) trait Memo<S: Syntax> {
     ghost stands: { Self → S → Text → ℕ → Type 0 };
 
     /// A column from one on, up to which no column gives a match by the start pattern of that number
-    /// with its item start at the place.
+    /// with its item start at the place, nor looks at a line that wasn't looked at before.
     fn next<T: Lines>(
         &mut self,
         picking: &Picking<'_, T, S>,
@@ -26,6 +26,7 @@ pub(crate) trait Memo<S: Syntax> {
         start: usize,
         pattern: &Pattern,
         col: usize,
+        looked: Looked,
     ) -> Result<usize, Memory>
         requires valid { S.valid picking.now.syntax.now }
         requires own { IsOwn (S.rules picking.now.syntax.now) id pattern.now }
@@ -33,12 +34,14 @@ pub(crate) trait Memo<S: Syntax> {
         requires place { IsPlace (T.lines picking.now.lines.now) picking.now.at }
         requires stands { stands self.old picking.now.syntax.now (T.lines picking.now.lines.now)
             picking.now.at.line }
+        requires held { HoldsLine looked picking.now.at.line }
         ensures stands { stands self.new picking.now.syntax.now (T.lines picking.now.lines.now)
             picking.now.at.line }
         ensures next { IfOk result (IsLater (S.rules picking.now.syntax.now)
-            (T.lines picking.now.lines.now) id pattern.now picking.now.at col) };
+            (T.lines picking.now.lines.now) id pattern.now picking.now.at looked col) };
 
-    /// Remembers that a match from a column has its item start at none of some places of the line.
+    /// Remembers that a match from a column has its item start at none of some places of the line, and
+    /// which lines tell so.
     fn note<T: Lines>(
         &mut self,
         picking: &Picking<'_, T, S>,
@@ -47,25 +50,28 @@ pub(crate) trait Memo<S: Syntax> {
         pattern: &Pattern,
         col: usize,
         places: Columns,
+        lines: Looked,
     ) -> Result<(), Memory>
         requires own { IsOwn (S.rules picking.now.syntax.now) id pattern.now }
         requires first { start ≡ 0 → IsFirst (S.rules picking.now.syntax.now) id pattern.now }
         requires place { IsPlace (T.lines picking.now.lines.now) picking.now.at }
         requires settled { IsSettled (S.rules picking.now.syntax.now)
             (T.lines picking.now.lines.now) picking.now.at.line id pattern.now places.first
-            places.end col }
+            places.end lines col }
         requires stands { stands self.old picking.now.syntax.now (T.lines picking.now.lines.now)
             picking.now.at.line }
         ensures { stands self.new picking.now.syntax.now (T.lines picking.now.lines.now)
             picking.now.at.line };
 
     /// The items of a choice are tried from the last to the first: how many are left, once those
-    /// behind them are passed over that aren't free, or don't start at the place.
+    /// behind them are passed over that aren't free, or don't start at the place, which the lines
+    /// looked at before tell.
     fn next_item<T: Lines>(
         &mut self,
         picking: &Picking<'_, T, S>,
         choice: Choice,
         left: usize,
+        looked: Looked,
     ) -> Result<usize, Memory>
         requires valid { S.valid picking.now.syntax.now }
         requires choice { ChoiceFits (S.rules picking.now.syntax.now) choice }
@@ -73,9 +79,10 @@ pub(crate) trait Memo<S: Syntax> {
         requires stands { stands self.old picking.now.syntax.now (T.lines picking.now.lines.now)
             picking.now.at.line }
         requires items { left ≤ length (S.rules picking.now.syntax.now).items }
+        requires held { HoldsLine looked picking.now.at.line }
         ensures stands { stands self.new picking.now.syntax.now (T.lines picking.now.lines.now)
             picking.now.at.line }
         ensures next { IfOk result (IsEarlier (S.rules picking.now.syntax.now)
             (T.lines picking.now.lines.now) picking.now.at picking.now.floor
-            (reverse picking.now.tried.now) choice left) };
+            (reverse picking.now.tried.now) choice looked left) };
 }

@@ -6,6 +6,7 @@ ghost use Rattle.pattern_screens.specs.Keys.{AreNumbers};
 ghost use Rattle.item_pick.specs.PartsSeen.{rules_in};
 ghost use Rattle.item_pick.specs.Quiet.{IsQuiet, item_numbered};
 ghost use Rattle.item_pick.specs.Runs.{TellsOf};
+ghost use Rattle.item_pick.specs.Screens.{HoldsLine};
 ghost use Rattle.item_pick.specs.Standing.{ChoiceFits, IsFirst, IsItem, IsOwn};
 ghost use Rattle.item_pick.specs.Tables.{IsAnchored, IsMissed, IsNextAt, IsNextIn, IsNumberAt, IsVainAt, MemoryStands, RowStands, RunStands, TablesStand};
 
@@ -16,13 +17,13 @@ use crate::columns::Columns;
 use crate::memo::Memo;
 use crate::parts::Parts;
 use crate::picking::Picking;
-use crate::runs::{Run, Runs};
+use crate::runs::{Run, Runs, Search, holds};
 use crate::tables::{ANY, Row};
 use crate::vains::{Vain, Vains};
 use pattern_screens::number_line;
 use region_ends::item_of;
 use std::alloc::Global;
-use syn_base::{ItemId, Lines, Memory};
+use syn_base::{ItemId, Lines, Looked, Memory, Place};
 use syntax_set::Pattern;
 
 /// How many rows a choice has: one for each key, and one for all.
@@ -163,23 +164,25 @@ impl PickMemory {
     }
 
     /// Whether an item is known to have no match with its item start at a column.
-    fn is_settled(&self, id: u32, at: usize, floor: usize) -> bool
+    fn is_settled(&self, id: u32, search: Search) -> bool
         ensures { IsTrue result → (r : Rules) (t : Text) (l : ℕ) → MemoryStands r t l self.now →
-            IsQuiet r t (place_at l at) floor (item_numbered id) }
+            HoldsLine search.looked l →
+            IsQuiet r t (place_at l search.at) search.floor search.looked (item_numbered id) }
     {
-        self.runs.covers(ItemId(id), at, floor, self.numbers.len())
+        self.runs.covers(ItemId(id), search, self.numbers.len())
     }
 
     /// The number behind an item, or what is next without it where it is behind that already, isn't
     /// below what is left, or doesn't start at a column.
-    fn next_with(&self, next: usize, id: u32, left: usize, at: usize, floor: usize) -> usize
+    fn next_with(&self, next: usize, id: u32, left: usize, search: Search) -> usize
         ensures least { next ≤ result }
         ensures within { next ≤ left → result ≤ left }
         ensures open { id < left → (id < result) ⊎ ((r : Rules) (t : Text) (l : ℕ) →
-            MemoryStands r t l self.now → IsQuiet r t (place_at l at) floor (item_numbered id)) }
+            MemoryStands r t l self.now → HoldsLine search.looked l →
+            IsQuiet r t (place_at l search.at) search.floor search.looked (item_numbered id)) }
     {
         let number = id as usize;
-        if number < next || left <= number || self.is_settled(id, at, floor) {
+        if number < next || left <= number || self.is_settled(id, search) {
             next
         } else {
             number + 1
@@ -188,13 +191,14 @@ impl PickMemory {
 
     /// The number behind the greatest item of a list that is below another one and may start at a
     /// column; 0 where there is none.
-    fn next_open(&self, list: &[u32], left: usize, at: usize, floor: usize) -> usize
+    fn next_open(&self, list: &[u32], left: usize, search: Search) -> usize
         ensures { (r : Rules) (t : Text) (l : ℕ) → MemoryStands r t l self.now →
-            IsNextIn r t (place_at l at) floor list.now left result }
+            HoldsLine search.looked l →
+            IsNextIn r t (place_at l search.at) search.floor search.looked list.now left result }
     {
         let mut next = 0;
         for id in list {
-            next = self.next_with(next, *id, left, at, floor);
+            next = self.next_with(next, *id, left, search);
         }
         next
     }
@@ -206,19 +210,19 @@ impl PickMemory {
         place: usize,
         choice: Choice,
         number: u16,
-        at: usize,
-        floor: usize,
+        search: Search,
         left: usize,
     ) -> Option<usize>
         requires { left ≤ length _asked.now.parts.now.items.now }
         ensures { (t : Text) (l : ℕ) →
             MemoryStands (rules_in _asked.now.parts.now _asked.now.budget) t l self.now →
-            IsNumberAt (rules_in _asked.now.parts.now _asked.now.budget) (line_at t l) at number →
+            IsNumberAt (rules_in _asked.now.parts.now _asked.now.budget) (line_at t l) search.at
+            number → HoldsLine search.looked l →
             IfSome result (IsNextAt (rules_in _asked.now.parts.now _asked.now.budget) t
-            (place_at l at) floor choice left) }
+            (place_at l search.at) search.floor search.looked choice left) }
     {
         let row = self.row(place, choice, number)?;
-        Some(self.next_open(&row.items, left, at, floor))
+        Some(self.next_open(&row.items, left, search))
     }
 
     /// The number of items that are left, once those behind them are passed over that a choice
@@ -228,8 +232,7 @@ impl PickMemory {
         asked: &Asked,
         choice: Choice,
         number: u16,
-        at: usize,
-        floor: usize,
+        search: Search,
         left: usize,
     ) -> Result<usize, Memory>
         requires choice { ChoiceFits (rules_in asked.now.parts.now asked.now.budget) choice }
@@ -240,17 +243,18 @@ impl PickMemory {
         ensures runs { self.new.runs ≡ self.old.runs }
         ensures next { (t : Text) (l : ℕ) →
             MemoryStands (rules_in asked.now.parts.now asked.now.budget) t l self.old →
-            IsNumberAt (rules_in asked.now.parts.now asked.now.budget) (line_at t l) at number →
-            IfOk result (IsNextAt (rules_in asked.now.parts.now asked.now.budget) t (place_at l at)
-            floor choice left) }
+            IsNumberAt (rules_in asked.now.parts.now asked.now.budget) (line_at t l) search.at
+            number → HoldsLine search.looked l →
+            IfOk result (IsNextAt (rules_in asked.now.parts.now asked.now.budget) t
+            (place_at l search.at) search.floor search.looked choice left) }
     {
         let place = self.place(choice, number).unwrap_or(NOWHERE);
-        match self.left_by(asked, place, choice, number, at, floor, left) {
+        match self.left_by(asked, place, choice, number, search, left) {
             Some(next) => return Ok(next),
             None => {}
         }
         let place = self.made(asked, choice, number)?;
-        match self.left_by(asked, place, choice, number, at, floor, left) {
+        match self.left_by(asked, place, choice, number, search, left) {
             Some(next) => Ok(next),
             None => Ok(left),
         }
@@ -405,18 +409,19 @@ impl PickMemory {
 
     /// The run of an item that holds a column or ends there, and tells of a place: one that has no
     /// column yet, where there is none.
-    fn run_at(&self, asked: &Asked, id: ItemId, pattern: &Pattern, col: usize, at: usize) -> Run
+    fn run_at(&self, asked: &Asked, id: ItemId, pattern: &Pattern, col: usize, at: Place) -> Run
         requires item { IsItem (rules_in asked.now.parts.now asked.now.budget) id }
         requires first { IsFirst (rules_in asked.now.parts.now asked.now.budget) id pattern.now }
-        requires short { at < 2 ^ 62 }
-        ensures tells { TellsOf id col at result }
+        requires line { at.line < 2 ^ 63 }
+        requires short { at.col < 2 ^ 62 }
+        ensures tells { TellsOf id col at.col result }
         ensures stands { (t : Text) (l : ℕ) →
             MemoryStands (rules_in asked.now.parts.now asked.now.budget) t l self.now →
             RunStands (rules_in asked.now.parts.now asked.now.budget) t l result }
     {
-        match self.runs.known(id, col, at) {
+        match self.runs.known(id, col, at.col) {
             Some(run) => run,
-            None => asked.fresh_run(id, pattern, col),
+            None => asked.fresh_run(id, pattern, at.line, col),
         }
     }
 }
@@ -431,12 +436,16 @@ impl Memo<Asked<'_>> for PickMemory {
         start: usize,
         pattern: &Pattern,
         col: usize,
+        looked: Looked,
     ) -> Result<usize, Memory> {
         if start != 0 || !wanders(pattern) {
             return Ok(col);
         }
         let _last = picking.last();
-        let run = self.run_at(picking.syntax, id, pattern, col, picking.at.col);
+        let run = self.run_at(picking.syntax, id, pattern, col, picking.at);
+        if !holds(looked, run.looked) {
+            return Ok(col);
+        }
         let to = self.first_open(picking.syntax, id, pattern, run.to)?;
         self.runs.keep(Run { to, ..run })?;
         Ok(to)
@@ -450,12 +459,13 @@ impl Memo<Asked<'_>> for PickMemory {
         pattern: &Pattern,
         col: usize,
         places: Columns,
+        lines: Looked,
     ) -> Result<(), Memory> {
         let at = picking.at.col;
         if start != 0 || !wanders(pattern) || picking.last() < col {
             return Ok(());
         }
-        let run = self.run_at(picking.syntax, id, pattern, col, at);
+        let run = self.run_at(picking.syntax, id, pattern, col, picking.at);
         let places = both(run.places, places);
         if at < places.first || places.end <= at {
             return Ok(());
@@ -466,6 +476,7 @@ impl Memo<Asked<'_>> for PickMemory {
         self.runs.keep(Run {
             to: col + 1,
             places,
+            looked: run.looked.join(lines),
             ..run
         })
     }
@@ -475,12 +486,15 @@ impl Memo<Asked<'_>> for PickMemory {
         picking: &Picking<'_, T, Asked<'_>>,
         choice: Choice,
         left: usize,
+        looked: Looked,
     ) -> Result<usize, Memory> {
-        let at = picking.at.col;
-        match self.number_at(at) {
-            Some(number) => {
-                self.left_in(picking.syntax, choice, number, at, picking.floor, left)
-            }
+        let search = Search {
+            at: picking.at.col,
+            floor: picking.floor,
+            looked,
+        };
+        match self.number_at(search.at) {
+            Some(number) => self.left_in(picking.syntax, choice, number, search, left),
             None => Ok(left),
         }
     }

@@ -10,6 +10,7 @@ ghost use Rattle.syntax_set.specs.Soundness.{AreSound};
 ghost use Rattle.item_pick.specs.PartsSeen.{rules_in};
 ghost use Rattle.item_pick.specs.QuietPlaces.{IsQuietAt};
 ghost use Rattle.item_pick.specs.QuietUntil.{IsQuietUntil};
+ghost use Rattle.item_pick.specs.Screens.{HoldsLine};
 ghost use Rattle.item_pick.specs.Standing.{ChoiceFits, IsPlace};
 ghost use Rattle.item_pick.specs.Tables.{MemoryStands};
 ghost use Rattle.item_pick.specs.Valid.{IsSound};
@@ -19,16 +20,18 @@ use crate::choice::Choice;
 use crate::memory::PickMemory;
 use crate::parts::Parts;
 use crate::picking::Picking;
+use crate::runs::Search;
 use crate::tried::Tried;
 use char_class::CharSet;
 use state_stack::{Stack, State};
 use std::alloc::Global;
-use syn_base::{Externals, ItemId, Lines, List, Memory, Place};
+use syn_base::{Externals, ItemId, Lines, List, Looked, Memory, Place};
 
 /// The first column from a place of a present line on at which something may start on the stack of a
 /// state, at most the line's length: it stops where a word begins, and where what stands there may
-/// begin an item. The last start or close in the line is at `floor`. The line has to be entered
-/// (`PickMemory::enter_line`). `none` are nine empty texts. An attempt costs at most `budget`.
+/// begin an item. The last start or close in the line is at `floor`. `so_far` are the lines looked at
+/// before, the place's own among them. The line has to be entered (`PickMemory::enter_line`). `none`
+/// are nine empty texts. An attempt costs at most `budget`.
 pub fn quiet_until<T: Lines>(
     alloc: Global,
     parts: &Parts,
@@ -36,6 +39,7 @@ pub fn quiet_until<T: Lines>(
     at: Place,
     state: &State,
     floor: usize,
+    so_far: Looked,
     none: &Externals,
     memory: &mut PickMemory,
     budget: u64,
@@ -46,11 +50,12 @@ pub fn quiet_until<T: Lines>(
     requires within { at.col ≤ length (line_at (T.lines lines.now) at.line) }
     requires fits { StateFits (length parts.now.items.now) (top_first state.now) }
     requires budget { 1 ≤ budget }
+    requires held { HoldsLine so_far at.line }
     requires none { none.now ≡ no_externals }
     requires memory { MemoryStands (rules_in parts.now budget) (T.lines lines.now) at.line
         memory.old }
     ensures quiet { IfOk result (IsQuietUntil (rules_in parts.now budget) (T.lines lines.now) at
-        (reverse state.now.stack) floor) }
+        (reverse state.now.stack) floor so_far) }
     ensures memory { MemoryStands (rules_in parts.now budget) (T.lines lines.now) at.line
         memory.new }
 {
@@ -68,6 +73,7 @@ pub fn quiet_until<T: Lines>(
         &state.stack,
         floor,
         &tried,
+        so_far,
         memory,
     )
 }
@@ -81,16 +87,18 @@ fn quiet_by<T: Lines>(
     stack: &Stack,
     floor: usize,
     tried: &List<ItemId>,
+    so_far: Looked,
     memory: &mut PickMemory,
 ) -> Result<usize, Memory>
     requires valid { IsSound syntax.now }
     requires present { at.line < length (T.lines lines.now) }
     requires within { at.col ≤ length (line_at (T.lines lines.now) at.line) }
     requires frames { Fits (length syntax.now.parts.now.items.now) (reverse stack.now) }
+    requires held { HoldsLine so_far at.line }
     requires memory { MemoryStands (rules_in syntax.now.parts.now syntax.now.budget)
         (T.lines lines.now) at.line memory.old }
     ensures quiet { IfOk result (IsQuietUntil (rules_in syntax.now.parts.now syntax.now.budget)
-        (T.lines lines.now) at (reverse stack.now) floor) }
+        (T.lines lines.now) at (reverse stack.now) floor so_far) }
     ensures memory { MemoryStands (rules_in syntax.now.parts.now syntax.now.budget)
         (T.lines lines.now) at.line memory.new }
 {
@@ -104,15 +112,22 @@ fn quiet_by<T: Lines>(
         floor,
         tried: &tried,
     };
-    picking.quiet_until(stack, memory)
+    picking.quiet_until(stack, so_far, memory)
 }
 
 impl<T: Lines> Picking<'_, T, Asked<'_>> {
     /// Whether it is known that no item of a choice starts at a column.
-    fn is_quiet(&self, choice: Choice, col: usize, memory: &mut PickMemory) -> Result<bool, Memory>
+    fn is_quiet(
+        &self,
+        choice: Choice,
+        col: usize,
+        looked: Looked,
+        memory: &mut PickMemory,
+    ) -> Result<bool, Memory>
         requires valid { IsSound self.now.syntax.now }
         requires place { IsPlace (T.lines self.now.lines.now) self.now.at }
         requires column { col < length (line_at (T.lines self.now.lines.now) self.now.at.line) }
+        requires held { HoldsLine looked self.now.at.line }
         requires choice { ChoiceFits
             (rules_in self.now.syntax.now.parts.now self.now.syntax.now.budget) choice }
         requires memory { MemoryStands
@@ -120,14 +135,15 @@ impl<T: Lines> Picking<'_, T, Asked<'_>> {
             (T.lines self.now.lines.now) self.now.at.line memory.old }
         ensures quiet { IfOk result (λ quiet. IsTrue quiet → IsQuietAt
             (rules_in self.now.syntax.now.parts.now self.now.syntax.now.budget)
-            (T.lines self.now.lines.now) choice self.now.floor (place_at self.now.at.line col)) }
+            (T.lines self.now.lines.now) choice self.now.floor looked
+            (place_at self.now.at.line col)) }
         ensures memory { MemoryStands
             (rules_in self.now.syntax.now.parts.now self.now.syntax.now.budget)
             (T.lines self.now.lines.now) self.now.at.line memory.new }
     {
         match choice {
             Choice::NoItem => Ok(true),
-            _ => self.is_row_empty(choice, col, memory),
+            _ => self.is_row_empty(choice, col, looked, memory),
         }
     }
 
@@ -136,11 +152,13 @@ impl<T: Lines> Picking<'_, T, Asked<'_>> {
         &self,
         choice: Choice,
         col: usize,
+        looked: Looked,
         memory: &mut PickMemory,
     ) -> Result<bool, Memory>
         requires valid { IsSound self.now.syntax.now }
         requires place { IsPlace (T.lines self.now.lines.now) self.now.at }
         requires column { col < length (line_at (T.lines self.now.lines.now) self.now.at.line) }
+        requires held { HoldsLine looked self.now.at.line }
         requires choice { ChoiceFits
             (rules_in self.now.syntax.now.parts.now self.now.syntax.now.budget) choice }
         requires memory { MemoryStands
@@ -148,7 +166,8 @@ impl<T: Lines> Picking<'_, T, Asked<'_>> {
             (T.lines self.now.lines.now) self.now.at.line memory.old }
         ensures quiet { IfOk result (λ quiet. IsTrue quiet → IsQuietAt
             (rules_in self.now.syntax.now.parts.now self.now.syntax.now.budget)
-            (T.lines self.now.lines.now) choice self.now.floor (place_at self.now.at.line col)) }
+            (T.lines self.now.lines.now) choice self.now.floor looked
+            (place_at self.now.at.line col)) }
         ensures memory { MemoryStands
             (rules_in self.now.syntax.now.parts.now self.now.syntax.now.budget)
             (T.lines self.now.lines.now) self.now.at.line memory.new }
@@ -158,8 +177,13 @@ impl<T: Lines> Picking<'_, T, Asked<'_>> {
         }
         match memory.number_at(col) {
             Some(number) => {
+                let search = Search {
+                    at: col,
+                    floor: self.floor,
+                    looked,
+                };
                 let count = self.syntax.parts.items.added();
-                let left = memory.left_in(self.syntax, choice, number, col, self.floor, count)?;
+                let left = memory.left_in(self.syntax, choice, number, search, count)?;
                 Ok(left == 0)
             }
             None => Ok(false),
@@ -167,7 +191,13 @@ impl<T: Lines> Picking<'_, T, Asked<'_>> {
     }
 
     /// The first column at which something may start on a stack.
-    fn quiet_until(&self, stack: &Stack, memory: &mut PickMemory) -> Result<usize, Memory>
+    fn quiet_until(
+        &self,
+        stack: &Stack,
+        looked: Looked,
+        memory: &mut PickMemory,
+    ) -> Result<usize, Memory>
+        requires held { HoldsLine looked self.now.at.line }
         requires valid { IsSound self.now.syntax.now }
         requires place { IsPlace (T.lines self.now.lines.now) self.now.at }
         requires frames { Fits (length self.now.syntax.now.parts.now.items.now) (reverse stack.now) }
@@ -176,7 +206,7 @@ impl<T: Lines> Picking<'_, T, Asked<'_>> {
             (T.lines self.now.lines.now) self.now.at.line memory.old }
         ensures quiet { IfOk result (IsQuietUntil
             (rules_in self.now.syntax.now.parts.now self.now.syntax.now.budget)
-            (T.lines self.now.lines.now) self.now.at (reverse stack.now) self.now.floor) }
+            (T.lines self.now.lines.now) self.now.at (reverse stack.now) self.now.floor looked) }
         ensures memory { MemoryStands
             (rules_in self.now.syntax.now.parts.now self.now.syntax.now.budget)
             (T.lines self.now.lines.now) self.now.at.line memory.new }
@@ -184,7 +214,7 @@ impl<T: Lines> Picking<'_, T, Asked<'_>> {
         let choice = self.allowed(stack);
         let last = self.last();
         for col in self.at.col..last {
-            let quiet = self.is_quiet(choice, col, memory)?;
+            let quiet = self.is_quiet(choice, col, looked, memory)?;
             if !quiet {
                 return Ok(col);
             }

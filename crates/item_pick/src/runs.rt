@@ -7,12 +7,13 @@ ghost use Rattle.item_pick.specs.PartsSeen.{rules_in};
 ghost use Rattle.item_pick.specs.Standing.{has_one_start, IsFirst, IsItem};
 ghost use Rattle.item_pick.specs.Tables.{IsEnough, RunStands};
 ghost use Rattle.item_pick.specs.Runs.{Covers, TellsOf};
+ghost use Rattle.item_pick.specs.Screens.{HoldsLines};
 
 use crate::asked::Asked;
 use crate::columns::Columns;
 use region_ends::item_of;
 use std::alloc::Global;
-use syn_base::{ItemId, Memory};
+use syn_base::{ItemId, Looked, Memory};
 use syntax_set::{ItemKind, Pattern};
 
 /// No match of an item by its first start pattern, from a column up to, and without, another, has its
@@ -23,9 +24,29 @@ pub(crate) struct Run {
     pub(crate) from: usize,
     pub(crate) to: usize,
     pub(crate) places: Columns,
+    /// The lines that the attempts looked at, and those between them.
+    pub(crate) looked: Looked,
     /// The least floor from which on the item is sought from no column before; only where the item has
     /// no other start pattern.
     pub(crate) least: Option<usize>,
+}
+
+/// Where items are sought.
+#[derive(Clone, Copy)]
+pub(crate) struct Search {
+    /// The column.
+    pub(crate) at: usize,
+    /// The column of the last start or close in the line.
+    pub(crate) floor: usize,
+    /// The lines looked at so far.
+    pub(crate) looked: Looked,
+}
+
+/// Whether some lines are among those looked at.
+pub(crate) fn holds(looked: Looked, lines: Looked) -> bool
+    ensures { IsTrue result → HoldsLines looked lines }
+{
+    looked.join(lines) == looked
 }
 
 /// What is known of a line. An item has one place; what stands there says itself of which item it is.
@@ -35,19 +56,21 @@ pub(crate) struct Runs {
 }
 
 impl Run {
-    /// Whether an item isn't matched at a place from any column before an end.
-    pub(crate) fn covers(&self, item: ItemId, at: usize, floor: usize, end: usize) -> bool
-        ensures { IsTrue result → Covers self.now item at floor end }
+    /// Whether an item isn't matched where it is sought from any column before an end, and the lines
+    /// that tell so were looked at.
+    pub(crate) fn covers(&self, item: ItemId, search: Search, end: usize) -> bool
+        ensures { IsTrue result → Covers self.now item search end }
     {
         let enough = match self.least {
-            Some(least) => least <= floor,
+            Some(least) => least <= search.floor,
             None => false,
         };
         enough
             && self.item == item
             && end <= self.to
-            && self.places.first <= at
-            && at < self.places.end
+            && self.places.first <= search.at
+            && search.at < self.places.end
+            && holds(search.looked, self.looked)
     }
 }
 
@@ -82,8 +105,9 @@ impl Asked<'_> {
         }
     }
 
-    /// A run that has no column yet.
-    pub(crate) fn fresh_run(&self, id: ItemId, pattern: &Pattern, col: usize) -> Run
+    /// A run of a line that has no column yet.
+    pub(crate) fn fresh_run(&self, id: ItemId, pattern: &Pattern, line: usize, col: usize) -> Run
+        requires line { line < 2 ^ 63 }
         requires item { IsItem (rules_in self.now.parts.now self.now.budget) id }
         requires first { IsFirst (rules_in self.now.parts.now self.now.budget) id pattern.now }
         ensures stands { (t : Text) (l : ℕ) →
@@ -98,6 +122,7 @@ impl Asked<'_> {
                 first: 0,
                 end: usize::MAX,
             },
+            looked: Looked::one(line as i64),
             least: self.least_floor(id, pattern, col),
         }
     }
@@ -145,14 +170,15 @@ impl Runs {
         }
     }
 
-    /// Whether it is known that an item isn't matched at a place from any column before an end.
-    pub(crate) fn covers(&self, item: ItemId, at: usize, floor: usize, end: usize) -> bool
+    /// Whether it is known that an item isn't matched where it is sought from any column before an
+    /// end.
+    pub(crate) fn covers(&self, item: ItemId, search: Search, end: usize) -> bool
         ensures { IsTrue result → (r : Rules) (t : Text) (l : ℕ) →
             All (RunStands r t l) self.now.list.items →
-            (run : Run) × RunStands r t l run × Covers run item at floor end }
+            (run : Run) × RunStands r t l run × Covers run item search end }
     {
         match self.list.get(item.0 as usize) {
-            Some(run) => run.covers(item, at, floor, end),
+            Some(run) => run.covers(item, search, end),
             None => false,
         }
     }
@@ -195,6 +221,7 @@ impl Runs {
             from: 0,
             to: 0,
             places: Columns { first: 0, end: 0 },
+            looked: Looked::one(0),
             least: None,
         })
     }

@@ -270,6 +270,7 @@ impl<T: Lines, S: Syntax> Picking<'_, T, S> {
         &self,
         choice: Choice,
         left: usize,
+        looked: Looked,
         memo: &mut M,
     ) -> Result<usize, Memory>
         requires valid { S.valid self.now.syntax.now }
@@ -278,13 +279,14 @@ impl<T: Lines, S: Syntax> Picking<'_, T, S> {
         requires items { left ≤ length (S.rules self.now.syntax.now).items }
         requires memo { M.stands memo.old self.now.syntax.now (T.lines self.now.lines.now)
             self.now.at.line }
+        requires held { HoldsLine looked self.now.at.line }
         ensures next { IfOk result (IsEarlier (S.rules self.now.syntax.now)
             (T.lines self.now.lines.now) self.now.at self.now.floor (reverse self.now.tried.now)
-            choice left) }
+            choice looked left) }
         ensures memo { M.stands memo.new self.now.syntax.now (T.lines self.now.lines.now)
             self.now.at.line }
     {
-        memo.next_item(self, choice, left)
+        memo.next_item(self, choice, left, looked)
     }
 
     /// The first match or region of a choice, the last item first.
@@ -309,12 +311,12 @@ impl<T: Lines, S: Syntax> Picking<'_, T, S> {
         ensures memo { M.stands memo.new self.now.syntax.now (T.lines self.now.lines.now)
             self.now.at.line }
     {
-        let mut left = self.next_item(choice, self.syntax.items().added(), memo)?;
+        let mut left = self.next_item(choice, self.syntax.items().added(), *looked, memo)?;
         'items: while left > 0 {
             let found = self.start_if_free(choice, ItemId((left - 1) as u32), looked, memo)?;
             match found {
                 Some(starting) => return Ok(Some(starting)),
-                None => left = self.next_item(choice, left - 1, memo)?,
+                None => left = self.next_item(choice, left - 1, *looked, memo)?,
             }
         }
         Ok(None)

@@ -1,5 +1,5 @@
 //! The match of an item at a place.
-ghost use Rattle.std.specs.Prelude.{◌≡◌, ◌<◌, ◌≤◌, ◌+◌, ◌^◌, ℕ, length, IfOk, IsTrue, Some, pos};
+ghost use Rattle.std.specs.Prelude.{◌≡◌, ◌<◌, ◌≤◌, ◌+◌, ◌^◌, ℕ, length, IfOk, Some, pos};
 ghost use Rattle.syn_base.specs.Looked.{hull_of, one_line};
 ghost use Rattle.match_rules.specs.Ways.{line_at};
 ghost use Rattle.paint_rules.specs.Rules.{attempted, no_externals, place_at};
@@ -32,8 +32,9 @@ pub(crate) struct Seen {
 pub(crate) enum Tried {
     /// A match with its item start at the place.
     Here(Match),
-    /// A match from the column has its item start at none of these columns of the line.
-    Not(Columns),
+    /// A match from the column has its item start at none of these columns of the line, which these
+    /// lines tell.
+    Not(Columns, Looked),
 }
 
 /// No column.
@@ -119,25 +120,12 @@ impl<T: Lines, S: Syntax> Picking<'_, T, S> {
         }
     }
 
-    /// Whether the line that is painted was looked at alone.
-    fn is_alone(&self, looked: Looked) -> bool
-        requires { IsPlace (T.lines self.now.lines.now) self.now.at }
-        ensures { IsTrue result → looked ≡ one_line (pos self.now.at.line) }
-    {
-        looked == Looked::one(self.at.line as i64)
-    }
-
-    /// The columns of the line at which what an attempt gave hasn't its item start; none is known where
-    /// it looked at another line.
-    fn without(&self, pattern: &Pattern, seen: &Seen) -> Columns
-        requires { IsPlace (T.lines self.now.lines.now) self.now.at }
-        ensures { HasNoStart (T.lines self.now.lines.now) self.now.at.line pattern.now seen.now
+    /// Columns of the line at which what an attempt gave hasn't its item start.
+    fn without(&self, pattern: &Pattern, found: &Option<Match>) -> Columns
+        ensures { HasNoStart (T.lines self.now.lines.now) self.now.at.line pattern.now found.now
             result }
     {
-        if !self.is_alone(seen.looked) {
-            return NO_COLUMNS;
-        }
-        match &seen.found {
+        match found {
             Some(m) => self.beside(offset_place(self.lines, m, pattern, Which::Ms)),
             None => Columns {
                 first: 0,
@@ -175,21 +163,24 @@ impl<T: Lines, S: Syntax> Picking<'_, T, S> {
             (T.lines self.now.lines.now) self.now.at.line id pattern.now col) }
     {
         if !may_start(pattern, col, self.at.col, self.last()) {
-            return Ok(Tried::Not(NO_COLUMNS));
+            return Ok(Tried::Not(NO_COLUMNS, *looked));
         }
-        let seen = self.attempted(id, pattern, col)?;
-        *looked = looked.join(seen.looked);
-        let places = self.without(pattern, &seen);
-        match seen.found {
+        let Seen {
+            found,
+            looked: lines,
+        } = self.attempted(id, pattern, col)?;
+        *looked = looked.join(lines);
+        let places = self.without(pattern, &found);
+        match found {
             Some(m) => {
                 if self.starts_here(pattern, &m) {
                     look_at(looked, m.to.line);
                     Ok(Tried::Here(m))
                 } else {
-                    Ok(Tried::Not(places))
+                    Ok(Tried::Not(places, lines))
                 }
             }
-            None => Ok(Tried::Not(places)),
+            None => Ok(Tried::Not(places, lines)),
         }
     }
 
@@ -200,6 +191,7 @@ impl<T: Lines, S: Syntax> Picking<'_, T, S> {
         start: usize,
         pattern: &Pattern,
         col: usize,
+        looked: Looked,
         memo: &mut M,
     ) -> Result<usize, Memory>
         requires valid { S.valid self.now.syntax.now }
@@ -208,12 +200,13 @@ impl<T: Lines, S: Syntax> Picking<'_, T, S> {
         requires place { IsPlace (T.lines self.now.lines.now) self.now.at }
         requires memo { M.stands memo.old self.now.syntax.now (T.lines self.now.lines.now)
             self.now.at.line }
+        requires held { HoldsLine looked self.now.at.line }
         ensures next { IfOk result (IsLater (S.rules self.now.syntax.now)
-            (T.lines self.now.lines.now) id pattern.now self.now.at col) }
+            (T.lines self.now.lines.now) id pattern.now self.now.at looked col) }
         ensures memo { M.stands memo.new self.now.syntax.now (T.lines self.now.lines.now)
             self.now.at.line }
     {
-        memo.next(self, id, start, pattern, col)
+        memo.next(self, id, start, pattern, col, looked)
     }
 
     /// The match of an item at the place, by its start pattern of a number: from the first column that
@@ -245,14 +238,14 @@ impl<T: Lines, S: Syntax> Picking<'_, T, S> {
         let least = self.floor.saturating_sub(pattern.lc as usize);
         let first = least.max(columns.first);
         let end = columns.end.min(last + 1);
-        let mut col = self.next_column(id, start, pattern, first, memo)?;
+        let mut col = self.next_column(id, start, pattern, first, *looked, memo)?;
         'columns: while col < end {
             let tried = self.match_from(id, pattern, col, looked)?;
             match tried {
                 Tried::Here(m) => return Ok(Some(m)),
-                Tried::Not(places) => {
-                    memo.note(self, id, start, pattern, col, places)?;
-                    col = self.next_column(id, start, pattern, col + 1, memo)?;
+                Tried::Not(places, lines) => {
+                    memo.note(self, id, start, pattern, col, places, lines)?;
+                    col = self.next_column(id, start, pattern, col + 1, *looked, memo)?;
                 }
             }
         }

@@ -3,7 +3,6 @@ use Rattle.std.proofs.Common.{◌≡◌, ◌+◌, ℕ, zero, suc, List, [], ◌�
 use Rattle.std.specs.Prelude.{Option, Some, None}
 use Rattle.std.specs.Option.{option_map}
 use Rattle.syn_base.specs.declared.looked.Looked.{Looked}
-use Rattle.syn_base.specs.Looked.{hull_of}
 use Rattle.syn_base.specs.declared.places.Span.{Span}
 use Rattle.paint_rules.specs.declared.Spot.TheVariants.{At}
 use Rattle.paint_rules.specs.Painted.{Painted, Done, looked_first, done, ◌>>=◌}
@@ -15,12 +14,12 @@ use Rattle.line_paint.specs.declared.spans.Spans.{Spans}
 use Rattle.line_paint.specs.Line.{painted_rest}
 use Rattle.line_paint.specs.Quiet.{IsQuiet}
 use Rattle.line_paint.specs.Spans.{chained}
-use Rattle.line_paint.specs.Turns.{Held, Last, next_start, turn}
+use Rattle.line_paint.specs.Turns.{Last, next_start, turn}
 use Rattle.paint_rules.proofs.PaintedLaws.{goes_on}
 use Rattle.line_paint.proofs.TurnLaws.{next_nothing, one_turn, go_on}
 use Rattle.line_paint.proofs.LineLaws.{char_step}
 
-module _ (h : Here) (one : Looked) (c : ℕ) (s : Standing) (q : IsQuiet h one c s) where
+module _ (h : Here) (j : Looked) (c : ℕ) (s : Standing) (q : IsQuiet h j c s) where
   none_closes : (n : ℕ) → closed_in n h c s ≡ done s
   none_closes zero = refl
   none_closes (suc n) =
@@ -33,14 +32,12 @@ module _ (h : Here) (one : Looked) (c : ℕ) (s : Standing) (q : IsQuiet h one c
   none_waits_on : record s { waiting = None } ≡ s
   none_waits_on = λ i. record s { waiting = sym q.none_waits i }
 
-  last_turn : (j : Looked) → Held one j → looked_first (Some j) (turn h c s) ≡ Done (Last s)
-      (Some j)
-  last_turn j held =
+  last_turn : looked_first (Some j) (turn h c s) ≡ Done (Last s) (Some j)
+  last_turn =
       goes_on j j (closed h c s) s (next_start h c)
       (ap (looked_first (Some j)) (none_closes (length s.stack + length s.stack)))
-      ∙ (next_nothing h c one j one s held q.nothing
-      ∙ (ap (λ (t : Standing). Done (Last t) (Some (hull_of j one))) none_waits_on
-      ∙ ap (λ (k : Looked). Done (Last s) (Some k)) held))
+      ∙ (next_nothing h c j j s q.nothing
+      ∙ ap (λ (t : Standing). Done (Last t) (Some j)) none_waits_on)
 
   begun : record s { tried = []; waiting = option_map stale s.waiting } ≡ s
   begun = (λ i. record s {
@@ -50,19 +47,17 @@ module _ (h : Here) (one : Looked) (c : ℕ) (s : Standing) (q : IsQuiet h one c
   }) ∙ (λ i. record s { waiting = sym q.none_waits i })
 
   -- such a column leaves all as it is
-  pub quiet_column : (j : Looked) → Held one j → looked_first (Some j) (column h c s) ≡ Done s
-      (Some j)
-  quiet_column j held =
+  pub quiet_column : looked_first (Some j) (column h c s) ≡ Done s (Some j)
+  quiet_column =
       let n = length h.rules.items in
       ap (λ (t : Standing). looked_first (Some j) (turns (suc n) h c t)) begun
       ∙ (ap (looked_first (Some j)) (one_turn h c n s)
-      ∙ goes_on j j (turn h c s) (Last s) (go_on h c n) (last_turn j held))
+      ∙ goes_on j j (turn h c s) (Last s) (go_on h c n) last_turn)
 
   -- so what is left of the line is what is left past it, where its character is shown
-  pub quiet_char : (j : Looked) (spans more : Spans) (x : ℕ) (line : List ℕ) → Held one j →
+  pub quiet_char : (spans more : Spans) (x : ℕ) (line : List ℕ) →
       ((rest : List Span) → chained more rest ≡ chained spans
       (joined c (shown h.rules (At 0 c) s.stack) rest)) →
       looked_first (Some j) (painted_rest h c (x ∷ line) s spans) ≡ looked_first (Some j)
       (painted_rest h (suc c) line s more)
-  quiet_char j spans more x line held shows = char_step h c j j s s spans x line more
-      (quiet_column j held) shows
+  quiet_char spans more x line shows = char_step h c j j s s spans x line more quiet_column shows

@@ -60,49 +60,36 @@ held_after one j k (Done b (Some m)) a h e = let same : hull_of j m ≡ k =
     cc in subst (Held one) same (held_more one j m h)
 held_after one j k (Refused b m) a h e = absurd (cc)
 
--- an answer that has looked at a line, where that was looked at before
-pub seen_too : {A : Type 0} (one j k : Looked) (p : Painted Cause A) (a : A) → Held one j →
-    looked_first (Some one) p ≡ Done a (Some k) → looked_first (Some j) p ≡ Done a
-    (Some (hull_of j k))
-seen_too one j k p a h e =
-    ap (λ (l : Looked). looked_first (Some l) p) (sym h)
-    ∙ (sym (first_first (Some j) (Some one) p) ∙ ap (looked_first (Some j)) e)
-
-module _ (h : Here) (c : ℕ) (one j k : Looked) (s : Standing) (held : Held one j) where
+module _ (h : Here) (c : ℕ) (j k : Looked) (s : Standing) where
   pub next_starts : (l : Looked) (t : Starting) (to : Standing) →
-      looked_first (Some one) (picked h c s) ≡ Done (Start t) (Some k) →
-      looked_first (Some (hull_of j k)) (started h c s t) ≡ Done to (Some l) →
+      looked_first (Some j) (picked h c s) ≡ Done (Start t) (Some k) →
+      looked_first (Some k) (started h c s t) ≡ Done to (Some l) →
       looked_first (Some j) (next_start h c s) ≡ Done (More to) (Some l)
   next_starts l t to e d =
-      goes_on j (hull_of j k) (picked h c s) (Start t) (after_pick h c s)
-      (seen_too one j k (picked h c s) (Start t) held e)
-      ∙ goes_on (hull_of j k) l (started h c s t) to (λ s. done (More s)) d
+      goes_on j k (picked h c s) (Start t) (after_pick h c s) e
+      ∙ goes_on k l (started h c s t) to (λ s. done (More s)) d
 
-  pub next_stops : (x : Stop) (t : Starting) → looked_first (Some one) (picked h c s) ≡ Done
+  pub next_stops : (x : Stop) (t : Starting) → looked_first (Some j) (picked h c s) ≡ Done
       (Start t) (Some k) → Stops x (started h c s t) → Stops x (next_start h c s)
   next_stops x t e d =
-      stops_then x j (hull_of j k) (picked h c s) (Start t) (after_pick h c s)
-      (seen_too one j k (picked h c s) (Start t) held e)
+      stops_then x j k (picked h c s) (Start t) (after_pick h c s) e
       (stops_bind x (started h c s t) (λ s. done (More s)) d)
 
-  pub next_skips : looked_first (Some one) (picked h c s) ≡ Done SkipOn (Some k) →
-      looked_first (Some j) (next_start h c s) ≡ Done (Last s) (Some (hull_of j k))
-  next_skips e = goes_on j (hull_of j k) (picked h c s) SkipOn (after_pick h c s)
-      (seen_too one j k (picked h c s) SkipOn held e)
+  pub next_skips : looked_first (Some j) (picked h c s) ≡ Done SkipOn (Some k) →
+      looked_first (Some j) (next_start h c s) ≡ Done (Last s) (Some k)
+  next_skips e = goes_on j k (picked h c s) SkipOn (after_pick h c s) e
 
-  pub next_nothing : looked_first (Some one) (picked h c s) ≡ Done Nothing (Some k) →
-      looked_first (Some j) (next_start h c s) ≡ Done (Last (record s { waiting = None }))
-      (Some (hull_of j k))
-  next_nothing e = goes_on j (hull_of j k) (picked h c s) Nothing (after_pick h c s)
-      (seen_too one j k (picked h c s) Nothing held e)
+  pub next_nothing : looked_first (Some j) (picked h c s) ≡ Done Nothing (Some k) →
+      looked_first (Some j) (next_start h c s) ≡ Done (Last (record s { waiting = None })) (Some k)
+  next_nothing e = goes_on j k (picked h c s) Nothing (after_pick h c s) e
 
-pub next_costly : (h : Here) (c : ℕ) (one : Looked) (s : Standing) (i : ItemId) →
-    refusal_of (looked_first (Some one) (picked h c s)) ≡ Some (TooCostly i) →
+pub next_costly : (h : Here) (c : ℕ) (j : Looked) (s : Standing) (i : ItemId) →
+    refusal_of (looked_first (Some j) (picked h c s)) ≡ Some (TooCostly i) →
     refusal_of (next_start h c s) ≡ Some (TooCostly i)
-next_costly h c one s i e =
-    sym (refusal_first (Some one) (next_start h c s))
-    ∙ (ap refusal_of (first_bind (Some one) (picked h c s) (after_pick h c s))
-    ∙ bound (looked_first (Some one) (picked h c s)) e)
+next_costly h c j s i e =
+    sym (refusal_first (Some j) (next_start h c s))
+    ∙ (ap refusal_of (first_bind (Some j) (picked h c s) (after_pick h c s))
+    ∙ bound (looked_first (Some j) (picked h c s)) e)
   where
     bound : (m : Painted Cause Picked) → refusal_of m ≡ Some (TooCostly i) →
         refusal_of (m >>= after_pick h c s) ≡ Some (TooCostly i)

@@ -96,8 +96,14 @@ fn columns<S: Site, M: Picker<S>>(
         spans.show(c, shown(site, place, &standing.state.stack))?;
         forget_tried(alloc, standing);
         let next = c + 1;
-        let state = &standing.state;
-        let to = memory.quiet_until(alloc, site, next, state, standing.floor, standing.is_over)?;
+        let Standing {
+            state,
+            floor,
+            tried: _,
+            is_over,
+            looked,
+        } = &*standing;
+        let to = memory.quiet_until(alloc, site, next, state, *floor, *is_over, *looked)?;
         show_quiet(site, standing, &mut spans, next, to)?;
         c = to;
     }
@@ -122,10 +128,8 @@ fn show_quiet<S: Site>(
     requires order { from ≤ to }
     requires within { to ≤ length (this_line (S.here site.now)) }
     requires fits { Fits (length (S.here site.now).rules.items) (reverse standing.now.state.stack) }
-    requires held { Held (one_line (pos (S.here site.now).line)) standing.now.looked }
     requires quiet { (d : ℕ) → from ≤ d → d < to
-        → IsQuiet (S.here site.now) (one_line (pos (S.here site.now).line)) d
-        (standing_of standing.now) }
+        → IsQuiet (S.here site.now) standing.now.looked d (standing_of standing.now) }
     ensures { IfOk result
         (λ _. looked_first (Some standing.now.looked)
         (painted_rest (S.here site.now) from (drop from (this_line (S.here site.now)))

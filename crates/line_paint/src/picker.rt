@@ -6,6 +6,7 @@ ghost use Rattle.paint_rules.specs.Painted.{looked_first};
 ghost use Rattle.paint_rules.specs.Pick.{picked};
 ghost use Rattle.item_pick.specs.Picks.{IsPicked};
 ghost use Rattle.line_paint.specs.Quiet.{IsQuiet};
+ghost use Rattle.line_paint.specs.Turns.{Held};
 ghost use Rattle.state_stack.specs.TopFirst.{top_first};
 ghost use Rattle.paint_rules.specs.States.{StateFits};
 
@@ -13,9 +14,10 @@ use crate::Site;
 use item_pick::Picked;
 use state_stack::State;
 use std::alloc::Global;
-use syn_base::{ItemId, List, Memory};
+use syn_base::{ItemId, List, Looked, Memory};
 
-/// What starts at a place of a line, told by a memory that outlives the line.
+/// What starts at a place of a line, told by a memory that outlives the line. It is handed the lines
+/// that were looked at so far, and adds those that it looks at.
 pub(crate) trait Picker<S: Site> {
     /// Whether what it remembers is true of a line.
     ghost stands: { Self → S → Type 0 };
@@ -28,16 +30,18 @@ pub(crate) trait Picker<S: Site> {
         state: &State,
         floor: usize,
         tried: &List<ItemId>,
+        so_far: Looked,
     ) -> Result<Picked, Memory>
         requires valid { S.valid site.now }
         requires memory { stands self.old site.now }
         requires floor { floor ≤ c }
         requires within { c ≤ length (this_line (S.here site.now)) }
+        requires held { Held (one_line (pos (S.here site.now).line)) so_far }
         requires fits { StateFits (length (S.here site.now).rules.items) (top_first state.now) }
         ensures memory { stands self.new site.now }
         ensures picked { IfOk result
             (λ a. (over : Bool) → IsPicked (S.here site.now).rules.items a
-            (looked_first (Some (one_line (pos (S.here site.now).line)))
+            (looked_first (Some so_far)
             (picked (S.here site.now) c
             (record {
               stack = reverse state.now.stack;
@@ -47,7 +51,8 @@ pub(crate) trait Picker<S: Site> {
               is_over = over;
             })))) };
 
-    /// A column from `c` on, up to the line's end, before which all from `c` on are quiet.
+    /// A column from `c` on, up to the line's end, before which all from `c` on are quiet. No other
+    /// line than those so far is looked at.
     fn quiet_until(
         &mut self,
         alloc: Global,
@@ -56,14 +61,16 @@ pub(crate) trait Picker<S: Site> {
         state: &State,
         floor: usize,
         is_over: bool,
+        so_far: Looked,
     ) -> Result<usize, Memory>
         requires valid { S.valid site.now }
         requires memory { stands self.old site.now }
         requires within { c ≤ length (this_line (S.here site.now)) }
+        requires held { Held (one_line (pos (S.here site.now).line)) so_far }
         requires fits { StateFits (length (S.here site.now).rules.items) (top_first state.now) }
         ensures memory { stands self.new site.now }
         ensures quiet { IfOk result (λ to. (d : ℕ) → c ≤ d → d < to
-            → IsQuiet (S.here site.now) (one_line (pos (S.here site.now).line)) d
+            → IsQuiet (S.here site.now) so_far d
             (record {
               stack = reverse state.now.stack;
               waiting = state.now.waiting;

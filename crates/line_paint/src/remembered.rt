@@ -6,7 +6,7 @@ use crate::staying::closes_from;
 use item_pick::{PickMemory, Picked, pick_with, quiet_until};
 use state_stack::State;
 use std::alloc::Global;
-use syn_base::{ItemId, Lines, List, Memory, Place};
+use syn_base::{ItemId, Lines, List, Looked, Memory, Place};
 
 impl<T: Lines> Picker<Painting<'_, T>> for PickMemory {
     ghost use Rattle.item_pick.specs.PartsSeen.{rules_in};
@@ -23,6 +23,7 @@ impl<T: Lines> Picker<Painting<'_, T>> for PickMemory {
         state: &State,
         floor: usize,
         tried: &List<ItemId>,
+        so_far: Looked,
     ) -> Result<Picked, Memory> {
         let at = Place {
             line: site.line as usize,
@@ -36,6 +37,7 @@ impl<T: Lines> Picker<Painting<'_, T>> for PickMemory {
             state,
             floor,
             tried,
+            so_far,
             site.no_externals(),
             self,
             site.budget,
@@ -50,6 +52,7 @@ impl<T: Lines> Picker<Painting<'_, T>> for PickMemory {
         state: &State,
         floor: usize,
         is_over: bool,
+        so_far: Looked,
     ) -> Result<usize, Memory> {
         if state.waiting.is_some() {
             return Ok(c);
@@ -69,6 +72,7 @@ impl<T: Lines> Picker<Painting<'_, T>> for PickMemory {
             at,
             state,
             floor,
+            so_far,
             site.no_externals(),
             self,
             site.budget,

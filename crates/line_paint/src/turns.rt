@@ -35,20 +35,20 @@ impl Standing {
         ensures stands { IfOk result
             (λ _. Stands (length (S.here site.now).rules.items) c self.new) }
     {
-        match memory.pick(alloc, site, c, &self.state, self.floor, &self.tried)? {
-            Picked::Start(starting, seen) => {
-                self.looked = self.looked.join(seen);
+        match memory.pick(alloc, site, c, &self.state, self.floor, &self.tried, self.looked)? {
+            Picked::Start(starting, looked) => {
+                self.looked = looked;
                 match self.start(alloc, site, c, starting) {
                     Ok(()) => Ok(true),
                     Err(stop) => Err(stop),
                 }
             }
-            Picked::SkipOn(seen) => {
-                self.looked = self.looked.join(seen);
+            Picked::SkipOn(looked) => {
+                self.looked = looked;
                 Ok(false)
             }
-            Picked::Nothing(seen) => {
-                self.looked = self.looked.join(seen);
+            Picked::Nothing(looked) => {
+                self.looked = looked;
                 self.state.waiting = None;
                 Ok(false)
             }

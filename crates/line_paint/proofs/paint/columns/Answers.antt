@@ -73,8 +73,8 @@ columns-preserved g c =
       within = c.in_ok-to.ensures.to;
     }
 
-pub show_quiet-requires-clause-held : goal.show_quiet-requires-clause-held
-show_quiet-requires-clause-held g c =
+pub quiet_until-requires-clause-held : goal.quiet_until-requires-clause-held
+quiet_until-requires-clause-held g c =
     let h = g.S.Site.here c.args.site.now in
     subst (λ (x : Standing). Held (one_line (pos h.line)) x.looked) (sym c.forget_tried.ensures)
     (held_after (one_line (pos h.line)) (c.columns.standing).looked (c.column.new.self).looked
@@ -85,7 +85,7 @@ pub show_quiet-requires-clause-quiet : goal.show_quiet-requires-clause-quiet
 show_quiet-requires-clause-quiet g c d a b =
     let h = g.S.Site.here c.args.site.now in
     let f = c.forget_tried.new.standing in
-    let P : List ItemId → Type 0 = λ ts. IsQuiet h (one_line (pos h.line)) d
+    let P : List ItemId → Type 0 = λ ts. IsQuiet h f.looked d
     (record {
       stack = reverse (f.state).stack;
       waiting = (f.state).waiting;

@@ -1,6 +1,5 @@
 use Rattle.std.proofs.Common.{◌≡◌, ◌<◌, ◌+◌, ◌∙◌, ap, sym, suc, List, ℕ, length, drop, get_or, drop-cons, arith}
-use Rattle.std.specs.Prelude.{Some, Option, pos}
-use Rattle.syn_base.specs.Looked.{one_line}
+use Rattle.std.specs.Prelude.{Some, Option}
 use Rattle.syn_base.specs.declared.places.GroupId.{GroupId}
 use Rattle.paint_rules.specs.Painted.{looked_first}
 use Rattle.paint_rules.specs.Rules.{this_line}
@@ -24,9 +23,9 @@ quiet-preserved g c =
       whole = c.quiet.invariant.whole
           ∙ (ap (λ (l : List ℕ). looked_first (Some j) (painted_rest h at l s c.quiet.spans))
           (drop-cons line at 0 less)
-          ∙ (quiet_char h (one_line (pos h.line)) at s
-          (c.requires.quiet at c.quiet.invariant.from c.quiet-test.true) j c.quiet.spans
-          c.show.new.self (get_or line at 0) (drop (suc at) line) c.requires.held
+          ∙ (quiet_char h j at s
+          (c.requires.quiet at c.quiet.invariant.from c.quiet-test.true) c.quiet.spans
+          c.show.new.self (get_or line at 0) (drop (suc at) line)
           (λ rest. c.in_ok-show.ensures rest
           ∙ ap (λ (g : Option GroupId). chained c.quiet.spans (joined at g rest))
           (sym (c.at-stretch.ensures.shows at (omega arith) c.at-stretch.ensures.behind)))

@@ -7,7 +7,7 @@ use Rattle.item_pick.proofs.TableLaws.{next_at}
 use Rattle.item_pick.proofs.memory.PickMemory.left_by.Goals as goal
 
 pub returns : goal.returns
-returns c t l memory key =
+returns c t l memory key held =
     let sets = c.args._asked.now.parts.now.sets.now in
     let budget = c.args._asked.now.budget in
     let r = rules_in c.args._asked.now.parts.now budget in
@@ -15,5 +15,5 @@ returns c t l memory key =
     let stands =
     subst (λ choice. ListStands r choice c.args.number c.in_ok-row.row.now.items.items) row.choice
     (subst (λ number. ListStands r c.in_ok-row.row.now.choice number c.in_ok-row.row.now.items.items) row.number (row.stands r memory.tables)) in
-    next_at r (futile_by sets budget) t (place_at l c.args.at) c.args.number c.args.floor key c.args.choice c.in_ok-row.row.now.items.items stands
-    c.args.left c.next_open.result c.requires (subst (λ (list : List ℕ). IsNextIn r t (place_at l c.args.at) c.args.floor list c.args.left c.next_open.result) c.deref.ensures.value (c.next_open.ensures r t l memory))
+    next_at r (futile_by sets budget) t (place_at l c.args.search.at) c.args.number c.args.search.floor c.args.search.looked held key c.args.choice c.in_ok-row.row.now.items.items stands
+    c.args.left c.next_open.result c.requires (subst (λ (list : List ℕ). IsNextIn r t (place_at l c.args.search.at) c.args.search.floor c.args.search.looked list c.args.left c.next_open.result) c.deref.ensures.value (c.next_open.ensures r t l memory held))

@@ -1,4 +1,4 @@
-use Rattle.std.proofs.Common.{arith}
+use Rattle.std.proofs.Common.{arith, refl}
 use Rattle.item_pick.specs.PartsSeen.{rules_in}
 use Rattle.item_pick.specs.Screened.{futile_by}
 use Rattle.item_pick.proofs.TableLaws.{later_by, run_goes_on, still_stands}
@@ -51,4 +51,4 @@ returns-clause-next g c =
     let run = c.run_at-run.result in
     let longer = run_goes_on r (futile_by s.parts.now.sets.now s.budget) t l c.args.id c.args.pattern.now first run c.in_ok-to.to
     c.run_at-run.ensures.tells.same (c.run_at-run.ensures.stands t l c.requires.stands) (c.in_ok-to.ensures.missed t l c.requires.stands) in
-    later_by r t p.at c.args.id c.args.pattern.now first run c.args.col c.run_at-run.ensures.tells c.in_ok-to.to c.in_ok-to.ensures.from longer
+    later_by r t p.at c.args.id c.args.pattern.now first run c.args.col c.run_at-run.ensures.tells c.in_ok-to.to c.in_ok-to.ensures.from c.args.looked c.requires.held (c.if-not-holds.ensures refl) longer

@@ -17,7 +17,7 @@ returns g c =
       keys = stands.keys;
       runs = c.keep.ensures r t l stands.runs
           (run_and r t l c.args.id c.args.pattern.now first run c.args.col c.args.places.first c.args.places.end
-          c.run_at-run.ensures.tells.same (c.run_at-run.ensures.stands t l stands) (omega (arith, c.if-run-col.false)) c.requires.settled
+          c.run_at-run.ensures.tells.same (c.run_at-run.ensures.stands t l stands) (omega (arith, c.if-run-col.false)) c.args.lines c.join.result c.join.ensures c.requires.settled
           c.both-places.result.first c.both-places.result.end
           c.both-places.ensures.first.0 c.both-places.ensures.first.1 c.both-places.ensures.end.0 c.both-places.ensures.end.1);
     }

@@ -13,7 +13,7 @@ items-init g c =
     let count : c.added.result ≡ length (g.S.Syntax.rules c.args.self.now.syntax.now).items = c.added.ensures.number ∙ ap length c.items-2.ensures in
     record {
       whole = items_skip f c.args.looked.now (length (g.S.Syntax.rules c.args.self.now.syntax.now).items) c.in_ok-left.left (c.added.result - c.in_ok-left.left) (omega (arith, next.behind, count))
-          (λ j a b. next.idle c.args.looked.now c.requires.held j a (omega (arith, b, count)));
+          (λ j a b. next.idle j a (omega (arith, b, count)));
       within = omega (arith, next.behind, count);
       held = c.requires.held;
       memo = c.next_item.ensures.memo;
@@ -30,11 +30,17 @@ items-preserved g c =
       whole = c.items.invariant.whole
           ∙ (item_none f c.items.left (c.items.left - 1) one c.items.looked c.start_if_free.new.looked absent
           ∙ items_skip f c.start_if_free.new.looked (c.items.left - 1) c.in_ok-left-in-None.left ((c.items.left - 1) - c.in_ok-left-in-None.left) (omega (arith, next.behind))
-          (λ j a b. next.idle c.start_if_free.new.looked held j a b));
+          next.idle);
       within = omega (arith, next.behind, c.items.invariant.within);
       held = held;
       memo = c.next_item-in-None.ensures.memo;
     }
+
+pub next_item-requires-in-None-clause-held : goal.next_item-requires-in-None-clause-held
+next_item-requires-in-None-clause-held g c =
+    let f = start_if_free (g.S.Syntax.rules c.args.self.now.syntax.now) (g.T.Lines.lines c.args.self.now.lines.now) c.args.self.now.at c.args.self.now.floor (reverse c.args.self.now.tried.now) c.args.choice in
+    let absent = rw c.in-None.is at c.in_ok-found.ensures.told in
+    still_held c.items.looked c.start_if_free.new.looked c.args.self.now.at.line (f (item_numbered (c.items.left - 1))) _ c.items.invariant.held absent
 
 pub items-smaller : goal.items-smaller
 items-smaller g c = omega (arith, c.in_ok-left-in-None.ensures.next.behind, c.items-test.true)

@@ -15,7 +15,7 @@ columns-init g c =
       whole = match_begins r t c.args.id c.args.pattern.now c.args.self.now.at c.last-last.result c.last-last.ensures.is c.columns_of-columns.result c.columns_of-columns.ensures
           c.args.self.now.floor c.args.looked.now c.max-first.result (omega arith) (λ x h l within. omega (arith, h, l, within.0))
           ∙ skip_to (match_from r t c.args.id c.args.pattern.now c.args.self.now.at) c.last-last.result c.args.looked.now c.max-first.result c.in_ok-col.col next.ahead
-          (λ x a b h. next.idle c.args.looked.now c.requires.held x a b (omega (arith, h, c.last-last.ensures.is)));
+          (λ x a b h. next.idle x a b (omega (arith, h, c.last-last.ensures.is)));
       held = c.requires.held;
       memo = c.next_column.ensures.memo;
       from = next.ahead;
@@ -35,11 +35,19 @@ columns-preserved g c =
       whole = c.columns.invariant.whole
           ∙ (column_none f c.last-last.result c.columns.looked c.match_from.new.looked c.columns.col (c.columns.col + 1) here one absent
           ∙ skip_to f c.last-last.result c.match_from.new.looked (c.columns.col + 1) c.in_ok-col-in-Not.col next.ahead
-          (λ x a b h. next.idle c.match_from.new.looked held x a b (omega (arith, h, c.last-last.ensures.is))));
+          (λ x a b h. next.idle x a b (omega (arith, h, c.last-last.ensures.is))));
       held = held;
       memo = c.next_column-in-Not.ensures.memo;
       from = omega (arith, next.ahead, c.columns.invariant.from);
     }
+
+pub next_column-requires-in-Not-clause-held : goal.next_column-requires-in-Not-clause-held
+next_column-requires-in-Not-clause-held g c =
+    let r = g.S.Syntax.rules c.args.self.now.syntax.now in
+    let t = g.T.Lines.lines c.args.self.now.lines.now in
+    let f = match_from r t c.args.id c.args.pattern.now c.args.self.now.at in
+    let absent = rw c.in-Not.is at c.in_ok-tried.ensures.told in
+    still_held c.columns.looked c.match_from.new.looked c.args.self.now.at.line (f c.columns.col) _ c.columns.invariant.held absent
 
 pub columns-smaller : goal.columns-smaller
 columns-smaller g c = omega (arith, c.in_ok-col-in-Not.ensures.next.ahead, c.columns-test.true)

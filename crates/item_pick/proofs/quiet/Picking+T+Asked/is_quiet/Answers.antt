@@ -12,4 +12,5 @@ returns-in-NoItem-clause-quiet g c _ =
     let t = g.T.Lines.lines c.args.self.now.lines.now in
     let p = place_at c.args.self.now.at.line c.args.col in
     let floor = c.args.self.now.floor in
-    subst (λ choice. IsQuietAt r t choice floor p) (sym c.in-NoItem.is) (none_starts r t p floor)
+    let k = c.args.looked in
+    subst (λ choice. IsQuietAt r t choice floor k p) (sym c.in-NoItem.is) (none_starts r t p floor k)

@@ -18,8 +18,9 @@ returns-in_ok-left-in-Some-clause-quiet g c e =
     let floor = c.args.self.now.floor in
     let word : begins_word r.sets.keyword c.line.result.now c.args.col ≡ false = sym c.begins_word.ensures ∙ c.if-begins_word.false in
     let none : c.in_ok-left-in-Some.left ≡ 0 = eqb→eq c.in_ok-left-in-Some.left 0 (T_from_true (nat_eq c.in_ok-left-in-Some.left 0) e) in
-    row_empty r t p floor c.args.choice
+    let k = c.args.looked in
+    row_empty r t p floor k c.args.choice
     (subst (λ (line : List ℕ). begins_word r.sets.keyword line c.args.col ≡ false) c.line.ensures word)
-    (subst (λ (n : ℕ). IsNextAt r t p floor c.args.choice n 0) c.added-count.ensures.number
-    (subst (IsNextAt r t p floor c.args.choice c.added-count.result) none
-    (c.in_ok-left-in-Some.ensures.next t l c.requires.memory (c.in-Some.ensures r t l c.requires.memory))))
+    (subst (λ (n : ℕ). IsNextAt r t p floor k c.args.choice n 0) c.added-count.ensures.number
+    (subst (IsNextAt r t p floor k c.args.choice c.added-count.result) none
+    (c.in_ok-left-in-Some.ensures.next t l c.requires.memory (c.in-Some.ensures r t l c.requires.memory) c.requires.held)))

@@ -18,7 +18,7 @@ loop-col-preserved g c =
     record {
       from = omega (arith, c.loop-col.invariant.from);
       quiet = λ k a b.
-          below_more (λ (k : ℕ). at.col ≤ k → IsQuietAt r t c.allowed-choice.result c.args.self.now.floor (place_at at.line k)) c.loop-col.col (λ k b a. before k a b)
+          below_more (λ (k : ℕ). at.col ≤ k → IsQuietAt r t c.allowed-choice.result c.args.self.now.floor c.args.looked (place_at at.line k)) c.loop-col.col (λ k b a. before k a b)
           (λ _. c.in_ok-quiet.ensures.quiet c.if-not-quiet.false) k b a;
       memory = c.is_quiet.ensures.memory;
     }
@@ -33,7 +33,7 @@ returns-then-not-quiet-clause-quiet g c =
       from = c.loop-col.invariant.from;
       within = omega (arith, c.loop-col-test.true, c.last-last.ensures.is);
       quiet = λ k a b over.
-          nothing_picked r t c.args.self.now.at k (reverse c.args.stack.now) c.allowed-choice.result c.allowed-choice.ensures.allowed c.args.self.now.floor (before k a b) over;
+          nothing_picked r t c.args.self.now.at k (reverse c.args.stack.now) c.allowed-choice.result c.allowed-choice.ensures.allowed c.args.self.now.floor c.args.looked (before k a b) over;
     }
 
 pub returns-clause-quiet : goal.returns-clause-quiet
@@ -46,5 +46,5 @@ returns-clause-quiet g c =
       from = omega (arith, c.requires.place.within, c.last-last.ensures.is);
       within = omega (arith, c.last-last.ensures.is);
       quiet = λ k a b over.
-          nothing_picked r t c.args.self.now.at k (reverse c.args.stack.now) c.allowed-choice.result c.allowed-choice.ensures.allowed c.args.self.now.floor (before k a (omega (arith, b, c.loop-col-test.false))) over;
+          nothing_picked r t c.args.self.now.at k (reverse c.args.stack.now) c.allowed-choice.result c.allowed-choice.ensures.allowed c.args.self.now.floor c.args.looked (before k a (omega (arith, b, c.loop-col-test.false))) over;
     }

@@ -12,6 +12,6 @@ invariant-loop-col g l =
     let t = g.T.Lines.lines l.self.lines.now in
     record {
       from : l.self.at.col ≤ l.col;
-      quiet : (c : ℕ) → l.self.at.col ≤ c → c < l.col → IsQuietAt r t l.choice l.self.floor (place_at l.self.at.line c);
+      quiet : (c : ℕ) → l.self.at.col ≤ c → c < l.col → IsQuietAt r t l.choice l.self.floor l.looked (place_at l.self.at.line c);
       memory : MemoryStands r t l.self.at.line l.memory;
     }

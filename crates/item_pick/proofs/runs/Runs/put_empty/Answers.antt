@@ -2,4 +2,4 @@ use Rattle.item_pick.proofs.TableLaws.{nothing_known}
 use Rattle.item_pick.proofs.runs.Runs.put_empty.Goals as goal
 
 pub returns : goal.returns
-returns c r t l stands = c.put.ensures r t l stands (nothing_known r t l (record { 0 = 0 }))
+returns c r t l stands = c.put.ensures r t l stands (nothing_known r t l (record { 0 = 0 }) _)

@@ -18,5 +18,5 @@ returns-clause-quiet g c = λ d from under.
     let at : Place = record { line = site.line; col = c.args.c } in
     let closes : d < c.closes_from-closes.result = omega (arith, under, c.min.ensures) in
     let starts : d < c.in_ok-starts.starts = omega (arith, under, c.min.ensures) in
-    quiet_where (rules_in site.parts.now site.budget) (g.T.Lines.lines site.lines.now) at s c.in_ok-starts.starts d refl (search rules) c.in_ok-starts.ensures.quiet from starts
+    quiet_where (rules_in site.parts.now site.budget) (g.T.Lines.lines site.lines.now) at s c.args.so_far c.in_ok-starts.starts d refl (search rules) c.in_ok-starts.ensures.quiet from starts
     (c.closes_from-closes.ensures d closes s refl)
