@@ -3,3 +3,4 @@ pub mod KeptEndLaws
 pub mod LookedLaws
 pub mod PassingLaws
 pub mod SearchLaws
+pub mod StretchLaws

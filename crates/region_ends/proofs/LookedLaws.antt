@@ -36,3 +36,20 @@ held_by j l (Refused c k) h = h
 pub still_held : {E A : Type 0} (j k : Looked) (l : ℕ) (p : Painted E A) (a : A) → HoldsLine j l → looked_first (Some j) p ≡ Done a (Some k) → HoldsLine k l
 still_held {E = E} {A = A} j k l p a h e =
     subst (λ (q : Painted E A). HoldsLine (looked_then j q) l) e (held_by j l p h)
+
+lesser_once : (a b c : ℤ) → lesser a b ≡ c → lesser a c ≡ a → a ≡ c
+lesser_once a b c e h = grind (arith, ints, e, h)
+
+greater_once : (a b c : ℤ) → greater a b ≡ c → greater a c ≡ a → a ≡ c
+greater_once a b c e h = grind (arith, ints, e, h)
+
+-- where all looks are at one line, so were those before
+pub alone_before : {E A : Type 0} (k : Looked) (l : ℕ) (p : Painted E A) (a : A) → HoldsLine k l → looked_first (Some k) p ≡ Done a (Some (one_line (pos l))) → k ≡ one_line (pos l)
+alone_before k l (Done b None) a h e = cc
+alone_before k l (Done b (Some n)) a h e =
+    let whole : hull_of k n ≡ one_line (pos l) = cc in
+    λ i. record {
+      low = lesser_once k.low n.low (pos l) (ap (λ (j : Looked). j.low) whole) (ap (λ (j : Looked). j.low) h) i;
+      high = greater_once k.high n.high (pos l) (ap (λ (j : Looked). j.high) whole) (ap (λ (j : Looked). j.high) h) i;
+    }
+alone_before k l (Refused c m) a h e = absurd (cc)

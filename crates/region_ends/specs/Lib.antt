@@ -2,6 +2,8 @@
 pub mod Attempts
 pub mod Searches
 pub mod KeptEnd
+pub mod EndMemo
 -- what only code and proofs cite
 pub mod Steps
+pub mod Stretches
 pub mod Passing

@@ -6,6 +6,7 @@
 //! join without regard to how many there are.
 #![tactic(auto)]
 
+mod end_memo;
 mod keeping;
 mod matching;
 mod offsets;
@@ -13,6 +14,7 @@ mod passing;
 mod searching;
 mod skips;
 
+pub use end_memo::{EndMemo, find_end_with};
 pub use keeping::{earlier_end, item_of, kept_end, kept_end_over};
 pub use matching::Matcher;
 pub use offsets::{earlier_place, later_place, offset_place};

@@ -12,7 +12,9 @@ ghost use Rattle.paint_rules.specs.Close.{is_region};
 ghost use Rattle.paint_rules.specs.ItemMatch.{columns_from};
 ghost use Rattle.paint_rules.specs.EndInLine.{end_in_line, end_from, end_at, end_made, skip_at, skip_of, ends_of, tried_at};
 ghost use Rattle.region_ends.specs.Searches.{search_of, IsEnd};
+ghost use Rattle.region_ends.specs.declared.searching.EndAnswer.TheVariants as answer;
 ghost use Rattle.region_ends.specs.Passing.{IsPassing};
+ghost use Rattle.region_ends.specs.Stretches.{IsFirst, IsSearched, TellsColumns};
 ghost use Rattle.region_ends.specs.Steps.{search_in, IsReady, EndsBefore, seen, IsTried, IsSkip, IsStep, GoesFurther, HoldsLine, StepHolds};
 
 use crate::keeping::item_of;
@@ -45,6 +47,16 @@ pub(crate) enum Step {
     Answer(EndAnswer),
 }
 
+/// What a search came to.
+#[derive(Clone, Copy)]
+pub(crate) struct Searched {
+    pub answer: EndAnswer,
+    /// Searches from the columns from here up to, and without, `to` come to the same, if this one has
+    /// looked at its line alone.
+    pub first: usize,
+    pub to: usize,
+}
+
 /// The search for the end of a region, from a place on.
 #[derive(Clone, Copy)]
 pub(crate) struct Searching<'a> {
@@ -67,6 +79,30 @@ fn seen(looked: Looked, tried: Attempt) -> Attempt
         }
         Attempt::Absent(k) => Attempt::Absent(looked.join(k)),
         Attempt::TooCostly => Attempt::TooCostly,
+    }
+}
+
+/// From where on searches come to the same as from the column where one goes on: a skip of more than
+/// one column has passed over others, and a look at another line counts for what came before alone.
+fn first_of(first: usize, busy: usize, next: usize, before: Looked, after: Looked) -> usize
+    requires { busy < 2 ^ 63 }
+    ensures { IsFirst result first busy next before after }
+{
+    if after == before && next == busy + 1 {
+        first
+    } else {
+        next
+    }
+}
+
+/// A search that found no end.
+fn without_end(looked: Looked, first: usize, to: usize) -> Searched
+    ensures { result ≡ record { answer = answer.NotHere looked; first = first; to = to } }
+{
+    Searched {
+        answer: EndAnswer::NotHere(looked),
+        first,
+        to,
     }
 }
 
@@ -250,34 +286,82 @@ impl Searching<'_> {
         lines: &T,
         skip: &Option<Pattern>,
         ends: &List<Pattern>,
-    ) -> Result<EndAnswer, Memory>
+    ) -> Result<Searched, Memory>
         requires ready { IsReady self.now (T.lines lines.now) }
         requires skip_added { ForSome skip.now (IsAdded self.now.matcher.programs.now) }
         requires ends_added { All (IsAdded self.now.matcher.programs.now) ends.now }
-        ensures { IfOk result (λ a. (kind : ItemKind) → skip.now ≡ skip_of kind →
-            ends.now ≡ ends_of kind → IsEnd a self.now.region
-            (looked_first (Some (one_line (pos self.now.from.line)))
-            (end_from (search_in self.now (T.lines lines.now)) kind (columns_from self.now.from.col
-            (length (line_at (T.lines lines.now) self.now.from.line))) self.now.from.col))) }
+        ensures { IfOk result (λ s. (kind : ItemKind) → skip.now ≡ skip_of kind →
+            ends.now ≡ ends_of kind → IsSearched self.now (T.lines lines.now) kind s) }
     {
         let mut looked = Looked::one(self.from.line as i64);
         let last = lines.line(self.from.line).len();
         let passing = self.passing(lines, skip, ends);
         let mut c = self.from.col;
+        let mut first = c;
         'columns: while c <= last {
             let busy = passing.idle_until(c);
             if busy > last {
-                return Ok(EndAnswer::NotHere(looked));
+                return Ok(without_end(looked, first, busy));
             }
             match self.answer_at(lines, skip, ends, last, busy, looked)? {
                 Step::GoOn(next, k) => {
+                    first = first_of(first, busy, next, looked, k);
                     c = next;
                     looked = k;
                 }
-                Step::Answer(a) => return Ok(a),
+                Step::Answer(answer) => {
+                    let to = busy + 1;
+                    return Ok(Searched { answer, first, to });
+                }
             }
         }
-        Ok(EndAnswer::NotHere(looked))
+        Ok(without_end(looked, first, c))
+    }
+}
+
+/// A search for the end of a region in the line of a place, from that place on.
+pub(crate) fn search_anew<T: Lines>(
+    alloc: Global,
+    items: &ItemSet,
+    programs: &Programs,
+    sets: &Sets,
+    lines: &T,
+    region: ItemId,
+    externals: &Externals,
+    from: Place,
+    budget: u64,
+) -> Result<Searched, Memory>
+    requires sound { AreSound items.now programs.now }
+    requires item { region.0 < length items.now }
+    requires region { is_region (item_of items.now region).kind ≡ true }
+    requires present { from.line < length (T.lines lines.now) }
+    requires budget { 1 ≤ budget }
+    ensures answer { IfOk result (λ s. IsEnd s.answer region (end_in_line (search_of items.now
+        sets.now budget (T.lines lines.now) region externals.now from))) }
+    ensures columns { IfOk result (TellsColumns items.now sets.now budget (T.lines lines.now) region
+        externals.now from) }
+{
+    // The proof needs the bounds that this call tells of the text.
+    let _count = lines.len();
+    let searching = Searching {
+        matcher: Matcher {
+            alloc,
+            programs,
+            sets,
+            budget,
+        },
+        items,
+        region,
+        externals,
+        from,
+    };
+    match &item_of(items, region).kind {
+        ItemKind::Region {
+            starts: _,
+            skip,
+            ends,
+        } => searching.search(lines, skip, ends),
+        ItemKind::Keyword | ItemKind::Match(_) => unreachable!(),
     }
 }
 
@@ -302,26 +386,8 @@ pub fn find_end<T: Lines>(
     ensures { IfOk result (λ a. IsEnd a region (end_in_line (search_of items.now sets.now budget
         (T.lines lines.now) region externals.now from))) }
 {
-    // The proof needs the bounds that this call tells of the text.
-    let _count = lines.len();
-    let searching = Searching {
-        matcher: Matcher {
-            alloc,
-            programs,
-            sets,
-            budget,
-        },
-        items,
-        region,
-        externals,
-        from,
-    };
-    match &item_of(items, region).kind {
-        ItemKind::Region {
-            starts: _,
-            skip,
-            ends,
-        } => searching.search(lines, skip, ends),
-        ItemKind::Keyword | ItemKind::Match(_) => unreachable!(),
-    }
+    let searched = search_anew(
+        alloc, items, programs, sets, lines, region, externals, from, budget,
+    )?;
+    Ok(searched.answer)
 }

@@ -1,0 +1,261 @@
+-- Searches from several columns that come to the same.
+use Rattle.std.proofs.Common.{◌≡◌, ◌∙◌, refl, sym, ap, subst, arith, ℕ, suc, ◌<◌, ◌≤◌, Bool, true, false, List, [], ◌∷◌, length, inl, inr}
+use Rattle.std.specs.Prelude.{Option, Some, None, nat_lt, pos, reverse}
+use Rattle.std.specs.Option.{option_map}
+use Rattle.std.proofs.lemmas.Bool.{cases_lt}
+use Rattle.std.proofs.lemmas.Bool.Decides.{nat_tests}
+use Rattle.char_class.specs.declared.sets.Sets.{Sets}
+use Rattle.syn_base.specs.declared.looked.Looked.{Looked}
+use Rattle.syn_base.specs.declared.places.GroupId.{GroupId}
+use Rattle.syn_base.specs.declared.places.ItemId.{ItemId}
+use Rattle.syn_base.specs.declared.places.Place.{Place}
+use Rattle.syn_base.specs.Looked.{one_line}
+use Rattle.match_rules.specs.Ways.{Text, is_after, line_at}
+use Rattle.syntax_set.specs.declared.added_item.AddedItem.{AddedItem}
+use Rattle.syntax_set.specs.declared.item.ItemKind.{ItemKind}
+use Rattle.syntax_set.specs.declared.item.Pattern.{Pattern}
+use Rattle.paint_rules.specs.declared.RegionEnd.{RegionEnd}
+use Rattle.paint_rules.specs.declared.Which.TheVariants.{Me, He, Re}
+use Rattle.paint_rules.specs.Painted.{Painted, Done, Refused, looked_first, ◌>>=◌, done, first_found}
+use Rattle.paint_rules.specs.Rules.{Cause, Matched, item_of, no_externals, place_at}
+use Rattle.paint_rules.specs.Offsets.{offset_place, later_place, earlier_place}
+use Rattle.paint_rules.specs.ItemMatch.{columns_from}
+use Rattle.paint_rules.specs.EndInLine.{Search, Skip, NoSkip, SkipTo, SkipLine, skip_of, ends_of, skip_at, tried_at, end_at, end_made, end_from, end_in_line, end_in_present}
+use Rattle.region_ends.specs.declared.end_memo.Known.{Known}
+use Rattle.region_ends.specs.declared.passing.Passing.{Passing}
+use Rattle.region_ends.specs.declared.searching.EndAnswer.{EndAnswer}
+use Rattle.region_ends.specs.declared.searching.EndAnswer.TheVariants.{NotHere}
+use Rattle.region_ends.specs.declared.searching.Searched.{Searched}
+use Rattle.region_ends.specs.declared.searching.Searching.{Searching}
+use Rattle.region_ends.specs.EndMemo.{IsKept, KnownStands}
+use Rattle.region_ends.specs.Passing.{IsPassing, is_idle}
+use Rattle.region_ends.specs.Searches.{search_of, IsEnd}
+use Rattle.region_ends.specs.Steps.{HoldsLine, search_in}
+use Rattle.region_ends.specs.Stretches.{answer_at, IsFirst, ReachesEnd, SameUpTo, TellsColumns, left_from}
+use Rattle.region_ends.proofs.LookedLaws.{alone_before}
+use Rattle.region_ends.proofs.PassingLaws.{columns_passed}
+use Rattle.region_ends.proofs.SearchLaws.{none_left}
+
+-- ---- places
+
+place_eq : (p q : Place) → p.line ≡ q.line → p.col ≡ q.col → p ≡ q
+place_eq p q e f = λ i. record { line = e i; col = f i }
+
+-- two places of which neither is after the other
+neither_after : (p q : Place) → is_after p q ≡ false → is_after q p ≡ false → p ≡ q
+neither_after p q a b = place_eq p q (grind (arith, nat_tests, a, b)) (grind (arith, nat_tests, a, b))
+
+-- a place that is later than one is later than an earlier one
+later_by : (p a b : Place) (x y : Bool) → is_after p a ≡ x → is_after p b ≡ y → is_after a b ≡ false →
+    is_after b (later_place p a) ≡ false → later_place p b ≡ later_place p a
+later_by p a b true true e f less h =
+    ap (λ t. elim t as (λ _. Place) [ true ↦ p | false ↦ b ]) f ∙ sym (ap (λ t. elim t as (λ _. Place) [ true ↦ p | false ↦ a ]) e)
+later_by p a b true false e f less h =
+    let reached : is_after b p ≡ false = subst (λ t. is_after b (elim t as (λ _. Place) [ true ↦ p | false ↦ a ]) ≡ false) e h in
+    ap (λ t. elim t as (λ _. Place) [ true ↦ p | false ↦ b ]) f ∙ (sym (neither_after p b f reached) ∙ ap (λ t. elim t as (λ _. Place) [ true ↦ p | false ↦ a ]) (sym e))
+later_by p a b false y e f less h =
+    let reached : is_after b a ≡ false = subst (λ t. is_after b (elim t as (λ _. Place) [ true ↦ p | false ↦ a ]) ≡ false) e h in
+    ap (later_place p) (neither_after b a reached less)
+
+later_same : (p a b : Place) → is_after a b ≡ false → is_after b (later_place p a) ≡ false → later_place p b ≡ later_place p a
+later_same p a b less h = later_by p a b (is_after p a) (is_after p b) refl refl less h
+
+after_whole : (b p q : Place) → is_after b p ≡ false → is_after p q ≡ false → is_after b q ≡ false
+after_whole b p q h g = grind (arith, nat_tests, h, g)
+
+-- what isn't after the earlier of two is after neither
+earlier_by : (b p q : Place) (x : Bool) → is_after p q ≡ x → is_after b (earlier_place p q) ≡ false → (is_after b p ≡ false) × (is_after b q ≡ false)
+earlier_by b p q true e h =
+    let g : is_after b q ≡ false = subst (λ t. is_after b (elim t as (λ _. Place) [ true ↦ q | false ↦ p ]) ≡ false) e h in
+    (grind (arith, nat_tests, g, e), g)
+earlier_by b p q false e h =
+    let g : is_after b p ≡ false = subst (λ t. is_after b (elim t as (λ _. Place) [ true ↦ q | false ↦ p ]) ≡ false) e h in
+    (g, after_whole b p q g e)
+
+-- ---- what is the same up to an end that lies before a place
+
+abbrev Like : Place → Painted Cause (Option RegionEnd) → Painted Cause (Option RegionEnd) → Type 0
+Like at p q = (x : Option RegionEnd) (k : Option Looked) → ReachesEnd at x → p ≡ Done x k → q ≡ Done x k
+
+like_same : (at : Place) (p : Painted Cause (Option RegionEnd)) → Like at p p
+like_same at p x k reached e = e
+
+like_first : (at : Place) (j : Option Looked) (p q : Painted Cause (Option RegionEnd)) → Like at p q → Like at (looked_first j p) (looked_first j q)
+like_first at j (Done y m) q like x k reached e =
+    let a : y ≡ x = cc in
+    let same : q ≡ Done y m = like y m (subst (ReachesEnd at) (sym a) reached) refl in
+    ap (looked_first j) same ∙ e
+like_first at j (Refused c m) q like x k reached e = absurd (cc)
+
+like_then : {A : Type 0} (at : Place) (m : Painted Cause A) (f g : A → Painted Cause (Option RegionEnd)) → ((a : A) → Like at (f a) (g a)) → Like at (m >>= f) (m >>= g)
+like_then at (Done a j) f g like = like_first at j (f a) (g a) (like a)
+like_then at (Refused c j) f g like = λ x k reached e. absurd (cc)
+
+-- the first of two that gives anything
+abbrev or_else : Painted Cause (Option RegionEnd) → Painted Cause (Option RegionEnd) → Painted Cause (Option RegionEnd)
+or_else p r = p >>= (λ found. elim found as (λ _. Painted Cause (Option RegionEnd)) [ None ↦ r | Some e ↦ done (Some e) ])
+
+like_else : (at : Place) (p q r s : Painted Cause (Option RegionEnd)) → Like at p q → Like at r s → Like at (or_else p r) (or_else q s)
+like_else at (Done None j) q r s like rest x k reached e =
+    ap (λ q. or_else q s) (like None j tt refl) ∙ like_first at j r s rest x k reached e
+like_else at (Done (Some y) j) q r s like rest x k reached e =
+    let a : Some y ≡ x = cc in
+    ap (λ q. or_else q s) (like (Some y) j (subst (ReachesEnd at) (sym a) reached) refl) ∙ e
+like_else at (Refused c j) q r s like rest x k reached e = absurd (cc)
+
+-- an answer by a look at one line
+answer_done : (i : ItemId) (l : ℕ) (found : Option RegionEnd) (p : Painted Cause (Option RegionEnd)) → IsEnd (answer_at found l) i p → p ≡ Done found (Some (one_line (pos l)))
+answer_done i l None p h = h
+answer_done i l (Some e) p h = h
+
+done_answer : (i : ItemId) (l : ℕ) (found : Option RegionEnd) (p : Painted Cause (Option RegionEnd)) → p ≡ Done found (Some (one_line (pos l))) → IsEnd (answer_at found l) i p
+done_answer i l None p h = h
+done_answer i l (Some e) p h = h
+
+-- the end that a match makes, by where the body's end and the whole end would be
+abbrev plain_end : Place → Place → RegionEnd
+plain_end high e = record { end = e; high_to = earlier_place high e; area_end = None; area_high = None; area_shows = None }
+
+abbrev area_of : Place → GroupId → Place → Place → RegionEnd
+area_of high g body e =
+    let begin = earlier_place body e in
+    record { end = begin; high_to = begin; area_end = Some e; area_high = Some (earlier_place high e); area_shows = Some g }
+
+abbrev made : Search → Pattern → Matched → Option GroupId → RegionEnd
+made s pattern m None = plain_end (offset_place s.text m pattern He) (later_place (offset_place s.text m pattern Me) s.from)
+made s pattern m (Some g) = area_of (offset_place s.text m pattern He) g (later_place (offset_place s.text m pattern Re) s.from) (later_place (offset_place s.text m pattern Me) s.from)
+
+-- ---- a search from a place, and one from a later place of its line
+
+module _ (items : List AddedItem) (sets : Sets) (budget : ℕ) (text : Text) (region : ItemId) (externals : List (List ℕ)) (from : Place) (d : ℕ) (later : from.col ≤ d) where
+  abbrev at : Place
+  at = place_at from.line d
+
+  abbrev early : Search
+  early = search_of items sets budget text region externals from
+
+  abbrev late : Search
+  late = search_of items sets budget text region externals at
+
+  not_after : is_after from at ≡ false
+  not_after = grind (arith, nat_tests, later)
+
+  made_is : (s : Search) (pattern : Pattern) (m : Matched) (o : Option GroupId) → pattern.matchgroup ≡ o → end_made s pattern m ≡ made s pattern m o
+  made_is s pattern m None e = rw e refl
+  made_is s pattern m (Some g) e = rw e refl
+
+  made_by : (pattern : Pattern) (m : Matched) (o : Option GroupId) → pattern.matchgroup ≡ o → ReachesEnd at (Some (end_made early pattern m)) → end_made late pattern m ≡ end_made early pattern m
+  made_by pattern m None e reached =
+      let here : is_after at (made early pattern m None).end ≡ false = subst (λ (x : RegionEnd). is_after at x.end ≡ false) (made_is early pattern m None e) reached in
+      let end = later_same (offset_place text m pattern Me) from at not_after here in
+      made_is late pattern m None e ∙ (ap (plain_end (offset_place text m pattern He)) end ∙ sym (made_is early pattern m None e))
+  made_by pattern m (Some g) e reached =
+      let here : is_after at (made early pattern m (Some g)).end ≡ false = subst (λ (x : RegionEnd). is_after at x.end ≡ false) (made_is early pattern m (Some g) e) reached in
+      let body = later_place (offset_place text m pattern Re) from in
+      let whole = later_place (offset_place text m pattern Me) from in
+      let both = earlier_by at body whole (is_after body whole) refl here in
+      let begin = later_same (offset_place text m pattern Re) from at not_after both.0 in
+      let end = later_same (offset_place text m pattern Me) from at not_after both.1 in
+      made_is late pattern m (Some g) e ∙ ((λ i. area_of (offset_place text m pattern He) g (begin i) (end i)) ∙ sym (made_is early pattern m (Some g) e))
+
+  end_like : (c : ℕ) (pattern : Pattern) → Like at (end_at early c pattern) (end_at late c pattern)
+  end_like c pattern = like_then at (tried_at early pattern c) (λ m. done (option_map (end_made early pattern) m)) (λ m. done (option_map (end_made late pattern) m)) each
+    where
+      each : (m : Option Matched) → Like at (done (option_map (end_made early pattern) m)) (done (option_map (end_made late pattern) m))
+      each None = like_same at (done None)
+      each (Some m) = λ x k reached e.
+          let a : Some (end_made early pattern m) ≡ x = cc in
+          ap (λ (y : RegionEnd). done (Some y)) (made_by pattern m pattern.matchgroup refl (subst (ReachesEnd at) (sym a) reached)) ∙ e
+
+  ends_like : (c : ℕ) (ps : List Pattern) → Like at (first_found (end_at early c) ps) (first_found (end_at late c) ps)
+  ends_like c [] = like_same at (done None)
+  ends_like c (p ∷ ps) = like_else at (end_at early c p) (end_at late c p) (first_found (end_at early c) ps) (first_found (end_at late c) ps) (end_like c p) (ends_like c ps)
+
+  module _ (kind : ItemKind) (c : ℕ) (cs : List ℕ) (rest : (on : ℕ) → Like at (end_from early kind cs on) (end_from late kind cs on)) where
+    abbrev after_skip : Search → Skip → Painted Cause (Option RegionEnd)
+    after_skip s skip = elim skip as (λ _. Painted Cause (Option RegionEnd)) [ NoSkip ↦ or_else (first_found (end_at s c) (reverse (ends_of kind))) (end_from s kind cs (suc c)) | SkipTo next ↦ end_from s kind cs next | SkipLine ↦ done None ]
+
+    each_skip : (skip : Skip) → Like at (after_skip early skip) (after_skip late skip)
+    each_skip NoSkip = like_else at (first_found (end_at early c) (reverse (ends_of kind))) (first_found (end_at late c) (reverse (ends_of kind))) (end_from early kind cs (suc c)) (end_from late kind cs (suc c)) (ends_like c (reverse (ends_of kind))) (rest (suc c))
+    each_skip (SkipTo next) = rest next
+    each_skip SkipLine = like_same at (done None)
+
+    column_like : (on : ℕ) (b : Bool) → Like at (elim b as (λ _. Painted Cause (Option RegionEnd)) [ true ↦ end_from early kind cs on | false ↦ skip_at early (skip_of kind) c >>= after_skip early ]) (elim b as (λ _. Painted Cause (Option RegionEnd)) [ true ↦ end_from late kind cs on | false ↦ skip_at late (skip_of kind) c >>= after_skip late ])
+    column_like on true = rest on
+    column_like on false = like_then at (skip_at early (skip_of kind) c) (after_skip early) (after_skip late) each_skip
+
+  from_like : (kind : ItemKind) (cs : List ℕ) (on : ℕ) → Like at (end_from early kind cs on) (end_from late kind cs on)
+  from_like kind [] on = like_same at (done None)
+  from_like kind (c ∷ cs) on = column_like kind c cs (λ on. from_like kind cs on) on (nat_lt c on)
+
+  pub from_later : (found : Option RegionEnd) → from.line < length text → ReachesEnd at found →
+      IsEnd (answer_at found from.line) region (looked_first (Some (one_line (pos from.line))) (end_from early (item_of items region).kind (columns_from d (length (line_at text from.line))) d)) →
+      IsEnd (answer_at found from.line) region (end_in_line late)
+  from_later found present reached h =
+      let one : Looked = one_line (pos from.line) in
+      let kind = (item_of items region).kind in
+      let cs = columns_from d (length (line_at text from.line)) in
+      let there : nat_lt from.line (length text) ≡ true = grind (arith, nat_tests, present) in
+      done_answer region from.line found (end_in_line late)
+      (ap (λ b. looked_first (Some one) (end_in_present late b)) there
+      ∙ like_first at (Some one) (end_from early kind cs d) (end_from late kind cs d) (from_like kind cs d) found (Some one) reached
+      (answer_done region from.line found (looked_first (Some one) (end_from early kind cs d)) h))
+
+-- ---- columns from which searches come to the same
+
+module _ (s : Searching) (text : Text) (kind : ItemKind) where
+  abbrev one : Looked
+  one = one_line (pos s.from.line)
+
+  abbrev last : ℕ
+  last = length (line_at text s.from.line)
+
+  abbrev after : Looked → ℕ → Painted Cause (Option RegionEnd)
+  after k c = looked_first (Some k) (end_from (search_in s text) kind (columns_from c last) c)
+
+  pub same_to : (a : Passing) (skip : Option Pattern) (ends : List Pattern) → IsPassing a s text skip ends → skip ≡ skip_of kind → ends ≡ ends_of kind → HoldsLine one s.from.line →
+      (first c busy : ℕ) → SameUpTo s text kind first c → c ≤ busy → busy ≤ suc last → (c < busy → a.cheap ≡ true) → ((j : ℕ) → c ≤ j → j < busy → is_idle a j ≡ true) → SameUpTo s text kind first busy
+  same_to a skip ends of sk en held first c busy same from within cheap idle d low high = elim (cases_lt d c) [
+    | inl before ↦ same d low (omega (arith, before)) ∙ passed c (omega arith) from
+    | inr behind ↦ passed d behind high
+  ]
+    where
+      passed : (e : ℕ) → c ≤ e → e ≤ busy → left_from s text kind e ≡ left_from s text kind busy
+      passed e low high = columns_passed a s text skip ends of one held last refl kind sk en e busy high within (λ less. cheap (omega (arith, less, low))) (λ j from below. idle j (omega (arith, from, low)) below)
+
+  pub same_after : (first busy next result : ℕ) (k m : Looked) → IsFirst result first busy next k m → m ≡ one → (k ≡ one → SameUpTo s text kind first busy) → after k busy ≡ after m next → SameUpTo s text kind result next
+  same_after first busy next result k m (inl e) alone same step d low high =
+      let here : d ≡ next = omega (arith, e, low, high) in
+      ap (left_from s text kind) here
+  same_after first busy next result k m (inr h) alone same step d low high = elim (cases_lt d next) [
+    | inl before ↦ same (sym h.2 ∙ alone) d (omega (arith, low, h.0)) (omega (arith, before, h.1)) ∙ (ap (λ (k : Looked). after k busy) (sym (sym h.2 ∙ alone)) ∙ (step ∙ ap (λ (k : Looked). after k next) alone))
+    | inr behind ↦ (let here : d ≡ next = omega (arith, behind, high) in ap (left_from s text kind) here)
+  ]
+
+  pub from_at : (first c busy next result : ℕ) (k m : Looked) → IsFirst result first busy next k m → s.from.col ≤ first → s.from.col ≤ c → c ≤ busy → busy < next → s.from.col ≤ result
+  from_at first c busy next result k m (inl e) low here from less = omega (arith, e, here, from, less)
+  from_at first c busy next result k m (inr h) low here from less = omega (arith, h.0, low)
+
+  pub alone_at : (k : Looked) (c : ℕ) (a : EndAnswer) (found : Option RegionEnd) → HoldsLine k s.from.line → a ≡ answer_at found s.from.line → IsEnd a s.region (after k c) → k ≡ one
+  alone_at k c a found held e h =
+      alone_before k s.from.line (end_from (search_in s text) kind (columns_from c last) c) found held
+      (answer_done s.region s.from.line found (after k c) (subst (λ (a : EndAnswer). IsEnd a s.region (after k c)) e h))
+
+  -- past the line's end there is no column
+  pub none_at : (looked : Looked) (first c : ℕ) → SameUpTo s text kind first c → last < c → looked ≡ one → (d : ℕ) → first ≤ d → d ≤ c → IsEnd (NotHere looked) s.region (left_from s text kind d)
+  none_at looked first c same past alone d low high =
+      same d low high ∙ (none_left (search_in s text) kind c last one past ∙ ap (λ (k : Looked). Done None (Some k)) (sym alone))
+
+pub not_here_at : (looked : Looked) (found : Option RegionEnd) (l : ℕ) → NotHere looked ≡ answer_at found l → looked ≡ one_line (pos l)
+not_here_at looked None l e = cc
+not_here_at looked (Some x) l e = absurd (cc)
+
+-- what a search came to stands of its line
+pub kept_stands : (items : List AddedItem) (sets : Sets) (budget : ℕ) (text : Text) (region : ItemId) (externals : List (List ℕ)) (from : Place) (s : Searched) (known : Known) → externals ≡ no_externals →
+    IsKept region from.line s known → TellsColumns items sets budget text region externals from s → KnownStands items sets budget text from.line known
+kept_stands items sets budget text region externals from s known none kept tells c low high reached =
+    let whole : ItemId → List (List ℕ) → EndAnswer → Type 0 = λ i externals a. IsEnd a i (end_in_line (search_of items sets budget text i externals (place_at from.line c))) in
+    subst (λ (i : ItemId). whole i no_externals (answer_at known.end from.line)) (sym kept.same)
+    (subst (λ (externals : List (List ℕ)). whole region externals (answer_at known.end from.line)) none
+    (subst (λ (a : EndAnswer). whole region externals a) kept.answer
+    (tells known.end kept.answer c (omega (arith, low, kept.first)) (omega (arith, high, kept.to)) reached)))

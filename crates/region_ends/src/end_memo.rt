@@ -1,0 +1,237 @@
+//! What is remembered of a line: where regions end in it.
+ghost use Rattle.std.specs.Prelude.{◌≡◌, ◌<◌, ◌≤◌, ◌^◌, ℕ, List, length, true, IfOk, IfSome, IsTrue};
+ghost use Rattle.char_class.specs.declared.sets.Sets.{Sets as SetsRules};
+ghost use Rattle.match_rules.specs.Ways.{Text};
+ghost use Rattle.syntax_set.specs.declared.added_item.AddedItem.{AddedItem};
+ghost use Rattle.syntax_set.specs.Soundness.{AreSound};
+ghost use Rattle.paint_rules.specs.Rules.{item_of, no_externals};
+ghost use Rattle.paint_rules.specs.Close.{is_region};
+ghost use Rattle.paint_rules.specs.EndInLine.{end_in_line};
+ghost use Rattle.region_ends.specs.Searches.{search_of, IsEnd};
+ghost use Rattle.region_ends.specs.Stretches.{answer_at};
+ghost use Rattle.region_ends.specs.EndMemo.{EndMemoStands, KnownStands, IsKept, TellsOf};
+
+use crate::searching::{EndAnswer, Searched, find_end, search_anew};
+use char_class::Sets;
+use paint_rules::RegionEnd;
+use pattern_match::Programs;
+use std::alloc::Global;
+use syn_base::{Externals, ItemId, Lines, Looked, Memory, Place};
+use syntax_set::ItemSet;
+
+/// Searches for the end of a region without externals, from the columns from `first` up to, and
+/// without, `to`, find this end, or none, and look at the line alone. Those from behind the end are
+/// no such searches.
+#[derive(Clone, Copy)]
+pub(crate) struct Known {
+    pub(crate) region: ItemId,
+    pub(crate) first: usize,
+    pub(crate) to: usize,
+    pub(crate) end: Option<RegionEnd>,
+}
+
+/// What searches in a line came to: of each region the last one, if it had no externals.
+#[derive(Drop)]
+pub struct EndMemo {
+    /// Each says itself of which region it is.
+    list: Vec<Known>,
+    /// Where a region would stand in the list, by its number.
+    places: Vec<usize>,
+}
+
+/// No place.
+const NOWHERE: usize = usize::MAX;
+
+/// What a search came to, if it may be kept.
+fn known_by(region: ItemId, line: usize, searched: Searched) -> Option<Known>
+    requires { line < 2 ^ 63 }
+    ensures { IfSome result (IsKept region line searched) }
+{
+    let one = Looked::one(line as i64);
+    let Searched { answer, first, to } = searched;
+    match answer {
+        EndAnswer::Ends(end, looked) => {
+            if looked != one {
+                return None;
+            }
+            let end = Some(end);
+            Some(Known {
+                region,
+                first,
+                to,
+                end,
+            })
+        }
+        EndAnswer::NotHere(looked) => {
+            if looked != one {
+                return None;
+            }
+            let end = None;
+            Some(Known {
+                region,
+                first,
+                to,
+                end,
+            })
+        }
+        EndAnswer::TooCostly => None,
+    }
+}
+
+/// The answer of a search that looked at one line.
+fn answer_at(end: Option<RegionEnd>, line: usize) -> EndAnswer
+    requires { line < 2 ^ 63 }
+    ensures { result ≡ answer_at end line }
+{
+    let one = Looked::one(line as i64);
+    match end {
+        Some(end) => EndAnswer::Ends(end, one),
+        None => EndAnswer::NotHere(one),
+    }
+}
+
+impl Known {
+    /// Whether it tells of the search of a region from a place.
+    fn tells_of(&self, region: ItemId, from: Place) -> bool
+        ensures { IsTrue result → TellsOf self.now region from }
+    {
+        let holds = self.region == region && self.first <= from.col && from.col < self.to;
+        match self.end {
+            Some(end) => holds && from <= end.end,
+            None => holds,
+        }
+    }
+}
+
+impl EndMemo {
+    /// Nothing is known. It takes no memory.
+    pub fn new(alloc: Global) -> EndMemo
+        ensures { (items : List AddedItem) (sets : SetsRules) (budget : ℕ) (t : Text) (l : ℕ) →
+            EndMemoStands items sets budget t l result }
+    {
+        EndMemo {
+            list: Vec::new(alloc),
+            places: Vec::new(alloc),
+        }
+    }
+
+    /// Forgets what was known, for another line.
+    pub fn clear(&mut self)
+        ensures { (items : List AddedItem) (sets : SetsRules) (budget : ℕ) (t : Text) (l : ℕ) →
+            EndMemoStands items sets budget t l self.new }
+    {
+        self.list.clear();
+    }
+
+    /// Where a region would stand in the list.
+    fn place(&self, region: ItemId) -> usize {
+        match self.places.get(region.0 as usize) {
+            Some(place) => *place,
+            None => NOWHERE,
+        }
+    }
+
+    /// What stands at the place of a region.
+    fn entry(&self, region: ItemId) -> Option<Known>
+        ensures { (items : List AddedItem) (sets : SetsRules) (budget : ℕ) (t : Text) (l : ℕ) →
+            EndMemoStands items sets budget t l self.now →
+            IfSome result (KnownStands items sets budget t l) }
+    {
+        Some(*self.list.get(self.place(region))?)
+    }
+
+    /// The end that the search of a region from a place is known to find, or that it finds none.
+    fn known(&self, region: ItemId, from: Place) -> Option<Option<RegionEnd>>
+        ensures { (items : List AddedItem) (sets : SetsRules) (budget : ℕ) (t : Text) →
+            EndMemoStands items sets budget t from.line self.now →
+            IfSome result (λ end. IsEnd (answer_at end from.line) region
+            (end_in_line (search_of items sets budget t region no_externals from))) }
+    {
+        let known = self.entry(region)?;
+        if known.tells_of(region, from) {
+            Some(known.end)
+        } else {
+            None
+        }
+    }
+
+    /// Keeps what is known of a region.
+    fn keep(&mut self, known: Known) -> Result<(), Memory>
+        ensures { (items : List AddedItem) (sets : SetsRules) (budget : ℕ) (t : Text) (l : ℕ) →
+            EndMemoStands items sets budget t l self.old →
+            KnownStands items sets budget t l known →
+            EndMemoStands items sets budget t l self.new }
+    {
+        let place = self.place(known.region);
+        if place < self.list.len() && self.list[place].region == known.region {
+            self.list[place] = known;
+            return Ok(());
+        }
+        self.note(known.region.0 as usize)?;
+        self.list.push(known)?;
+        Ok(())
+    }
+
+    /// Notes that a region will stand behind the others.
+    fn note(&mut self, region: usize) -> Result<(), Memory>
+        ensures { self.new.list ≡ self.old.list }
+    {
+        let end = self.list.len();
+        for _ in self.places.len()..region.saturating_add(1) {
+            self.places.push(NOWHERE)?;
+        }
+        if region < self.places.len() {
+            self.places[region] = end;
+        }
+        Ok(())
+    }
+}
+
+/// The same as `find_end`, with what is known of the line (`EndMemo::clear`). `none` are nine empty
+/// texts (`Externals::none`): a search with other externals is made anew.
+pub fn find_end_with<T: Lines>(
+    alloc: Global,
+    items: &ItemSet,
+    programs: &Programs,
+    sets: &Sets,
+    lines: &T,
+    region: ItemId,
+    externals: &Externals,
+    none: &Externals,
+    from: Place,
+    memo: &mut EndMemo,
+    budget: u64,
+) -> Result<EndAnswer, Memory>
+    requires sound { AreSound items.now programs.now }
+    requires item { region.0 < length items.now }
+    requires region { is_region (item_of items.now region).kind ≡ true }
+    requires present { from.line < length (T.lines lines.now) }
+    requires budget { 1 ≤ budget }
+    requires none { none.now ≡ no_externals }
+    requires memo { EndMemoStands items.now sets.now budget (T.lines lines.now) from.line
+        memo.old }
+    ensures end { IfOk result (λ a. IsEnd a region (end_in_line (search_of items.now sets.now budget
+        (T.lines lines.now) region externals.now from))) }
+    ensures memo { EndMemoStands items.now sets.now budget (T.lines lines.now) from.line
+        memo.new }
+{
+    if !externals.same(none) {
+        return find_end(
+            alloc, items, programs, sets, lines, region, externals, from, budget,
+        );
+    }
+    // The proof needs the bounds that this call tells of the text.
+    let _count = lines.len();
+    match memo.known(region, from) {
+        Some(end) => return Ok(answer_at(end, from.line)),
+        None => {}
+    }
+    let searched = search_anew(
+        alloc, items, programs, sets, lines, region, externals, from, budget,
+    )?;
+    match known_by(region, from.line, searched) {
+        Some(known) => memo.keep(known)?,
+        None => {}
+    }
+    Ok(searched.answer)
+}
