@@ -1,5 +1,6 @@
 pub mod LastPartLaws
 pub mod EntryLaws
+pub mod PendingLaws
 pub mod WayLaws
 pub mod Leading
 pub mod Counting
