@@ -6,6 +6,8 @@ pub mod Leading
 pub mod Counting
 pub mod Stepping
 pub mod Ticking
+pub mod SpendingLaws
+pub mod RunLaws
 pub mod StartLaws
 pub mod Looping
 pub mod LookingBehind

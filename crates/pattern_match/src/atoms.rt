@@ -76,7 +76,7 @@ pub(crate) fn try_atom<T: Lines, I: Copy>(
 
 /// A line's number, as those that are looked at have it.
 #[inline(always)]
-fn numbered<T: Lines>(lines: &T, line: usize) -> i64
+pub(crate) fn numbered<T: Lines>(lines: &T, line: usize) -> i64
     requires { line ≤ length (T.lines lines.now) }
     ensures { result ≡ pos line }
 {

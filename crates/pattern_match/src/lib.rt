@@ -19,6 +19,7 @@ mod memo;
 mod parts;
 mod programs;
 mod ready;
+mod runs;
 mod screens;
 mod search;
 mod spent;
