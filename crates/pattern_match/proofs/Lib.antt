@@ -13,6 +13,7 @@ pub mod Looping
 pub mod LookingBehind
 pub mod Visiting
 pub mod WalkLaws
+pub mod TextLaws
 pub mod TriedLaws
 pub mod FirstAtomLaws
 pub mod NoteLaws
