@@ -36,4 +36,4 @@ mod words;
 pub use answer::{Attempt, Caps, Match};
 pub use context::Context;
 pub use memo::{Entry, LineMemo};
-pub use programs::{Programs, answers_stay_on_the_text};
+pub use programs::{Programs, Scratch, answers_stay_on_the_text};

@@ -99,6 +99,23 @@ impl<T: Copy> Ways<T> {
         }
     }
 
+    /// Begins with one way again, in the memory that there is.
+    pub(crate) fn begin(&mut self, at: Place)
+        ensures { self.new ≡ record {
+          here = record { todo = []; way = way_from at };
+          pending = [];
+        } }
+    {
+        self.later.clear();
+        self.notes.clear();
+        self.pending.clear();
+        self.here = Here {
+            at,
+            next: 0,
+            noted: 0,
+        };
+    }
+
     /// Where the present way stands.
     pub(crate) fn place(&self) -> Place
         ensures { result ≡ self.now.here.way.at }
