@@ -1,12 +1,12 @@
 -- Laws of the present way and the pending ones, kept as entries.
 use Rattle.std.proofs.Common.{◌≡◌, ℕ, ◌+◌, ◌-◌, ◌<◌, ◌≤◌, List, [], ◌∷◌, ◌++◌, length, take, drop, get_or, refl, sym, ap, ◌∙◌, subst, arith}
-use Rattle.std.specs.Prelude.{reverse, map, max}
+use Rattle.std.specs.Prelude.{reverse, map, max, ◌^◌}
 use Rattle.std.proofs.lemmas.List.{take-append-drop, map-append, reverse-append, length-reverse, length-append, length-map, length-drop, length-take-le, take_all, drop_at}
 use Rattle.std.proofs.lemmas.List.Elements.{All-push, All-take}
 use Rattle.syn_base.specs.declared.places.Place.{Place}
 use Rattle.match_rules.specs.Ways.{Way}
 use Rattle.pattern_match.specs.Entries.{entries_from}
-use Rattle.pattern_match.specs.Ways.{Thread, Ways, next_of, before_of, with_note, with_notes, thread_of, ways_of, IsNumbered, IsWithin, ArePending, AreWays, entries_named, IsLast, with_last}
+use Rattle.pattern_match.specs.Ways.{Thread, Ways, next_of, before_of, with_note, with_notes, thread_of, ways_of, IsNumbered, IsWithin, ArePending, AreWays, entries_named, IsLast, with_last, run_of, threads_of, ways_counted, IsCounted, last_of, shorter, kept_to}
 use Rattle.pattern_match.specs.declared.ways.Later.{Later}
 use Rattle.pattern_match.specs.declared.ways.Note.{Note}
 use Rattle.pattern_match.specs.declared.ways.Note.TheVariants.{Captured, External, Start, Stop}
@@ -14,6 +14,7 @@ use Rattle.pattern_match.specs.declared.ways.Noted.{Noted}
 use Rattle.pattern_match.specs.declared.ways.Here.{Here}
 use Rattle.pattern_match.specs.declared.ways.Pending.{Pending}
 use Rattle.pattern_match.proofs.EntryLaws.{entries_from-none, from-pushed, from-push, linked-push, from-take, linked-take, from-at, reverse-push}
+use Rattle.pattern_match.proofs.PendingLaws.{ArePending-more, length-threads, further-none, shorter-threads, shorter-pending, shorter-reverse, kept_to-pending, kept_to-threads}
 use Rattle.pattern_match.proofs.LastNoteLaws.{NameLast-push, NameLast-take}
 
 -- ---- what stays where entries come or go
@@ -31,24 +32,14 @@ same_thread later later2 notes notes2 l n here items noted within =
     ap (λ es. thread here es (entries_from before_of notes here.noted)) (items here.next within.next) ∙ ap (λ es. thread here (entries_from next_of later2 here.next) es) (noted here.noted within.noted)
 
 same_pending : {T : Type 0} (later later2 : List (Later T)) (notes notes2 : List Noted) (l n : ℕ) (ps : List Pending)
-    → SameTo next_of l later later2 → SameTo before_of n notes notes2 → ArePending l n ps → map (λ p. thread_of later notes p.here) ps ≡ map (λ p. thread_of later2 notes2 p.here) ps
+    → SameTo next_of l later later2 → SameTo before_of n notes notes2 → ArePending l n ps → threads_of later notes ps ≡ threads_of later2 notes2 ps
 same_pending later later2 notes notes2 l n [] items noted pending = refl
 same_pending later later2 notes notes2 l n (p ∷ ps) items noted pending =
     let items2 : SameTo next_of p.later later later2 = λ k h. items k (let low = pending.0 in omega arith) in
     let noted2 : SameTo before_of p.notes notes notes2 = λ k h. noted k (let low = pending.1 in omega arith) in
     let first = same_thread later later2 notes notes2 p.later p.notes p.here items2 noted2 pending.2 in
-    let rest = same_pending later later2 notes notes2 p.later p.notes ps items2 noted2 pending.3 in
-    ap (λ t. t ∷ map (λ p. thread_of later notes p.here) ps) first ∙ ap (λ ts. thread_of later2 notes2 p.here ∷ ts) rest
-
-pub ArePending-more : (l n l2 n2 : ℕ) (ps : List Pending) → l ≤ l2 → n ≤ n2 → ArePending l n ps → ArePending l2 n2 ps
-ArePending-more l n l2 n2 [] h k pending = tt
-ArePending-more l n l2 n2 (p ∷ ps) h k pending =
-    let low = pending.0 in let few = pending.1 in (omega arith, omega arith, pending.2, pending.3)
-
-ArePending-older : (l n : ℕ) (newer older : List Pending) → ArePending l n (newer ++ older) → ArePending l n older
-ArePending-older l n [] older pending = pending
-ArePending-older l n (p ∷ newer) older pending =
-    ArePending-more p.later p.notes l n older pending.0 pending.1 (ArePending-older p.later p.notes newer older pending.3)
+    let rest = same_pending later later2 notes notes2 p.later p.notes ps items2 noted2 pending.4 in
+    ap (λ t. run_of t p.count ++ threads_of later notes ps) first ∙ ap (λ ts. run_of (thread_of later2 notes2 p.here) p.count ++ ts) rest
 
 abbrev ways : {T : Type 0} → Thread T → List (Thread T) → Ways T
 ways here pending = record { here = here; pending = pending }
@@ -57,7 +48,7 @@ same_ways : {T : Type 0} (later later2 : List (Later T)) (notes notes2 : List No
     → SameTo next_of l (reverse later) (reverse later2) → SameTo before_of n (reverse notes) (reverse notes2) → IsWithin l n here → ArePending l n (reverse pending)
     → ways_of later notes pending here ≡ ways_of later2 notes2 pending here
 same_ways later later2 notes notes2 l n pending here items noted within put_aside =
-    ap (λ t. ways t (map (λ p. thread_of (reverse later) (reverse notes) p.here) (reverse pending))) (same_thread (reverse later) (reverse later2) (reverse notes) (reverse notes2) l n here items noted within)
+    ap (λ t. ways t (threads_of (reverse later) (reverse notes) (reverse pending))) (same_thread (reverse later) (reverse later2) (reverse notes) (reverse notes2) l n here items noted within)
     ∙ ap (λ ts. ways (thread_of (reverse later2) (reverse notes2) here) ts) (same_pending (reverse later) (reverse later2) (reverse notes) (reverse notes2) l n (reverse pending) items noted put_aside)
 
 -- entries that no way names may go
@@ -109,7 +100,7 @@ one_more_to_do {T} later later2 notes pending here w item number are e f g =
         within = record { next = omega arith; noted = are.within.noted };
         put_aside = ArePending-more (length later) (length notes) (length (later ++ entry ∷ [])) (length notes) (reverse pending) (omega arith) (omega arith) are.put_aside;
       },
-      ap (λ (t : List T). ways (record { todo = t; way = (ways_of later notes pending here).here.way }) (map (λ p. thread_of (reverse (later ++ entry ∷ [])) (reverse notes) p.here) (reverse pending))) todo
+      ap (λ (t : List T). ways (record { todo = t; way = (ways_of later notes pending here).here.way }) (threads_of (reverse (later ++ entry ∷ [])) (reverse notes) (reverse pending))) todo
           ∙ ap (λ ts. ways (record { todo = item ∷ (ways_of later notes pending here).here.todo; way = (ways_of later notes pending here).here.way }) ts) others
           ∙ ap (λ (v : Ways T). record v { here = record v.here { todo = item ∷ v.here.todo } }) e,
     ))
@@ -143,7 +134,7 @@ named_within l n (p ∷ ps) pending = pending.0
 
 ArePending-named : (l n m : ℕ) (ps : List Pending) → entries_named ps ≤ m → ArePending l n ps → ArePending m n ps
 ArePending-named l n m [] h pending = tt
-ArePending-named l n m (p ∷ ps) h pending = (h, pending.1, pending.2, pending.3)
+ArePending-named l n m (p ∷ ps) h pending = (h, pending.1, pending.2, pending.3, pending.4)
 
 greater : (m n kept count : ℕ) → kept ≡ max m n → m ≤ count → n ≤ count → (m ≤ kept) × (n ≤ kept) × (kept ≤ count)
 greater m n kept count e h k = (omega arith, omega arith, omega arith)
@@ -210,27 +201,62 @@ one_more_note {T} later notes notes2 pending here w note last own number are e n
         within = record { next = are.within.next; noted = omega arith };
         put_aside = ArePending-more (length later) (length notes) (length later) (length (notes ++ entry ∷ [])) (reverse pending) (omega arith) (omega arith) are.put_aside;
       },
-      ap (λ (v : Way). ways (record { todo = (ways_of later notes pending here).here.todo; way = v }) (map (λ p. thread_of (reverse later) (reverse (notes ++ entry ∷ [])) p.here) (reverse pending))) way
+      ap (λ (v : Way). ways (record { todo = (ways_of later notes pending here).here.todo; way = v }) (threads_of (reverse later) (reverse (notes ++ entry ∷ [])) (reverse pending))) way
           ∙ ap (λ ts. ways (record { todo = (ways_of later notes pending here).here.todo; way = with_note (ways_of later notes pending here).here.way note }) ts) others
           ∙ ap (λ (v : Ways T). record v { here = record v.here { way = with_note v.here.way note } }) e,
     ))
 
 -- ---- pending ways
 
--- the next pending way in place of the present one
-pub taken_up : {T : Type 0} (later later2 : List (Later T)) (notes notes2 : List Noted) (pending pending2 : List Pending) (next : Pending) (here : Here) (w : Ways T)
+-- one more entry is that many ways
+pub one_more_pending : {T : Type 0} (later : List (Later T)) (notes : List Noted) (pending pending2 : List Pending) (here : Here) (w : Ways T) (count before : ℕ)
     → AreWays later notes pending here → ways_of later notes pending here ≡ w
-    → pending ≡ pending2 ++ next ∷ [] → later2 ≡ take next.later later → notes2 ≡ take next.notes notes
-    → AreWays later2 notes2 pending2 next.here
-    × (w.pending ≡ (ways_of later2 notes2 pending2 next.here).here ∷ (ways_of later2 notes2 pending2 next.here).pending)
-taken_up {T} later later2 notes notes2 pending pending2 next here w are e f g h =
-    let turned : reverse pending ≡ next ∷ reverse pending2 = ap reverse f ∙ reverse-push pending2 next in
+    → 1 ≤ count → here.at.col + count ≤ 2 ^ 64 → before ≡ length w.pending → before + count < 2 ^ 64
+    → pending2 ≡ pending ++ record { here = here; count = count; before = before; later = length later; notes = length notes } ∷ []
+    → AreWays later notes pending2 here
+    × (ways_of later notes pending2 here ≡ record w { pending = run_of w.here count ++ w.pending })
+one_more_pending {T} later notes pending pending2 here w count before are e some columns many few f =
+    let entry : Pending = record { here = here; count = count; before = before; later = length later; notes = length notes } in
+    let turned : reverse (pending ++ entry ∷ []) ≡ entry ∷ reverse pending = reverse-push pending entry in
+    let below : before ≡ ways_counted (reverse pending) = many ∙ ap (λ (v : Ways T). length v.pending) (sym e) ∙ length-threads (reverse later) (reverse notes) (reverse pending) in
+    let aside : ArePending (length later) (length notes) (entry ∷ reverse pending) =
+    (omega arith, omega arith, are.within, record { some = some; columns = columns; before = below; few = few }, are.put_aside) in
+    rw f ((
+      record {
+        linked = are.linked;
+        chained = are.chained;
+        numbered = are.numbered;
+        last = are.last;
+        within = are.within;
+        put_aside = subst (ArePending (length later) (length notes)) (sym turned) aside;
+      },
+      ap (λ ps. ways (thread_of (reverse later) (reverse notes) here) (threads_of (reverse later) (reverse notes) ps)) turned
+          ∙ ap (λ (v : Ways T). record v { pending = run_of v.here count ++ v.pending }) e,
+    ))
+
+-- the entry of the next way
+pub next_entry : {T : Type 0} (later : List (Later T)) (notes : List Noted) (pending older : List Pending) (next : Pending) (here : Here)
+    → AreWays later notes pending here → pending ≡ older ++ next ∷ [] → IsCounted next (reverse older)
+next_entry later notes pending older next here are f =
+    (subst (ArePending (length later) (length notes)) (ap reverse f ∙ reverse-push older next) are.put_aside).3
+
+-- the next pending way in place of the present one
+pub taken_up : {T : Type 0} (later later2 : List (Later T)) (notes notes2 : List Noted) (pending pending2 older : List Pending) (next : Pending) (here up : Here) (w : Ways T)
+    → AreWays later notes pending here → ways_of later notes pending here ≡ w
+    → pending ≡ older ++ next ∷ [] → pending2 ≡ older ++ shorter next → later2 ≡ take next.later later → notes2 ≡ take next.notes notes
+    → up ≡ last_of next
+    → AreWays later2 notes2 pending2 up
+    × (w.pending ≡ (ways_of later2 notes2 pending2 up).here ∷ (ways_of later2 notes2 pending2 up).pending)
+taken_up {T} later later2 notes notes2 pending pending2 older next here up w are e f f2 g h up_is =
+    let turned : reverse pending ≡ next ∷ reverse older = ap reverse f ∙ reverse-push older next in
     let aside = subst (ArePending (length later) (length notes)) turned are.put_aside in
-    let rest = ArePending-more next.later next.notes (length later) (length notes) (reverse pending2) aside.0 aside.1 aside.3 in
+    let left : reverse pending2 ≡ shorter next ++ reverse older = ap reverse f2 ∙ shorter-reverse older next in
+    let low = subst (ArePending next.later next.notes) (sym left) (shorter-pending (length later) (length notes) next (reverse older) aside) in
+    let rest = ArePending-more next.later next.notes (length later) (length notes) (reverse pending2) aside.0 aside.1 low in
     let named = aside.2 in
     let few = aside.0 in
     let few2 = aside.1 in
-    let up : AreWays later notes pending2 next.here = record {
+    let taken : AreWays later notes pending2 (last_of next) = record {
       linked = are.linked;
       chained = are.chained;
       numbered = are.numbered;
@@ -238,29 +264,35 @@ taken_up {T} later later2 notes notes2 pending pending2 next here w are e f g h 
       within = record { next = let low = named.next in omega arith; noted = let low = named.noted in omega arith };
       put_aside = rest;
     } in
-    let done = cut later later2 notes notes2 next.later next.notes pending2 next.here up g h few few2 named aside.3 in (
+    let done = cut later later2 notes notes2 next.later next.notes pending2 (last_of next) taken g h few few2 (record { next = named.next; noted = named.noted }) low in
+    rw up_is ((
       done.0,
       ap (λ (v : Ways T). v.pending) (sym e)
-          ∙ ap (map (λ (p : Pending). thread_of (reverse later) (reverse notes) p.here)) turned
+          ∙ ap (threads_of (reverse later) (reverse notes)) turned
+          ∙ shorter-threads (reverse later) (reverse notes) next (reverse older) aside.3.some
+          ∙ ap (λ ps. thread_of (reverse later) (reverse notes) (last_of next) ∷ threads_of (reverse later) (reverse notes) ps) (sym left)
           ∙ ap (λ (v : Ways T). v.here ∷ v.pending) (sym done.1),
-    )
+    ))
 
 -- what is to be done on the next pending way, with the notes of the present one
-pub gone_on : {T : Type 0} (later later2 : List (Later T)) (notes : List Noted) (pending pending2 : List Pending) (next : Pending) (here : Here) (w : Ways T) (at : Place)
+pub gone_on : {T : Type 0} (later later2 : List (Later T)) (notes : List Noted) (pending pending2 older : List Pending) (next : Pending) (here up : Here) (w : Ways T) (at : Place)
     → AreWays later notes pending here → ways_of later notes pending here ≡ w
-    → pending ≡ pending2 ++ next ∷ [] → later2 ≡ take next.later later
-    → AreWays later2 notes pending2 (record next.here { at = at; noted = here.noted })
-    × (w.pending ≡ thread_of (reverse later) (reverse notes) next.here ∷ (ways_of later2 notes pending2 (record next.here { at = at; noted = here.noted })).pending)
-    × ((ways_of later2 notes pending2 (record next.here { at = at; noted = here.noted })).here ≡ record { todo = (thread_of (reverse later) (reverse notes) next.here).todo; way = record w.here.way { at = at } })
-gone_on {T} later later2 notes pending pending2 next here w at are e f g =
+    → pending ≡ older ++ next ∷ [] → pending2 ≡ older ++ shorter next → later2 ≡ take next.later later
+    → up ≡ last_of next
+    → AreWays later2 notes pending2 (record up { at = at; noted = here.noted })
+    × (w.pending ≡ thread_of (reverse later) (reverse notes) up ∷ (ways_of later2 notes pending2 (record up { at = at; noted = here.noted })).pending)
+    × ((ways_of later2 notes pending2 (record up { at = at; noted = here.noted })).here ≡ record { todo = (thread_of (reverse later) (reverse notes) up).todo; way = record w.here.way { at = at } })
+gone_on {T} later later2 notes pending pending2 older next here up w at are e f f2 g up_is =
     let there : Here = record next.here { at = at; noted = here.noted } in
-    let turned : reverse pending ≡ next ∷ reverse pending2 = ap reverse f ∙ reverse-push pending2 next in
+    let turned : reverse pending ≡ next ∷ reverse older = ap reverse f ∙ reverse-push older next in
     let aside = subst (ArePending (length later) (length notes)) turned are.put_aside in
-    let rest = ArePending-more next.later next.notes (length later) (length notes) (reverse pending2) aside.0 aside.1 aside.3 in
-    let rest2 = ArePending-more next.later next.notes next.later (length notes) (reverse pending2) (omega arith) aside.1 aside.3 in
+    let left : reverse pending2 ≡ shorter next ++ reverse older = ap reverse f2 ∙ shorter-reverse older next in
+    let low = subst (ArePending next.later next.notes) (sym left) (shorter-pending (length later) (length notes) next (reverse older) aside) in
+    let rest = ArePending-more next.later next.notes (length later) (length notes) (reverse pending2) aside.0 aside.1 low in
+    let rest2 = ArePending-more next.later next.notes next.later (length notes) (reverse pending2) (omega arith) aside.1 low in
     let named = aside.2 in
     let few = aside.0 in
-    let up : AreWays later notes pending2 there = record {
+    let taken : AreWays later notes pending2 there = record {
       linked = are.linked;
       chained = are.chained;
       numbered = are.numbered;
@@ -269,37 +301,35 @@ gone_on {T} later later2 notes pending pending2 next here w at are e f g =
       put_aside = rest;
     } in
     let all : notes ≡ take (length notes) notes = sym (take_all (length notes) notes (omega arith)) in
-    let done = cut later later2 notes notes next.later (length notes) pending2 there up g all few (omega arith) (record { next = named.next; noted = are.within.noted }) rest2 in (
+    let done = cut later later2 notes notes next.later (length notes) pending2 there taken g all few (omega arith) (record { next = named.next; noted = are.within.noted }) rest2 in
+    rw up_is ((
       done.0,
       ap (λ (v : Ways T). v.pending) (sym e)
-          ∙ ap (map (λ (p : Pending). thread_of (reverse later) (reverse notes) p.here)) turned
-          ∙ ap (λ (v : Ways T). thread_of (reverse later) (reverse notes) next.here ∷ v.pending) (sym done.1),
-      ap (λ (v : Ways T). v.here) done.1 ∙ ap (λ (v : Ways T). record { todo = (thread_of (reverse later) (reverse notes) next.here).todo; way = record v.here.way { at = at } }) e,
-    )
+          ∙ ap (threads_of (reverse later) (reverse notes)) turned
+          ∙ shorter-threads (reverse later) (reverse notes) next (reverse older) aside.3.some
+          ∙ ap (λ ps. thread_of (reverse later) (reverse notes) (last_of next) ∷ threads_of (reverse later) (reverse notes) ps) (sym left)
+          ∙ ap (λ (v : Ways T). thread_of (reverse later) (reverse notes) (last_of next) ∷ v.pending) (sym done.1),
+      ap (λ (v : Ways T). v.here) done.1 ∙ ap (λ (v : Ways T). record { todo = (thread_of (reverse later) (reverse notes) (last_of next)).todo; way = record v.here.way { at = at } }) e,
+    ))
 
 -- the pending ways but for those put aside last
 pub forgotten : {T : Type 0} (later : List (Later T)) (notes : List Noted) (pending pending2 : List Pending) (here : Here) (w : Ways T) (count : ℕ)
-    → AreWays later notes pending here → ways_of later notes pending here ≡ w → count ≤ length w.pending → pending2 ≡ take count pending
+    → AreWays later notes pending here → ways_of later notes pending here ≡ w → count ≤ length w.pending → reverse pending2 ≡ kept_to count (reverse pending)
     → AreWays later notes pending2 here
     × (ways_of later notes pending2 here ≡ record w { pending = drop (length w.pending - count) w.pending })
 forgotten {T} later notes pending pending2 here w count are e few f =
-    let turn : Pending → Thread T = λ p. thread_of (reverse later) (reverse notes) p.here in
-    let dropped = reverse (drop count pending) in
-    let kept = reverse (take count pending) in
-    let parts : reverse pending ≡ dropped ++ kept = ap reverse (sym (take-append-drop count pending)) ∙ reverse-append (take count pending) (drop count pending) in
-    let mapped : w.pending ≡ map turn dropped ++ map turn kept = ap (λ (v : Ways T). v.pending) (sym e) ∙ ap (map turn) parts ∙ map-append turn dropped kept in
-    let many : length w.pending ≡ length pending = ap (λ (v : Ways T). length v.pending) (sym e) ∙ length-map (reverse pending) turn ∙ length-reverse pending in
-    let gone : length (map turn dropped) ≡ length w.pending - count =
-    length-map dropped turn ∙ length-reverse (drop count pending) ∙ length-drop count pending ∙ ap (λ n. n - count) (sym many) in
-    let left : drop (length w.pending - count) w.pending ≡ map turn kept = ap (drop (length w.pending - count)) mapped ∙ drop_at (map turn dropped) (map turn kept) (length w.pending - count) gone in
-    rw f ((
+    let many : length w.pending ≡ ways_counted (reverse pending) = ap (λ (v : Ways T). length v.pending) (sym e) ∙ length-threads (reverse later) (reverse notes) (reverse pending) in
+    let few2 : count ≤ ways_counted (reverse pending) = omega arith in (
       record {
         linked = are.linked;
         chained = are.chained;
         numbered = are.numbered;
         last = are.last;
         within = are.within;
-        put_aside = ArePending-older (length later) (length notes) dropped kept (subst (ArePending (length later) (length notes)) parts are.put_aside);
+        put_aside = subst (ArePending (length later) (length notes)) (sym f) (kept_to-pending (length later) (length notes) count (reverse pending) are.put_aside few2);
       },
-      ap (λ ts. ways (ways_of later notes pending here).here ts) (sym left) ∙ ap (λ (v : Ways T). ways v.here (drop (length w.pending - count) w.pending)) e,
-    ))
+      ap (λ ps. ways (thread_of (reverse later) (reverse notes) here) (threads_of (reverse later) (reverse notes) ps)) f
+          ∙ ap (λ ts. ways (thread_of (reverse later) (reverse notes) here) ts) (kept_to-threads (reverse later) (reverse notes) (length later) (length notes) count (reverse pending) are.put_aside few2)
+          ∙ ap (λ n. ways (thread_of (reverse later) (reverse notes) here) (drop (n - count) (threads_of (reverse later) (reverse notes) (reverse pending)))) (sym many)
+          ∙ ap (λ (v : Ways T). ways v.here (drop (length w.pending - count) v.pending)) e,
+    )

@@ -15,6 +15,7 @@ pub mod Machine
 pub mod Spending
 pub mod Heights
 pub mod Search
+pub mod Runs
 pub mod Starts
 pub mod Standing
 pub mod Walks

@@ -1,7 +1,7 @@
 -- What an attempt has spent.
-use Rattle.std.specs.Prelude.{ℕ, nat_lt, List, if◌then◌else◌}
+use Rattle.std.specs.Prelude.{ℕ, zero, suc, nat_lt, List, [], ◌∷◌, if◌then◌else◌}
 use Rattle.syn_base.specs.declared.looked.Looked.{Looked}
-use Rattle.match_rules.specs.Marks.{Mark}
+use Rattle.match_rules.specs.Marks.{Mark, Tick}
 use Rattle.match_rules.specs.Attempt.{answer_from, joined}
 use Rattle.pattern_match.specs.declared.spent.Spent.{Spent}
 
@@ -12,6 +12,11 @@ spent_on s marks = record {
   budget = s.budget;
   looked = (answer_from s.cost s.looked marks).looked;
 }
+
+-- behind so many ticks that looked at the same lines
+abbrev pub spent_times : Spent → ℕ → Looked → Spent
+spent_times s zero looked = s
+spent_times s (suc count) looked = spent_on (spent_times s count looked) (Tick looked ∷ [])
 
 -- where these lines were looked at too
 abbrev pub looking_at_too : Looked → Spent → Spent

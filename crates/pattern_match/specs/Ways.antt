@@ -1,6 +1,6 @@
 -- The ways of an attempt: the present one with what is still to be done on it, and the pending ones,
 -- the next first.
-use Rattle.std.specs.Prelude.{◌≡◌, ℕ, suc, ◌≤◌, Bool, true, false, List, [], ◌∷◌, length, map, reverse, All, None, Some, ◌-◌, nat_eq, set, get_or, if◌then◌else◌}
+use Rattle.std.specs.Prelude.{◌≡◌, ℕ, zero, suc, ◌+◌, ◌<◌, ◌≤◌, ◌^◌, Bool, true, false, List, [], ◌∷◌, ◌++◌, length, map, reverse, All, None, Some, ◌-◌, nat_eq, nat_lt, set, get_or, if◌then◌else◌}
 use Rattle.std.specs.Option.{option_or}
 use Rattle.syn_base.specs.declared.places.Place.{Place}
 use Rattle.match_rules.specs.Ways.{Way, Capture, way_from, place, with_capture, capture_of}
@@ -20,6 +20,27 @@ pub record Thread (T : Type 0) : Type 0 where
 pub record Ways (T : Type 0) : Type 0 where
   pub here : Thread T
   pub pending : List (Thread T)
+
+-- ---- ways that differ in their columns alone
+
+abbrev pub columns_on : Place → ℕ → Place
+columns_on p count = place p.line (p.col + count)
+
+-- the way some columns further on in its line
+abbrev pub further : {T : Type 0} → Thread T → ℕ → Thread T
+further t count = record { todo = t.todo; way = record t.way { at = columns_on t.way.at count } }
+
+-- the way at its column and at those behind it, so many, the last column first
+abbrev pub run_of : {T : Type 0} → Thread T → ℕ → List (Thread T)
+run_of t zero = []
+run_of t (suc count) = further t count ∷ run_of t count
+
+-- the way has moved on some columns, and one is pending at each of them
+abbrev pub run_aside : {T : Type 0} → Ways T → ℕ → Ways T
+run_aside ways count = record {
+  here = further ways.here count;
+  pending = run_of ways.here count ++ ways.pending;
+}
 
 -- ---- how the entries stand for them
 
@@ -56,10 +77,16 @@ thread_of later notes here = record {
   way = record (with_notes (entries_from before_of notes here.noted)) { at = here.at };
 }
 
+-- the ways that entries stand for, the newest entry first
+abbrev pub threads_of : {T : Type 0} → List (Later T) → List Noted → List Pending → List (Thread T)
+threads_of later notes [] = []
+threads_of later notes (p ∷ older) =
+    run_of (thread_of later notes p.here) p.count ++ threads_of later notes older
+
 abbrev pub ways_of : {T : Type 0} → List (Later T) → List Noted → List Pending → Here → Ways T
 ways_of later notes pending here = record {
   here = thread_of (reverse later) (reverse notes) here;
-  pending = map (λ p. thread_of (reverse later) (reverse notes) p.here) (reverse pending);
+  pending = threads_of (reverse later) (reverse notes) (reverse pending);
 }
 
 -- ---- what the entries keep
@@ -76,12 +103,43 @@ pub record IsWithin (later notes : ℕ) (here : Here) : Type 0 where
   pub next : here.next ≤ later
   pub noted : here.noted ≤ notes
 
+-- how many ways entries stand for
+abbrev pub ways_counted : List Pending → ℕ
+ways_counted [] = 0
+ways_counted (p ∷ older) = p.count + ways_counted older
+
+-- an entry stands for some ways at columns that there may be, and knows how many are below it
+pub record IsCounted (p : Pending) (older : List Pending) : Type 0 where
+  pub some : 1 ≤ p.count
+  pub columns : p.here.at.col + p.count ≤ 2 ^ 64
+  pub before : p.before ≡ ways_counted older
+  pub few : p.before + p.count < 2 ^ 64
+
+abbrev pub IsNextCounted : List Pending → Type 0
+IsNextCounted [] = Unit {0}
+IsNextCounted (p ∷ older) = IsCounted p older
+
 -- each pending way names entries that were there when it was put aside, the next one first
 abbrev pub ArePending : ℕ → ℕ → List Pending → Type 0
 ArePending later notes [] = Unit {0}
 ArePending later notes (p ∷ older) =
     (p.later ≤ later) × (p.notes ≤ notes) × IsWithin p.later p.notes p.here ×
-    ArePending p.later p.notes older
+    IsCounted p older × ArePending p.later p.notes older
+
+-- the next way of an entry, which is that at the last column
+abbrev pub last_of : Pending → Here
+last_of p = record p.here { at = columns_on p.here.at (p.count - 1) }
+
+-- what an entry is without its next way
+abbrev pub shorter : Pending → List Pending
+shorter p = if nat_lt 1 p.count then record p { count = p.count - 1 } ∷ [] else []
+
+-- the entries of the last ways alone, so many, of entries with the newest first
+abbrev pub kept_to : ℕ → List Pending → List Pending
+kept_to count [] = []
+kept_to count (p ∷ older) =
+    if nat_lt p.before count then record p { count = count - p.before } ∷ older
+    else kept_to count older
 
 -- where a note says that a counted group matched
 abbrev pub capture_in : Note → ℕ → Capture

@@ -5,7 +5,7 @@ ghost use Rattle.pattern_items.specs.GroupNumbers.{HasNumber, IsOneToNine};
 ghost use Rattle.char_class.specs.Classes.{class_holds};
 ghost use Rattle.match_rules.specs.Ways.{IsPlaceOf, line_at};
 ghost use Rattle.match_rules.specs.Collections.{collection_holds};
-ghost use Rattle.match_rules.specs.Atoms.{behind_one_or_end, captured_text, external_text, fits, line_behind, lines_from, lines_looked, only_if, turned_round};
+ghost use Rattle.match_rules.specs.Atoms.{behind_one_or_end, captured_text, characters, external_text, fits, line_behind, lines_from, lines_looked, only_if, turned_round};
 ghost use Rattle.pattern_match.specs.Contexts.{context_in};
 ghost use Rattle.pattern_match.specs.Steps.{atom_of};
 ghost use Rattle.pattern_match.specs.Tried.{IsTriedOver};
@@ -16,7 +16,7 @@ use crate::standing::{
     Standing, behind_character, behind_line_end, character_at, only_if, standing_at,
 };
 use crate::step::Test;
-use crate::walks::{Walked, walk_between, walk_characters};
+use crate::walks::{Walked, line_at, part_of_line, walk_between, walk_characters};
 use crate::ways::Ways;
 use crate::words::{is_word_start, is_word_stop};
 use char_class::{Sets, class_has};
@@ -76,7 +76,7 @@ pub(crate) fn try_atom<T: Lines, I: Copy>(
 
 /// A line's number, as those that are looked at have it.
 #[inline(always)]
-fn numbered<T: Lines>(lines: &T, line: usize) -> i64
+pub(crate) fn numbered<T: Lines>(lines: &T, line: usize) -> i64
     requires { line ≤ length (T.lines lines.now) }
     ensures { result ≡ pos line }
 {
@@ -221,6 +221,9 @@ fn behind_group<T: Lines>(
         (captured_text (T.lines lines.now) capture) at result }
 {
     match capture {
+        Some((from, to)) if to.line <= from.line => {
+            behind_text(lines, context, part_of_line(lines, from, to.col), at)
+        }
         Some((from, to)) => over(lines, at, walk_between(lines, context, from, to, at)),
         None => in_line(lines, at, Some(at)),
     }
@@ -234,7 +237,28 @@ fn behind_external<T: Lines>(lines: &T, context: &Context, number: u8, at: Place
         (external_text (context_in (T.lines lines.now) context.now) number) at result }
 {
     let text = context.externals.part(usize::from(number) - 1);
-    over(lines, at, walk_characters(lines, context, text, at))
+    behind_text(lines, context, text, at)
+}
+
+/// The place behind characters. Where case isn't ignored, they are compared with the line at once,
+/// and fail at once where too few are left.
+fn behind_text<T: Lines>(lines: &T, context: &Context, text: &[char], at: Place) -> Tried
+    requires { IsPlaceOf (T.lines lines.now) at }
+    ensures { IsTriedOver (context_in (T.lines lines.now) context.now) (characters text.now) at
+        result }
+{
+    if context.ignore {
+        return over(lines, at, walk_characters(lines, context, text, at));
+    }
+    let line = line_at(lines, at.line);
+    if !line[at.col..].starts_with(text) {
+        return in_line(lines, at, None);
+    }
+    let behind = Place {
+        line: at.line,
+        col: at.col + text.len(),
+    };
+    in_line(lines, at, Some(behind))
 }
 
 /// An atom that is a text, which stands so far.

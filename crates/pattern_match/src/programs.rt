@@ -43,9 +43,10 @@ struct Program {
 
 impl Program {
     /// Tries the pattern at a place, with no regard to what it says of case.
-    fn attempt<T: Lines>(
-        &self,
+    fn attempt<'p, T: Lines>(
+        &'p self,
         alloc: Global,
+        scratch: &mut Scratch<'p>,
         lines: &T,
         context: &Context,
         start: Place,
@@ -59,7 +60,23 @@ impl Program {
             IfOk result (λ told. told ≡ answered budget (T.lines lines.now) start
             (answer_of (visits x self.now.tree.node (way_from start)))) }
     {
-        attempt_of(alloc, &self.step, lines, context, start, budget)
+        let ways = &mut scratch.ways;
+        attempt_of(alloc, ways, &self.step, lines, context, start, budget)
+    }
+}
+
+/// The memory of attempts, kept from one to the next. What an attempt answers doesn't depend on it.
+#[derive(Drop)]
+pub struct Scratch<'p> {
+    ways: Ways<Task<'p>>,
+}
+
+impl<'p> Scratch<'p> {
+    /// No memory yet.
+    pub fn new(alloc: Global) -> Scratch<'p> {
+        Scratch {
+            ways: Ways::new(alloc, Place { line: 0, col: 0 }),
+        }
     }
 }
 
@@ -135,13 +152,36 @@ impl Programs {
         ensures { IfOk result (IsAttempt budget self.now id.0
             (context_in (T.lines lines.now) context.now) start) }
     {
+        let mut scratch = Scratch::new(alloc);
+        self.attempt_in(&mut scratch, alloc, id, lines, context, start, budget)
+    }
+
+    /// Tries a pattern at a place, as `attempt` does, in the memory of earlier attempts. It takes none
+    /// where that is enough, but for the texts of external groups that it has found.
+    pub fn attempt_in<'p, T: Lines>(
+        &'p self,
+        scratch: &mut Scratch<'p>,
+        alloc: Global,
+        id: PatternId,
+        lines: &T,
+        context: &Context,
+        start: Place,
+        budget: u64,
+    ) -> Result<Attempt, Memory>
+        requires added { id.0 < length self.now }
+        requires present { start.line < length (T.lines lines.now) }
+        requires place { IsPlaceOf (T.lines lines.now) start }
+        requires budget { 1 ≤ budget }
+        ensures { IfOk result (IsAttempt budget self.now id.0
+            (context_in (T.lines lines.now) context.now) start) }
+    {
         let program = &self.programs[id.0 as usize];
         let context = Context {
             ignore: program.tree.case.unwrap_or(context.ignore),
             sets: context.sets,
             externals: context.externals,
         };
-        program.attempt(alloc, lines, &context, start, budget)
+        program.attempt(alloc, scratch, lines, &context, start, budget)
     }
 
     /// Whether the screen of a pattern lets an attempt at a column through: one of its first atoms
@@ -187,9 +227,10 @@ pub fn answers_stay_on_the_text()
 {}
 
 /// Tries a node at a place.
-fn attempt_of<T: Lines>(
+fn attempt_of<'p, T: Lines>(
     alloc: Global,
-    step: &Step,
+    ways: &mut Ways<Task<'p>>,
+    step: &'p Step,
     lines: &T,
     context: &Context,
     start: Place,
@@ -202,12 +243,12 @@ fn attempt_of<T: Lines>(
         IfOk result (λ told. told ≡ answered budget (T.lines lines.now) start
         (answer_of (visits x (shape_of step.now) (way_from start)))) }
 {
-    let mut ways: Ways<Task> = Ways::new(alloc, start);
-    if let Some(looked) = fails_at_once(lines, context, &ways, step) {
+    ways.begin(start);
+    if let Some(looked) = fails_at_once(lines, context, ways, step) {
         return Ok(Attempt::Absent(looked));
     }
     let mut spent = Spent::nothing(budget);
-    let sought = search(lines, context, &mut ways, step, None, &mut spent)?;
+    let sought = search(lines, context, ways, step, None, &mut spent)?;
     let looked = looked_or_start(lines, spent.looked, start);
     Ok(match sought {
         Sought::Found => {

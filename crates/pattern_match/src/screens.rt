@@ -53,7 +53,7 @@ fn test_passes(test: &Test, sets: &Sets, ignore: bool, next: Option<char>) -> bo
 }
 
 /// Whether an atom is one of characters alone.
-fn is_plain(test: &Test) -> bool
+pub(crate) fn is_plain(test: &Test) -> bool
     ensures { result ≡ is_plain (atom_of test.now) }
 {
     match test {
@@ -80,7 +80,7 @@ fn plain_fits(test: &Test, sets: &Sets, ignore: bool, next: Option<char>) -> boo
 }
 
 /// Whether an atom of characters takes this one.
-fn plain_takes(test: &Test, sets: &Sets, ignore: bool, c: char) -> bool
+pub(crate) fn plain_takes(test: &Test, sets: &Sets, ignore: bool, c: char) -> bool
     ensures { result ≡ plain_takes sets.now ignore (atom_of test.now) c }
 {
     match test {

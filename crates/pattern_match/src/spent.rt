@@ -1,7 +1,7 @@
 //! What an attempt has cost so far, and the lines that it looked at.
-ghost use Rattle.std.specs.Prelude.{◌≡◌, ◌<◌, ◌≤◌, [], ◌∷◌, None, IsTrue, ◌↔◌};
+ghost use Rattle.std.specs.Prelude.{◌≡◌, ◌<◌, ◌≤◌, ◌+◌, [], ◌∷◌, None, IsTrue, ◌↔◌};
 ghost use Rattle.match_rules.specs.Marks.{Tick};
-ghost use Rattle.pattern_match.specs.Spending.{spent_on, looking_at_too, looking_too};
+ghost use Rattle.pattern_match.specs.Spending.{spent_on, spent_times, looking_at_too, looking_too};
 
 use syn_base::Looked;
 
@@ -33,6 +33,17 @@ impl Spent {
     {
         self.cost += 1;
         self.look(looked);
+    }
+
+    /// Counts so many ticks, each of which looked at these lines.
+    pub(crate) fn tick_times(&mut self, count: u64, looked: Looked)
+        requires { self.old.cost + count ≤ self.old.budget }
+        ensures { self.new ≡ spent_times self.old count looked }
+    {
+        if count > 0 {
+            self.cost += count;
+            self.look(looked);
+        }
     }
 
     /// Says that the ticks since the cost was `before`, if there were any, looked at these lines too.

@@ -3,13 +3,14 @@ ghost use Rattle.std.specs.Prelude.{◌≡◌, ◌≤◌, ◌+◌, IfOk, OnOk, �
 ghost use Rattle.vim_pattern.specs.GroupNumbers.{HasNumbers};
 ghost use Rattle.vim_pattern.specs.Shape.{one};
 ghost use Rattle.match_rules.specs.Ways.{Context as AnyContext, IsPlaceOf, is_after};
-ghost use Rattle.match_rules.specs.Counts.{one_less, less_by, is_spent};
+ghost use Rattle.match_rules.specs.Counts.{one_less, is_spent};
 ghost use Rattle.pattern_match.specs.Contexts.{context_in};
 ghost use Rattle.pattern_match.specs.Steps.{atom_of, shape_of};
 ghost use Rattle.pattern_match.specs.Heights.{height};
 ghost use Rattle.pattern_match.specs.Search.{Leads, IsLed, IsStep, marks_first};
 
 use crate::context::Context;
+use crate::runs::{less_by, make_run};
 use crate::spent::Spent;
 use crate::step::{Step, Test};
 use crate::task::{Next, Task, Turns, Went};
@@ -31,16 +32,6 @@ fn one_less(most: Option<u32>) -> Option<u32>
     match most {
         None => None,
         Some(most) => Some(most.saturating_sub(1)),
-    }
-}
-
-/// How many turns are allowed, after some of them.
-fn less_by(most: Option<u32>, turns: u32) -> Option<u32>
-    ensures { result ≡ less_by most turns }
-{
-    match most {
-        None => None,
-        Some(most) => Some(most.saturating_sub(turns)),
     }
 }
 
@@ -86,7 +77,7 @@ pub(crate) fn after_turn<'p>(ways: &Ways<Task<'p>>, turns: Turns<'p>, from: Plac
     } else {
         Went::Does(Next::Count(Turns {
             least: 0,
-            most: less_by(turns.most, turns.least),
+            most: less_by(turns.most, turns.least as usize),
             ..turns
         }))
     }
@@ -152,7 +143,8 @@ pub(crate) fn count<'p, T: Lines>(
     }
 }
 
-/// Makes the turns of a greedy count of an atom, with the stop behind each, as long as they go on.
+/// Makes the turns of a greedy count of an atom, with the stop behind each, as long as they go on:
+/// those in a line at once, where the atom is of characters alone.
 fn count_atoms<'p, T: Lines>(
     lines: &T,
     context: &Context<'_>,
@@ -174,6 +166,7 @@ fn count_atoms<'p, T: Lines>(
     let mut most = turns.most;
     // Each turn takes a character, so it ends long before; counted turns need no measure.
     for _ in 0..u64::MAX {
+        most = make_run(lines, context, ways, test, most, spent)?;
         if is_spent(most) {
             return Ok(Went::GoesOn);
         }

@@ -40,6 +40,17 @@ pub(crate) fn walk_characters<T: Lines>(
     Walked { at, whole: true }
 }
 
+/// A line; one that isn't there is empty.
+pub(crate) fn line_at<T: Lines>(lines: &T, line: usize) -> &[char]
+    ensures { result.now ≡ line_at (T.lines lines.now) line }
+{
+    if line < lines.len() {
+        lines.line(line)
+    } else {
+        &[]
+    }
+}
+
 /// A line from one column up to another; a line that isn't there is empty.
 pub(crate) fn part_of_line<T: Lines>(lines: &T, from: Place, stop: usize) -> &[char]
     ensures { result.now ≡ take (stop - from.col)

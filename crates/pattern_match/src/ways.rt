@@ -4,9 +4,10 @@
 //! entries of two lists, each of which names the entry behind it. Entries are numbered from 1, and 0 is
 //! none. A way is a place and two such numbers. When a pending way is taken up, the entries that came
 //! after it are forgotten.
-ghost use Rattle.std.specs.Prelude.{◌≡◌, ◌≤◌, [], ◌∷◌, drop, length, reverse, ◌+◌, ◌-◌, ◌<◌, IfOk, OnOk, MatchOption, ℕ, IsTrue, IsFalse, Some};
+ghost use Rattle.std.specs.Prelude.{◌≡◌, ◌≤◌, [], ◌∷◌, ◌++◌, List, drop, length, reverse, ◌+◌, ◌-◌, ◌<◌, ◌^◌, IfOk, OnOk, MatchOption, ℕ, IsTrue, IsFalse, Some};
 ghost use Rattle.match_rules.specs.Ways.{way_from, with_capture, capture_of};
-ghost use Rattle.pattern_match.specs.Ways.{Thread, with_note, place_of, found_way, IsNumbered, entries_named, capture_in, with_earlier, with_earlier_capture, IsLast, NameLast, with_last};
+ghost use Rattle.pattern_match.specs.Ways.{Thread, with_note, place_of, found_way, IsNumbered, entries_named, capture_in, with_earlier, with_earlier_capture, IsLast, NameLast, with_last, run_of, run_aside, IsNextCounted, ways_counted, last_of, shorter, kept_to};
+ghost use Rattle.pattern_match.specs.declared.ways.Pending.{Pending as AnyPending};
 
 use std::alloc::Global;
 use std::marker::Model;
@@ -45,11 +46,17 @@ struct Here {
     noted: usize,
 }
 
-/// A way that is still to be followed, and how many entries there were when it was put aside. A greedy
-/// count keeps one for each turn, so it is small.
+/// Ways that are still to be followed, and how many entries there were when they were put aside. They
+/// stand at a column and those behind it, so that a greedy count keeps one entry for all its turns in a
+/// line. The last column is the next way's.
 #[derive(Clone, Copy)]
 struct Pending {
+    /// The way at the first column.
     here: Here,
+    /// How many ways these are.
+    count: usize,
+    /// How many ways are pending below them.
+    before: usize,
     later: usize,
     notes: usize,
 }
@@ -90,6 +97,23 @@ impl<T: Copy> Ways<T> {
             notes: Vec::new(alloc),
             pending: Vec::new(alloc),
         }
+    }
+
+    /// Begins with one way again, in the memory that there is.
+    pub(crate) fn begin(&mut self, at: Place)
+        ensures { self.new ≡ record {
+          here = record { todo = []; way = way_from at };
+          pending = [];
+        } }
+    {
+        self.later.clear();
+        self.notes.clear();
+        self.pending.clear();
+        self.here = Here {
+            at,
+            next: 0,
+            noted: 0,
+        };
     }
 
     /// Where the present way stands.
@@ -141,25 +165,61 @@ impl<T: Copy> Ways<T> {
         Some(entry.item)
     }
 
-    /// Puts a copy of the present way aside, as the next pending one.
+    /// Puts copies of the present way aside, at its column and at those behind it, so many.
     #[inline(always)]
-    pub(crate) fn put_aside(&mut self) -> Result<(), Memory>
-        ensures { OnOk result (self.new ≡
-            record self.old { pending = self.old.here ∷ self.old.pending }) }
+    fn put_copies_aside(&mut self, count: usize) -> Result<(), Memory>
+        requires some { 1 ≤ count }
+        requires columns { 1 < count → self.old.here.way.at.col + count ≤ 2 ^ 64 }
+        ensures { OnOk result (self.new ≡ record self.old {
+          pending = run_of self.old.here count
+              ++ self.old.pending;
+        }) }
     {
+        let before = self.pending();
+        if usize::MAX - before < count {
+            return Err(Memory);
+        }
         self.pending.push(Pending {
             here: self.here,
+            count,
+            before,
             later: self.later.len(),
             notes: self.notes.len(),
         })?;
         Ok(())
     }
 
+    /// Puts a copy of the present way aside, as the next pending one.
+    #[inline(always)]
+    pub(crate) fn put_aside(&mut self) -> Result<(), Memory>
+        ensures { OnOk result (self.new ≡
+            record self.old { pending = self.old.here ∷ self.old.pending }) }
+    {
+        self.put_copies_aside(1)
+    }
+
+    /// Moves the present way on some columns. A copy of it is put aside at each of those that it
+    /// leaves, the last column as the next pending one; all of them take one entry.
+    pub(crate) fn put_run_aside(&mut self, count: usize) -> Result<(), Memory>
+        requires some { 1 ≤ count }
+        requires columns { self.old.here.way.at.col + count < 2 ^ 64 }
+        ensures { OnOk result (self.new ≡ run_aside self.old count) }
+    {
+        self.put_copies_aside(count)?;
+        let at = self.here.at;
+        self.here.at = Place {
+            line: at.line,
+            col: at.col + count,
+        };
+        Ok(())
+    }
+
     /// How many ways are pending.
+    #[inline(always)]
     pub(crate) fn pending(&self) -> usize
         ensures { result ≡ length self.now.pending }
     {
-        self.pending.len()
+        ways_counted(&self.pending)
     }
 
     /// Takes up the next pending way in place of the present one, if there is one.
@@ -167,12 +227,12 @@ impl<T: Copy> Ways<T> {
         ensures none { IsFalse result → (self.old.pending ≡ []) × (self.new ≡ self.old) }
         ensures next { IsTrue result → self.old.pending ≡ self.new.here ∷ self.new.pending }
     {
-        let Some(next) = self.pending.pop() else {
+        let Some(next) = take_next(&mut self.pending) else {
             return false;
         };
         self.later.truncate(next.later);
         self.notes.truncate(next.notes);
-        self.here = next.here;
+        self.here = last_of(next);
         true
     }
 
@@ -184,7 +244,7 @@ impl<T: Copy> Ways<T> {
               self.old.pending;
         } }
     {
-        self.pending.truncate(count);
+        forget_to(&mut self.pending, count);
     }
 
     /// Goes on with what is to be done on the next pending way, with what the present one noted, at the
@@ -197,13 +257,14 @@ impl<T: Copy> Ways<T> {
               way = record self.old.here.way { at = place_of stay self.old.here.way.at t.way.at };
             }) }
     {
-        let Some(next) = self.pending.pop() else {
+        let Some(next) = take_next(&mut self.pending) else {
             return false;
         };
         self.later.truncate(next.later);
+        let there = last_of(next);
         self.here = Here {
-            at: place_of(stay, self.here.at, next.here.at),
-            next: next.here.next,
+            at: place_of(stay, self.here.at, there.at),
+            next: there.next,
             noted: self.here.noted,
         };
         true
@@ -333,6 +394,75 @@ impl<T: Copy> Ways<T> {
             at = entry.before;
         }
         way
+    }
+}
+
+/// How many ways entries stand for.
+#[inline(always)]
+fn ways_counted(pending: &[Pending]) -> usize
+    requires { IsNextCounted (reverse pending.now) }
+    ensures { result ≡ ways_counted (reverse pending.now) }
+{
+    match pending.last() {
+        Some(next) => next.before + next.count,
+        None => 0,
+    }
+}
+
+/// Takes the next way from the entries, and answers the entry that it was in.
+fn take_next(pending: &mut Vec<Pending>) -> Option<Pending>
+    ensures { MatchOption result ((pending.old.items ≡ []) × (pending.new ≡ pending.old))
+        (λ next. (older : List AnyPending) × (pending.old.items ≡ older ++ next ∷ []) ×
+        (pending.new.items ≡ older ++ shorter next)) }
+{
+    if pending.is_empty() {
+        return None;
+    }
+    let last = pending.len() - 1;
+    let next = pending[last];
+    if next.count > 1 {
+        pending[last] = Pending {
+            count: next.count - 1,
+            ..next
+        };
+    } else {
+        pending.truncate(last);
+    }
+    Some(next)
+}
+
+/// Forgets the entries' ways but for the last `count`.
+fn forget_to(pending: &mut Vec<Pending>, count: usize)
+    ensures { reverse pending.new.items ≡ kept_to count (reverse pending.old.items) }
+{
+    while !pending.is_empty() {
+        let last = pending.len() - 1;
+        let next = pending[last];
+        if next.before < count {
+            pending[last] = Pending {
+                count: count - next.before,
+                ..next
+            };
+            return;
+        }
+        pending.truncate(last);
+    }
+}
+
+/// Where the next way of an entry stands, and what it names.
+#[inline(always)]
+fn last_of(pending: Pending) -> Here
+    requires some { 1 ≤ pending.count }
+    requires columns { pending.here.at.col + pending.count ≤ 2 ^ 64 }
+    ensures { result ≡ last_of pending }
+{
+    let at = pending.here.at;
+    Here {
+        at: Place {
+            line: at.line,
+            col: at.col + (pending.count - 1),
+        },
+        ..pending.here
     }
 }
 
