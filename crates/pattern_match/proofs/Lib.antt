@@ -22,3 +22,4 @@ pub mod AnswerLaws
 pub mod ScreenLaws
 pub mod StandsLaws
 pub mod FateLaws
+pub mod TakesLaws

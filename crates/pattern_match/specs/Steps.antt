@@ -30,6 +30,7 @@ shape_of step.Empty = empty
 shape_of (step.One t) = one (atom_of t)
 shape_of (step.Seq' p a q b) = seq (shape_of a) (shape_of b)
 shape_of (step.Or' p a q b) = or (shape_of a) (shape_of b)
+shape_of (step.Optional' p a) = or (shape_of a) empty
 shape_of (step.And' p a q b) = and (shape_of a) (shape_of b)
 shape_of (step.Group' p a number) = group (shape_of a) number
 shape_of (step.External' p a number) = external (shape_of a) number

@@ -16,7 +16,7 @@ ghost use Rattle.pattern_match.specs.Search.{IsStep, marks_first, task_of, IsSea
 use crate::behind::Starts;
 use crate::context::Context;
 use crate::look::{Ending, Look};
-use crate::parts::{follow_both, follow_either};
+use crate::parts::{follow_both, follow_either, follow_optional};
 use crate::spent::Spent;
 use crate::step::Step;
 use crate::task::{Next, Task, Turns, Went};
@@ -168,6 +168,7 @@ fn visit<'p, T: Lines>(
         Step::One(test) => tick(lines, context, ways, test, spent),
         Step::Seq(a, b) => follow_both(lines, context, ways, a, b, spent),
         Step::Or(a, b) => follow_either(lines, context, ways, a, b, spent),
+        Step::Optional(part) => follow_optional(lines, context, ways, part, spent),
         Step::And(a, b) => {
             ways.put_first(Task::Visit(b))?;
             Ok(Went::Does(Next::Look(Look::ahead(a, false))))

@@ -33,6 +33,10 @@ pub returns-in-Or : goal.returns-in-Or
 returns-in-Or g c =
     rw c.in-Or.is (rw (c.deref-in-Or-2.ensures, c.deref-in-Or.ensures) at c.follow_either.ensures)
 
+pub returns-in-Optional : goal.returns-in-Optional
+returns-in-Optional g c =
+    rw c.in-Optional.is (rw c.deref-in-Optional.ensures at c.follow_optional.ensures)
+
 pub returns-in_ok-open_group-in-Group : goal.returns-in_ok-open_group-in-Group
 returns-in_ok-open_group-in-Group g c =
     let x : AnyContext = context_in (g.T.Lines.lines c.args.lines.now) c.args.context.now in
