@@ -23,3 +23,5 @@ pub mod ScreenLaws
 pub mod StandsLaws
 pub mod FateLaws
 pub mod TakesLaws
+pub mod AlikeLaws
+pub mod Choosing

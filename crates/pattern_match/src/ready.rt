@@ -4,10 +4,11 @@
 //! becomes `Step::Never`, and one that has a single way, on which nothing changes, `Step::Empty`: a
 //! walk through their parts costs no tick, and so no budget would end it. An optional turn of a part
 //! that always takes something is a choice between the part and nothing, so that nested ones leave
-//! nothing to be done behind them.
+//! nothing to be done behind them. A choice between parts that try no atom is known as such: where
+//! nothing has come of the one without a tick, nothing comes of the other.
 ghost use Rattle.std.specs.Prelude.{◌≡◌, true, false, Some, IfOk};
-ghost use Rattle.vim_pattern.specs.Shape.{bare, Shape, empty, one, repeat};
-ghost use Rattle.pattern_match.specs.Fates.{fate_of};
+ghost use Rattle.vim_pattern.specs.Shape.{bare, Shape, empty, one, or, repeat};
+ghost use Rattle.pattern_match.specs.Fates.{fate_of, passes};
 ghost use Rattle.pattern_match.specs.LastParts.{all_over, over, IsParted};
 ghost use Rattle.pattern_match.specs.StandsFor.{StandsFor};
 ghost use Rattle.pattern_match.specs.Steps.{atom_of, shape_of};
@@ -142,6 +143,20 @@ fn optional(alloc: Global, part: Made) -> Result<Made, Memory>
     Ok(settled(step, fate, false))
 }
 
+/// A choice between two parts that pass.
+fn choice(alloc: Global, first: Made, second: Made) -> Result<Made, Memory>
+    requires first { passes first.fate ≡ true }
+    requires second { passes second.fate ≡ true }
+    ensures { IfOk result (λ m. StandsFor (shape_of m.step) (or (shape_of first.step)
+        (shape_of second.step))) }
+{
+    let fate = either(first.fate, second.fate);
+    let takes = first.takes && second.takes;
+    let second = Box::new(alloc, second.step)?;
+    let step = Step::Choice(Box::new(alloc, first.step)?, second);
+    Ok(Made { step, fate, takes })
+}
+
 /// The node of these parts and this last child, or a plainer one that stands for it.
 fn put_over(alloc: Global, above: Above, last: Made) -> Result<Made, Memory>
     ensures { IfOk result (λ m. StandsFor (shape_of m.step) (over above (shape_of last.step))) }
@@ -152,6 +167,9 @@ fn put_over(alloc: Global, above: Above, last: Made) -> Result<Made, Memory>
             most: Some(1),
             lazy: false,
         } if last.takes => optional(alloc, last),
+        Above::Or(first) if first.fate.passes() && last.fate.passes() => {
+            choice(alloc, first, last)
+        }
         above => {
             let fate = above.fate_over(last.fate);
             let takes = above.takes_over(last.takes);

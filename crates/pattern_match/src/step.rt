@@ -14,6 +14,8 @@ pub(crate) enum Step {
     One(Test),
     Seq(Box<Step>, Box<Step>),
     Or(Box<Step>, Box<Step>),
+    /// The one part or the other, where neither tries an atom, and each has a way.
+    Choice(Box<Step>, Box<Step>),
     /// The part, or nothing.
     Optional(Box<Step>),
     And(Box<Step>, Box<Step>),
