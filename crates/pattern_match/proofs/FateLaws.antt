@@ -1,12 +1,14 @@
 -- A node comes to what its fate says.
 use Rattle.std.proofs.Common.{◌≡◌, ℕ, zero, suc, ◌+◌, Bool, true, false, List, [], ◌∷◌, ◌++◌, inl, inr, refl, sym, ap, ◌∙◌, arith, subst, append-nil, add-one}
 use Rattle.std.specs.Prelude.{Option, None, take, pos, ◌-ℤ◌, ◌&&◌, not, if◌then◌else◌}
-use Rattle.std.proofs.lemmas.Bool.{cases_Bool}
+use Rattle.std.proofs.lemmas.Bool.{cases_Bool, and_parts, and_from}
 use Rattle.std.proofs.lemmas.Bool.Decides.{nat_tests}
 use Rattle.syn_base.specs.declared.places.Place.{Place}
 use Rattle.syn_base.specs.Looked.{one_line}
 use Rattle.pattern_items.specs.declared.item.Behind.{Behind}
 use Rattle.pattern_items.specs.declared.item.Behind.TheVariants.{Any, Most}
+use Rattle.pattern_items.specs.GroupNumbers.{IsOneToNine}
+use Rattle.vim_pattern.specs.GroupNumbers.{HasNumbers}
 use Rattle.vim_pattern.specs.Shape.{Shape, empty, one, seq, or, and, group, external, repeat, ahead, before, whole}
 use Rattle.match_rules.specs.Ways.{Text, Context, Way, is_after, is_same_place}
 use Rattle.match_rules.specs.Marks.{Mark, Tick, Reach, followed, ticks_first, first_way, reach_if}
@@ -14,10 +16,10 @@ use Rattle.match_rules.specs.Counts.{is_spent, turns, unforced, in_order, one_le
 use Rattle.match_rules.specs.Looks.{starts_behind, from_each, ending_at, looking_at, look, tried_behind}
 use Rattle.match_rules.specs.Visits.{visits, noted, noted_external}
 use Rattle.pattern_screens.specs.FirstAtoms.{both_lists, first_atoms}
-use Rattle.pattern_match.specs.FirstAtom.{is_forced}
+use Rattle.pattern_match.specs.FirstAtom.{first_atom, is_forced}
 use Rattle.pattern_match.specs.declared.fate.Fate.{Fate}
 use Rattle.pattern_match.specs.declared.fate.Fate.TheVariants.{Never, Stays, Passes, Opens, Tries}
-use Rattle.pattern_match.specs.Fates.{behind, either, counted, first_of, looked, fate_of}
+use Rattle.pattern_match.specs.Fates.{behind, either, counted, first_of, looked, fate_of, passes, choice}
 use Rattle.pattern_match.specs.StandsFor.{StandsFor}
 use Rattle.pattern_match.specs.Starts.{places_before}
 use Rattle.pattern_match.proofs.FirstAtomLaws.{is_forced-more}
@@ -551,3 +553,75 @@ stands_stays s e = record {
   numbers = λ h. tt;
   first = sym (no-first s (ap is_settled e));
 }
+
+-- ---- choices
+
+passing-fate : (f : Fate) (w : Way) (marks : List Mark) → passes f ≡ true → ComesTo f w marks →
+    IsPassing w.at marks
+passing-fate Stays w marks e h = passing-one w marks h
+passing-fate Passes w marks e h = h
+passing-fate Never w marks e h = absurd (cc e)
+passing-fate Opens w marks e h = absurd (cc e)
+passing-fate Tries w marks e h = absurd (cc e)
+
+passing : (x : Context) (s : Shape) (w : Way) → passes (fate_of s) ≡ true →
+    IsPassing w.at (visits x s w)
+passing x s w e = passing-fate (fate_of s) w (visits x s w) e (comes_to x s w)
+
+-- the ways of a part that passes are all at the place, the first one among them
+pub passing_all : (x : Context) (s : Shape) (w : Way) → passes (fate_of s) ≡ true →
+    AreAllAt w.at (visits x s w)
+passing_all x s w e = all-of w.at (visits x s w) (passing x s w e)
+
+pub passing_first : (x : Context) (s : Shape) (w : Way) → passes (fate_of s) ≡ true →
+    (v : Way) × ((rest : List Mark) × ((visits x s w ≡ Reach v ∷ rest) × (v.at ≡ w.at)))
+passing_first x s w e =
+    first-opening w.at (visits x s w) (opening-of w.at (visits x s w) (passing x s w e))
+
+if-true : (b : Bool) (s t : Shape) → b ≡ true → (if b then s else t) ≡ s
+if-true true s t e = refl
+if-true false s t e = absurd (cc e)
+
+pub choice_is : (a b : Shape) → passes (fate_of a) ≡ true → passes (fate_of b) ≡ true →
+    choice a b ≡ or a b
+choice_is a b e f = if-true (passes (fate_of a) && passes (fate_of b)) (or a b) (group empty 0)
+    (and_from (passes (fate_of a)) (passes (fate_of b)) e f)
+
+no-group : IsOneToNine 0 → ⊥
+no-group h = omega (arith, h.least)
+
+if-numbered : (b : Bool) (s : Shape) → HasNumbers (if b then s else group empty 0) → b ≡ true
+if-numbered true s h = refl
+if-numbered false s h = absurd (no-group h.0)
+
+pub choice_parts : (a b : Shape) → HasNumbers (choice a b) →
+    (passes (fate_of a) ≡ true) × (passes (fate_of b) ≡ true)
+choice_parts a b h = and_parts (passes (fate_of a)) (passes (fate_of b)) (if-numbered _ (or a b) h)
+
+pub choice_numbers : (a b : Shape) → HasNumbers (choice a b) → HasNumbers a × HasNumbers b
+choice_numbers a b h =
+    let parts = choice_parts a b h in
+    rw (choice_is a b parts.0 parts.1) at h
+
+settled-passes : (f : Fate) → passes f ≡ true → is_settled f ≡ true
+settled-passes Stays e = refl
+settled-passes Passes e = refl
+settled-passes Never e = absurd (cc e)
+settled-passes Opens e = refl
+settled-passes Tries e = absurd (cc e)
+
+no-first-if : (c : Bool) (a b : Shape) → (c ≡ true → first_atoms a ≡ None) →
+    first_atoms (if c then or a b else group empty 0) ≡ None
+no-first-if true a b h = ap (λ o. both_lists o (first_atoms b)) (h refl)
+no-first-if false a b h = refl
+
+pub choice_first_atoms : (a b : Shape) → first_atoms (choice a b) ≡ None
+choice_first_atoms a b =
+    no-first-if (passes (fate_of a) && passes (fate_of b)) a b
+    (λ both. no-first a
+    (settled-passes (fate_of a) (and_parts (passes (fate_of a)) (passes (fate_of b)) both).0))
+
+pub choice_first_atom : (a b : Shape) → first_atom (choice a b) ≡ None
+choice_first_atom a b =
+    elim (passes (fate_of a) && passes (fate_of b)) as
+    (λ c. first_atom (if c then or a b else group empty 0) ≡ None) [ true ↦ refl | false ↦ refl ]

@@ -26,3 +26,6 @@ pub mod AnswerLaws
 pub mod ScreenLaws
 pub mod StandsLaws
 pub mod FateLaws
+pub mod TakesLaws
+pub mod AlikeLaws
+pub mod Choosing

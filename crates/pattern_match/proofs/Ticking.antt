@@ -6,10 +6,10 @@ use Rattle.syn_base.specs.declared.looked.Looked.{Looked}
 use Rattle.syn_base.specs.declared.places.Place.{Place}
 use Rattle.pattern_items.specs.declared.atom.Atom.{Atom}
 use Rattle.vim_pattern.specs.GroupNumbers.{HasNumbers}
-use Rattle.vim_pattern.specs.Shape.{one, seq, or}
+use Rattle.vim_pattern.specs.Shape.{empty, one, seq, or}
 use Rattle.match_rules.specs.Ways.{Context, Way, IsPlaceOf, is_after}
 use Rattle.match_rules.specs.Atoms.{lines_looked, way_behind}
-use Rattle.match_rules.specs.Marks.{Mark, Tick, followed}
+use Rattle.match_rules.specs.Marks.{Mark, Tick, Reach, followed}
 use Rattle.match_rules.specs.Counts.{turns, after_turn, one_less, is_spent}
 use Rattle.match_rules.specs.Visits.{visits, tried}
 use Rattle.match_rules.proofs.MarkLaws.{followed-assoc}
@@ -28,7 +28,7 @@ use Rattle.pattern_match.specs.Ways.{Ways}
 use Rattle.pattern_match.specs.Machine.{task_marks, marks_with}
 use Rattle.pattern_match.specs.Heights.{height}
 use Rattle.pattern_match.specs.Search.{Goes, IsOver, IsStep, marks_first, IsTick}
-use Rattle.pattern_match.proofs.Leading.{silent, leads_do}
+use Rattle.pattern_match.proofs.Leading.{silent, leads_on, leads_do}
 use Rattle.pattern_match.proofs.Counting.{count_spent, count_greedy, turn_dropped}
 use Rattle.pattern_match.proofs.Stepping.{way_behind-kept, behind, over, failed, turn_marks, turn_taken, turn_over}
 
@@ -108,6 +108,25 @@ module _ (x : Context) (i j : Bor Step) (old : Ways Task) where
 
     pub either_over : earlier.budget ≤ earlier.cost → IsOver either earlier
     either_over h = record { made = Tick looked ∷ []; left = marks_first x (Visit j) old; all = either_marks; over = omega arith }
+
+-- a part that has one tick alone, or nothing
+module _ (x : Context) (i : Bor Step) (old : Ways Task) (looked : Looked)
+    (fails : visits x (shape_of i.now) old.here.way ≡ Tick looked ∷ []) (earlier : Spent) where
+  abbrev or_nothing : List Mark
+  or_nothing = followed (visits x (or (shape_of i.now) empty) old.here.way) (marks_with x old.here.todo)
+
+  or_nothing-marks : or_nothing ≡ Tick looked ∷ followed (Reach old.here.way ∷ []) (marks_with x old.here.todo)
+  or_nothing-marks = ap (λ marks. followed (marks ++ Reach old.here.way ∷ []) (marks_with x old.here.todo)) fails
+
+  pub optional_passed : (later : Spent) → later ≡ spent_on earlier (Tick looked ∷ []) → earlier.cost < earlier.budget → Goes x (height (or (shape_of i.now) empty)) or_nothing old old earlier later GoesOn
+  optional_passed later spent within =
+      let high = height (or (shape_of i.now) empty) in
+      let low : later.cost ≤ later.budget = rw spent (omega arith) in
+      ticked_goes x high or_nothing _ looked old old old earlier later later or_nothing-marks spent refl refl (λ p. p) GoesOn
+      (silent x high _ old old later GoesOn low (leads_on x high old old old.here.way refl (λ p. p)))
+
+  pub optional_over : earlier.budget ≤ earlier.cost → IsOver or_nothing earlier
+  optional_over h = record { made = Tick looked ∷ []; left = followed (Reach old.here.way ∷ []) (marks_with x old.here.todo); all = or_nothing-marks; over = omega arith }
 
 -- ---- the turns of a greedy count of an atom
 

@@ -1,5 +1,5 @@
 -- Nodes, and how a way goes on behind a look.
-use Rattle.std.proofs.Common.{◌≡◌, ℕ, ◌+◌, ◌<◌, ◌≤◌, Bool, true, false, List, [], ◌∷◌, ◌++◌, refl, sym, ap, ◌∙◌, arith, subst}
+use Rattle.std.proofs.Common.{◌≡◌, ℕ, ◌+◌, ◌<◌, ◌≤◌, Bool, true, false, List, [], ◌∷◌, ◌++◌, refl, sym, ap, ◌∙◌, arith, subst, append-nil}
 use Rattle.std.specs.Prelude.{Option, Some, None, max}
 use Rattle.std.specs.Borrow.{Bor}
 use Rattle.std.specs.Prelude.{pos, ◌-ℤ◌}
@@ -15,7 +15,7 @@ use Rattle.match_rules.specs.Ways.{Text, Context, Way, IsPlaceOf, is_same_place}
 use Rattle.match_rules.specs.Marks.{Mark, Tick, Reach, followed, ticks_first, first_way}
 use Rattle.match_rules.specs.Looks.{from_each, starts_behind, ending_at, looking_at}
 use Rattle.match_rules.specs.Visits.{visits}
-use Rattle.match_rules.proofs.MarkLaws.{AllWays}
+use Rattle.match_rules.proofs.MarkLaws.{AllWays, followed-append}
 use Rattle.match_rules.proofs.TurnLaws.{IsWayOf}
 use Rattle.match_rules.proofs.Kept.{visits-kept}
 use Rattle.pattern_match.specs.declared.task.Task.{Task}
@@ -34,8 +34,8 @@ use Rattle.pattern_match.specs.Spending.{spent_on}
 use Rattle.pattern_match.specs.Ways.{Thread, Ways}
 use Rattle.pattern_match.specs.Machine.{task_marks, part_marks, end_marks, marks_with, marks_to_come}
 use Rattle.pattern_match.specs.Heights.{height, AreTasks, AreSound}
-use Rattle.pattern_match.specs.Search.{going, Leads, Goes, IsOver, IsStep, HasEnded, behind_look}
-use Rattle.pattern_match.proofs.Leading.{silent, leads_on, leads_do, leads_two, leads_or, leads_nowhere}
+use Rattle.pattern_match.specs.Search.{going, Leads, Goes, IsOver, IsStep, HasEnded, behind_look, marks_first}
+use Rattle.pattern_match.proofs.Leading.{silent, leads_on, leads_do, leads_two, leads_or, leads_nowhere, leads_before}
 use Rattle.pattern_match.proofs.Looping.{way_is}
 
 module _ (x : Context) (node : Shape) (old new : Ways Task) (s : Spent) (numbers : HasNumbers node)
@@ -78,6 +78,28 @@ module _ (x : Context) (node : Shape) (old new : Ways Task) (s : Spent) (numbers
       (subst (λ n. Leads x (height node)
       (followed (visits x n old.here.way) (marks_with x old.here.todo)) old new
       (Does (at_once.Visit i))) (sym k) l)
+
+  pub follow_or_empty : (i : Bor Step) → node ≡ or (shape_of i.now) empty →
+      new ≡ record old { pending = old.here ∷ old.pending } →
+      Goes x (height node) (followed (visits x node old.here.way) (marks_with x old.here.todo)) old
+      new s s (Does (at_once.Visit i))
+  follow_or_empty i k e =
+      let h : HasNumbers (shape_of i.now) × HasNumbers empty = rw k at numbers in
+      let m : height node ≡ max (height (shape_of i.now)) 0 + 1 = rw k refl in
+      let both : marks_first x (Visit i) old ++ marks_with x old.here.todo old.here.way
+      ≡ followed (visits x node old.here.way) (marks_with x old.here.todo) =
+      ap (λ r. marks_first x (Visit i) old ++ r) (sym (append-nil _))
+      ∙ sym (followed-append (visits x (shape_of i.now) old.here.way) (Reach old.here.way ∷ [])
+      (marks_with x old.here.todo))
+      ∙ ap (λ n. followed (visits x n old.here.way) (marks_with x old.here.todo)) (sym k) in
+      let l = leads_do x (height node) new (at_once.Visit i) h.0 (omega arith) in
+      silent x (height node) _ old new s (Does (at_once.Visit i)) within
+      (subst (λ m. Leads x (height node) m old new (Does (at_once.Visit i))) both
+      (leads_before x (height node) old new new (marks_first x (Visit i) old)
+      (Does (at_once.Visit i)) e
+      (subst (λ m. Leads x (height node) m new new (Does (at_once.Visit i)))
+      (ap (λ t. followed (visits x (shape_of i.now) t.way) (marks_with x t.todo))
+      (ap (λ v. v.here) e)) l)))
 
   pub follow_group : (i : Bor Step) (number : ℕ) (from : Place) →
       node ≡ group (shape_of i.now) number → from ≡ old.here.way.at →

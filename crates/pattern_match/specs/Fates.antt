@@ -1,6 +1,6 @@
 -- What a node comes to, whatever the text is and wherever it is tried. Atoms alone move a way or ask
 -- the text, so what happens before the first of them is settled when the pattern is made ready.
-use Rattle.std.specs.Prelude.{Bool, true, false, if◌then◌else◌}
+use Rattle.std.specs.Prelude.{Bool, true, false, ◌&&◌, if◌then◌else◌}
 use Rattle.vim_pattern.specs.Shape.{Shape, empty, one, seq, or, and, group, external, repeat, ahead, before, whole}
 use Rattle.match_rules.specs.Counts.{is_spent}
 use Rattle.pattern_match.specs.FirstAtom.{is_forced}
@@ -64,3 +64,14 @@ fate_of (repeat part least most lazy) =
 fate_of (ahead part negative) = looked (fate_of part) negative
 fate_of (before part negative limit) = looked (fate_of part) negative
 fate_of (whole part) = first_of (fate_of part)
+
+-- no atom is tried, and there is a way
+abbrev pub passes : Fate → Bool
+passes Stays = true
+passes Passes = true
+passes _ = false
+
+-- a choice between two parts that pass; between others there is none, so it has a number that no group
+-- has
+abbrev pub choice : Shape → Shape → Shape
+choice a b = if passes (fate_of a) && passes (fate_of b) then or a b else group empty 0

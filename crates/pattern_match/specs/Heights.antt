@@ -5,7 +5,7 @@ use Rattle.vim_pattern.specs.GroupNumbers.{HasNumbers}
 use Rattle.vim_pattern.specs.Shape.{Shape, empty, one, seq, or, and, group, external, repeat, ahead, before, whole}
 use Rattle.match_rules.specs.Ways.{Text, IsPlaceOf}
 use Rattle.pattern_match.specs.declared.task.Task.{Task}
-use Rattle.pattern_match.specs.declared.task.Task.TheVariants.{Visit, Count, Turn, AfterTurn, Look, Close, CloseExternal}
+use Rattle.pattern_match.specs.declared.task.Task.TheVariants.{Visit, Count, Turn, AfterTurn, Look, Close, CloseExternal, Again}
 use Rattle.pattern_match.specs.Steps.{shape_of}
 use Rattle.pattern_match.specs.Ways.{Thread}
 
@@ -31,7 +31,9 @@ height_of (AfterTurn t from) = height (shape_of t.part.now) + 1
 height_of (Look l) = height (shape_of l.part.now) + 1
 height_of (Close number from) = 0
 height_of (CloseExternal number from) = 0
+height_of (Again s cost) = height (shape_of s.now)
 
+-- nothing is done before the second part of a choice: it stands first on a way that was put aside
 abbrev pub IsNumbered : Task → Type 0
 IsNumbered (Visit s) = HasNumbers (shape_of s.now)
 IsNumbered (Count t) = HasNumbers (shape_of t.part.now)
@@ -40,6 +42,7 @@ IsNumbered (AfterTurn t from) = HasNumbers (shape_of t.part.now)
 IsNumbered (Look l) = HasNumbers (shape_of l.part.now)
 IsNumbered (Close number from) = IsOneToNine number
 IsNumbered (CloseExternal number from) = IsOneToNine number
+IsNumbered (Again s cost) = ⊥
 
 abbrev pub AreTasks : ℕ → List Task → Type 0
 AreTasks n [] = Unit {0}

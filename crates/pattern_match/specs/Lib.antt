@@ -9,6 +9,7 @@ pub mod Steps
 pub mod LastParts
 pub mod StandsFor
 pub mod Fates
+pub mod Takes
 pub mod Entries
 pub mod Ways
 pub mod Machine

@@ -8,7 +8,7 @@ use Rattle.match_rules.specs.Looks.{look_end, tried_behind}
 use Rattle.match_rules.specs.Counts.{turns, after_turn}
 use Rattle.match_rules.specs.Visits.{visits, noted, noted_external}
 use Rattle.pattern_match.specs.declared.task.Task.{Task}
-use Rattle.pattern_match.specs.declared.task.Task.TheVariants.{Visit, Count, Turn, AfterTurn, Look, Close, CloseExternal}
+use Rattle.pattern_match.specs.declared.task.Task.TheVariants.{Visit, Count, Turn, AfterTurn, Look, Close, CloseExternal, Again}
 use Rattle.pattern_match.specs.declared.look.Ending.{Ending}
 use Rattle.pattern_match.specs.declared.look.Ending.TheVariants as ending
 use Rattle.pattern_match.specs.Steps.{shape_of}
@@ -38,6 +38,7 @@ task_marks x (AfterTurn t from) w = after_turn x.text (visits x (shape_of t.part
 task_marks x (Look l) w = up_to_first l.ending w (part_marks x (shape_of l.part.now) l.behind w)
 task_marks x (Close number from) w = noted number from w
 task_marks x (CloseExternal number from) w = noted_external number from w
+task_marks x (Again s cost) w = visits x (shape_of s.now) w
 
 -- what a way still tries and reaches, where these items are to be done
 abbrev pub marks_with : Context → List Task → Way → List Mark

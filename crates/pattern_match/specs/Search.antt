@@ -1,6 +1,7 @@
 -- How a search for the first way goes: step by step the ways that are pending take the place of what
 -- the pattern still tries and reaches.
-use Rattle.std.specs.Prelude.{◌≡◌, ℕ, ◌≤◌, ◌<◌, Bool, true, false, List, [], ◌∷◌, ◌++◌, Option, Some, None}
+use Rattle.std.specs.Prelude.{◌≡◌, ℕ, ◌≤◌, ◌<◌, Bool, true, false, List, [], ◌∷◌, ◌++◌, Option, Some, None, nat_eq, if◌then◌else◌}
+use Rattle.std.specs.Borrow.{Bor}
 use Rattle.syn_base.specs.declared.places.Place.{Place}
 use Rattle.pattern_items.specs.declared.atom.Atom.{Atom}
 use Rattle.match_rules.specs.Ways.{Context, Way, IsPlaceOf, is_same_place}
@@ -19,6 +20,9 @@ use Rattle.pattern_match.specs.declared.search.Sought.TheVariants.{Found, Absent
 use Rattle.pattern_match.specs.declared.look.Ending.{Ending}
 use Rattle.pattern_match.specs.declared.look.Ending.TheVariants as ending
 use Rattle.pattern_match.specs.declared.spent.Spent.{Spent}
+use Rattle.pattern_match.specs.declared.step.Step.{Step}
+use Rattle.pattern_match.specs.Fates.{choice}
+use Rattle.pattern_match.specs.Steps.{shape_of}
 use Rattle.pattern_match.specs.Spending.{spent_on}
 use Rattle.pattern_match.specs.Ways.{Thread, Ways}
 use Rattle.pattern_match.specs.Machine.{task_marks, marks_with, marks_to_come}
@@ -72,6 +76,16 @@ IsLed went = Unit {0}
 abbrev pub IsStep : Context → ℕ → List Mark → Ways Task → Ways Task → Spent → Spent → Went → Type 0
 IsStep x high marks old new earlier later NoMore = IsOver marks earlier
 IsStep x high marks old new earlier later went = Goes x high marks old new earlier later went
+
+-- a choice is followed, whose parts are these
+abbrev pub IsChoice : Next → (first second : Bor Step) → Type 0
+IsChoice (at_once.Visit s) first second =
+    shape_of s.now ≡ choice (shape_of first.now) (shape_of second.now)
+IsChoice _ first second = ⊥
+
+-- how a way goes on whose second part is followed, if there was a tick since the cost was `before`
+abbrev pub going_again : Bor Step → (before cost : ℕ) → Went
+going_again s before cost = if nat_eq cost before then Ends else Does (at_once.Visit s)
 
 -- what a way tries and reaches that does an item first
 abbrev pub marks_first : Context → Task → Ways Task → List Mark

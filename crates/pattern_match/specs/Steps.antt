@@ -3,6 +3,7 @@ use Rattle.std.specs.Prelude.{true}
 use Rattle.pattern_items.specs.declared.atom.Atom.{Atom}
 use Rattle.pattern_items.specs.declared.atom.Atom.TheVariants as atom
 use Rattle.vim_pattern.specs.Shape.{Shape, empty, one, seq, or, and, group, external, repeat, ahead, before, whole}
+use Rattle.pattern_match.specs.Fates.{choice}
 use Rattle.pattern_match.specs.declared.step.Step.{Step}
 use Rattle.pattern_match.specs.declared.step.Step.TheVariants as step
 use Rattle.pattern_match.specs.declared.step.Test.{Test}
@@ -30,6 +31,8 @@ shape_of step.Empty = empty
 shape_of (step.One t) = one (atom_of t)
 shape_of (step.Seq' p a q b) = seq (shape_of a) (shape_of b)
 shape_of (step.Or' p a q b) = or (shape_of a) (shape_of b)
+shape_of (step.Choice' p a q b) = choice (shape_of a) (shape_of b)
+shape_of (step.Optional' p a) = or (shape_of a) empty
 shape_of (step.And' p a q b) = and (shape_of a) (shape_of b)
 shape_of (step.Group' p a number) = group (shape_of a) number
 shape_of (step.External' p a number) = external (shape_of a) number

@@ -1,6 +1,6 @@
 //! What nodes come to, whatever the text is and wherever they are tried.
 ghost use Rattle.std.specs.Prelude.{◌≡◌};
-ghost use Rattle.pattern_match.specs.Fates.{behind, either, counted, looked, first_of};
+ghost use Rattle.pattern_match.specs.Fates.{behind, either, counted, looked, first_of, passes};
 
 /// What a node comes to, whatever the text is and wherever it is tried.
 #[derive(Clone, Copy)]
@@ -15,6 +15,18 @@ pub(crate) enum Fate {
     Opens,
     /// It may try an atom first.
     Tries,
+}
+
+impl Fate {
+    /// Whether no atom is tried, and there is a way.
+    pub(crate) fn passes(self) -> bool
+        ensures { result ≡ passes self }
+    {
+        match self {
+            Fate::Stays | Fate::Passes => true,
+            _ => false,
+        }
+    }
 }
 
 /// Of two parts, the one behind the other.

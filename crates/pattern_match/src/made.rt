@@ -3,6 +3,7 @@ ghost use Rattle.std.specs.Prelude.{◌≡◌};
 ghost use Rattle.std.specs.Coded.{Coded-set};
 ghost use Rattle.pattern_match.specs.Fates.{fate_of};
 ghost use Rattle.pattern_match.specs.Steps.{shape_of};
+ghost use Rattle.pattern_match.specs.Takes.{is_taking};
 
 use crate::fate::Fate;
 use crate::step::Step;
@@ -12,6 +13,9 @@ use crate::step::Step;
 pub(crate) struct Made {
     pub step: Step,
     pub fate: Fate,
+    /// Whether each way of it stands behind the place where it was tried.
+    pub takes: bool,
     ghost known: { fate ≡ fate_of (shape_of step) } by { Coded-set fate-code fate
         (fate_of (shape_of step)) },
+    ghost taking: { takes ≡ is_taking (shape_of step) },
 }

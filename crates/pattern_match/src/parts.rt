@@ -1,7 +1,7 @@
-//! Two parts: the one behind the other, or in its place.
+//! Two parts: the one behind the other, or in its place, and a part or nothing.
 ghost use Rattle.std.specs.Prelude.{◌≡◌, ◌≤◌, ◌∷◌, [], IfOk, IfSome};
 ghost use Rattle.vim_pattern.specs.GroupNumbers.{HasNumbers};
-ghost use Rattle.vim_pattern.specs.Shape.{seq, or};
+ghost use Rattle.vim_pattern.specs.Shape.{empty, seq, or};
 ghost use Rattle.match_rules.specs.Ways.{IsPlaceOf};
 ghost use Rattle.match_rules.specs.Marks.{Tick, followed};
 ghost use Rattle.match_rules.specs.Visits.{visits};
@@ -100,4 +100,33 @@ pub(crate) fn follow_either<'p, T: Lines>(
     }
     spent.tick(looked);
     Ok(Went::Does(Next::Visit(second)))
+}
+
+/// Follows a part, or else nothing. Where the first atom of the part doesn't fit, that is its one tick,
+/// and no way is put aside.
+pub(crate) fn follow_optional<'p, T: Lines>(
+    lines: &T,
+    context: &Context<'_>,
+    ways: &mut Ways<Task<'p>>,
+    part: &'p Step,
+    spent: &mut Spent,
+) -> Result<Went<'p>, Memory>
+    requires on_text { IsPlaceOf (T.lines lines.now) ways.old.here.way.at }
+    requires numbers { HasNumbers (shape_of part.now) }
+    requires within { spent.old.cost ≤ spent.old.budget }
+    ensures { let x = context_in (T.lines lines.now) context.now in
+        let node = or (shape_of part.now) empty in
+        IfOk result (IsStep x (height node)
+        (followed (visits x node ways.old.here.way) (marks_with x ways.old.here.todo)) ways.old
+        ways.new spent.old spent.new) }
+{
+    let Some(looked) = fails_at_once(lines, context, ways, part) else {
+        ways.put_aside()?;
+        return Ok(Went::Does(Next::Visit(part)));
+    };
+    if spent.cost >= spent.budget {
+        return Ok(Went::TooCostly);
+    }
+    spent.tick(looked);
+    Ok(Went::GoesOn)
 }

@@ -2,13 +2,17 @@
 //!
 //! What a node comes to is known before any attempt as far as no atom has a say. One that has no way
 //! becomes `Step::Never`, and one that has a single way, on which nothing changes, `Step::Empty`: a
-//! walk through their parts costs no tick, and so no budget would end it.
-ghost use Rattle.std.specs.Prelude.{◌≡◌, IfOk};
-ghost use Rattle.vim_pattern.specs.Shape.{bare, Shape, empty, one};
-ghost use Rattle.pattern_match.specs.Fates.{fate_of};
+//! walk through their parts costs no tick, and so no budget would end it. An optional turn of a part
+//! that always takes something is a choice between the part and nothing, so that nested ones leave
+//! nothing to be done behind them. A choice between parts that try no atom is known as such: where
+//! nothing has come of the one without a tick, nothing comes of the other.
+ghost use Rattle.std.specs.Prelude.{◌≡◌, true, false, Some, IfOk};
+ghost use Rattle.vim_pattern.specs.Shape.{bare, Shape, empty, one, or, repeat};
+ghost use Rattle.pattern_match.specs.Fates.{fate_of, passes};
 ghost use Rattle.pattern_match.specs.LastParts.{all_over, over, IsParted};
 ghost use Rattle.pattern_match.specs.StandsFor.{StandsFor};
 ghost use Rattle.pattern_match.specs.Steps.{atom_of, shape_of};
+ghost use Rattle.pattern_match.specs.Takes.{atom_takes, is_taking};
 
 use crate::collection::Collection;
 use crate::fate::{Fate, behind, counted, either, first_of, looked};
@@ -61,6 +65,20 @@ impl Above {
             Above::Whole => first_of(last),
         }
     }
+
+    /// Whether each way of the node of these parts stands behind the place where it was tried, by
+    /// whether those of its last child do.
+    fn takes_over(&self, last: bool) -> bool
+        ensures { (t : Shape) → last ≡ is_taking t → result ≡ is_taking (over self.now t) }
+    {
+        match self {
+            Above::Seq(first) => first.takes || last,
+            Above::Or(first) => first.takes && last,
+            Above::Repeat { least, most, .. } => is_forced(*least, *most) && last,
+            Above::Ahead { .. } | Above::Before { .. } => false,
+            Above::And(_) | Above::Group(_) | Above::External(_) | Above::Whole => last,
+        }
+    }
 }
 
 /// The node of these parts and this last child.
@@ -88,8 +106,9 @@ fn joined(alloc: Global, above: Above, step: Step) -> Result<Step, Memory>
 
 /// A node that comes to this, or a plainer one that stands for it.
 #[tactic(auto, using(crate::proofs::FateLaws::stands_never, crate::proofs::FateLaws::stands_stays, crate::proofs::StandsLaws::stands_itself))]
-fn settled(step: Step, fate: Fate) -> Made
-    requires { fate ≡ fate_of (shape_of step) }
+fn settled(step: Step, fate: Fate, takes: bool) -> Made
+    requires comes { fate ≡ fate_of (shape_of step) }
+    requires takes { takes ≡ is_taking (shape_of step) }
     ensures { StandsFor (shape_of result.step) (shape_of step) }
 {
     match fate {
@@ -98,6 +117,7 @@ fn settled(step: Step, fate: Fate) -> Made
             Made {
                 step: Step::Never,
                 fate,
+                takes: false,
             }
         }
         Fate::Stays => {
@@ -105,18 +125,57 @@ fn settled(step: Step, fate: Fate) -> Made
             Made {
                 step: Step::Empty,
                 fate,
+                takes: false,
             }
         }
-        Fate::Passes | Fate::Opens | Fate::Tries => Made { step, fate },
+        Fate::Passes | Fate::Opens | Fate::Tries => Made { step, fate, takes },
     }
+}
+
+/// An optional turn of a part that always takes something.
+fn optional(alloc: Global, part: Made) -> Result<Made, Memory>
+    requires { part.takes ≡ true }
+    ensures { IfOk result (λ m. StandsFor (shape_of m.step) (repeat (shape_of part.step) 0 (Some 1)
+        false)) }
+{
+    let fate = either(part.fate, Fate::Stays);
+    let step = Step::Optional(Box::new(alloc, part.step)?);
+    Ok(settled(step, fate, false))
+}
+
+/// A choice between two parts that pass.
+fn choice(alloc: Global, first: Made, second: Made) -> Result<Made, Memory>
+    requires first { passes first.fate ≡ true }
+    requires second { passes second.fate ≡ true }
+    ensures { IfOk result (λ m. StandsFor (shape_of m.step) (or (shape_of first.step)
+        (shape_of second.step))) }
+{
+    let fate = either(first.fate, second.fate);
+    let takes = first.takes && second.takes;
+    let second = Box::new(alloc, second.step)?;
+    let step = Step::Choice(Box::new(alloc, first.step)?, second);
+    Ok(Made { step, fate, takes })
 }
 
 /// The node of these parts and this last child, or a plainer one that stands for it.
 fn put_over(alloc: Global, above: Above, last: Made) -> Result<Made, Memory>
     ensures { IfOk result (λ m. StandsFor (shape_of m.step) (over above (shape_of last.step))) }
 {
-    let fate = above.fate_over(last.fate);
-    Ok(settled(joined(alloc, above, last.step)?, fate))
+    match above {
+        Above::Repeat {
+            least: 0,
+            most: Some(1),
+            lazy: false,
+        } if last.takes => optional(alloc, last),
+        Above::Or(first) if first.fate.passes() && last.fate.passes() => {
+            choice(alloc, first, last)
+        }
+        above => {
+            let fate = above.fate_over(last.fate);
+            let takes = above.takes_over(last.takes);
+            Ok(settled(joined(alloc, above, last.step)?, fate, takes))
+        }
+    }
 }
 
 /// The node of all these, the uppermost first, over this one.
@@ -149,6 +208,7 @@ fn ready_leaf(alloc: Global, atom: &Atom) -> Result<Made, Memory>
     Ok(Made {
         step: Step::One(ready_atom(alloc, atom)?),
         fate: Fate::Tries,
+        takes: always_takes(atom),
     })
 }
 
@@ -159,6 +219,7 @@ fn ready_empty() -> Made
     Made {
         step: Step::Empty,
         fate: Fate::Stays,
+        takes: false,
     }
 }
 
@@ -226,6 +287,16 @@ pub(crate) fn ready(alloc: Global, node: &Node) -> Result<Step, Memory>
     ensures { IfOk result (λ s. StandsFor (shape_of s) (bare node.now)) }
 {
     Ok(made(alloc, node)?.step)
+}
+
+/// Whether an atom takes a character or a line end wherever it fits.
+fn always_takes(atom: &Atom) -> bool
+    ensures { result ≡ atom_takes atom.now }
+{
+    match atom {
+        Atom::Char(_) | Atom::Any { .. } | Atom::Is { .. } | Atom::Set(_) | Atom::LineEnd => true,
+        _ => false,
+    }
 }
 
 /// The ready atom of an atom.

@@ -12,7 +12,7 @@ use char_class::{Sets, class_has};
 /// Whether one of the first atoms of a node fits what stands at a column, or they aren't all of
 /// characters. Only first branches are walked by a call of their own, and those nest no deeper than
 /// the levels of a pattern allow.
-#[tactic(auto, using(crate::proofs::ScreenLaws::or_passes))]
+#[tactic(auto, using(crate::proofs::ScreenLaws::or_passes, crate::proofs::ScreenLaws::choice_passes))]
 pub(crate) fn some_first_fits(step: &Step, sets: &Sets, ignore: bool, next: Option<char>) -> bool
     ensures { result ≡ first_passes sets.now ignore next (shape_of step.now) }
 {

@@ -1,5 +1,5 @@
 //! The search for the first way of a part of a pattern.
-ghost use Rattle.std.specs.Prelude.{◌≡◌, ◌≤◌, ◌<◌, ◌^◌, ◌-◌, IfOk, OnOk, List, ◌∷◌, [], drop, length, pos, ◌-ℤ◌};
+ghost use Rattle.std.specs.Prelude.{◌≡◌, ◌≤◌, ◌<◌, ◌^◌, ◌-◌, IfOk, IfSome, OnOk, List, ◌∷◌, [], drop, length, pos, ◌-ℤ◌};
 ghost use Rattle.syn_base.specs.Looked.{one_line};
 ghost use Rattle.vim_pattern.specs.GroupNumbers.{HasNumbers};
 ghost use Rattle.match_rules.specs.Ways.{IsPlaceOf};
@@ -11,17 +11,17 @@ ghost use Rattle.pattern_match.specs.Ways.{Thread};
 ghost use Rattle.pattern_match.specs.declared.task.Task.{Task as AnyTask};
 ghost use Rattle.pattern_match.specs.Heights.{height, height_of, IsNumbered};
 ghost use Rattle.pattern_match.specs.Spending.{looking_too};
-ghost use Rattle.pattern_match.specs.Search.{IsStep, marks_first, task_of, IsSearch, wanted_marks, is_wanted, going, behind_look, IsLed};
+ghost use Rattle.pattern_match.specs.Search.{IsStep, marks_first, task_of, IsSearch, going_again, IsChoice, wanted_marks, is_wanted, going, behind_look, IsLed};
 
 use crate::behind::Starts;
 use crate::context::Context;
 use crate::look::{Ending, Look};
-use crate::parts::{follow_both, follow_either};
+use crate::parts::{follow_both, follow_either, follow_optional};
 use crate::spent::Spent;
 use crate::step::Step;
 use crate::task::{Next, Task, Turns, Went};
 use crate::tick::tick;
-use crate::turns::{after_turn, count, turn};
+use crate::turns::{after_turn, count, put_aside_with, turn};
 use crate::ways::Ways;
 use pattern_items::Behind;
 use syn_base::{Lines, Looked, Memory, Place};
@@ -71,9 +71,18 @@ pub(crate) fn search<'p, T: Lines>(
     // The budget ends it long before; counted turns need no measure.
     for _ in 0..u64::MAX {
         went = match went {
-            Went::Does(next) => follow(lines, context, ways, next, spent)?,
+            Went::Does(next) => match choice_of(next) {
+                Some((first, second)) => {
+                    put_aside_again(ways, second, spent)?;
+                    Went::Does(Next::Visit(first))
+                }
+                None => follow(lines, context, ways, next, spent)?,
+            },
             Went::GoesOn => match ways.take_first() {
-                Some(item) => step(lines, context, ways, item, spent)?,
+                Some(item) => match item {
+                    Task::Again { second, cost } => again(second, cost, spent),
+                    item => step(lines, context, ways, item, spent)?,
+                },
                 None if is_wanted(wanted, ways.place()) => {
                     ways.forget_to(floor);
                     return Ok(Sought::Found);
@@ -91,6 +100,51 @@ pub(crate) fn search<'p, T: Lines>(
         };
     }
     Err(Memory)
+}
+
+/// The two parts of a choice, where that is what is done.
+fn choice_of<'p>(next: Next<'p>) -> Option<(&'p Step, &'p Step)>
+    ensures { IfSome result (λ parts. IsChoice next.entry parts.0 parts.1) }
+{
+    match next {
+        Next::Visit(Step::Choice(first, second)) => Some((first, second)),
+        _ => None,
+    }
+}
+
+/// Puts a copy of the present way aside, on which the second part of a choice is followed, if need be.
+fn put_aside_again<'p>(
+    ways: &mut Ways<Task<'p>>,
+    second: &'p Step,
+    spent: &Spent,
+) -> Result<(), Memory>
+    ensures { OnOk result (ways.new ≡ record ways.old {
+      pending = record ways.old.here {
+        todo = Task.Again second.entry spent.now.cost
+            ∷ ways.old.here.todo;
+      } ∷ ways.old.pending;
+    }) }
+{
+    put_aside_with(
+        ways,
+        Task::Again {
+            second,
+            cost: spent.cost,
+        },
+    )
+}
+
+/// Takes up a way with the second part of a choice. What is to be done behind the choice was done at
+/// its place behind the first part already. If that made no tick, nothing has come of it, and nothing
+/// will again.
+fn again<'p>(second: &'p Step, cost: u64, spent: &Spent) -> Went<'p>
+    ensures { result ≡ going_again second.entry cost spent.now.cost }
+{
+    if spent.cost == cost {
+        Went::Ends
+    } else {
+        Went::Does(Next::Visit(second))
+    }
 }
 
 /// Does one thing on the present way.
@@ -122,6 +176,7 @@ fn step<'p, T: Lines>(
             ways.note_external(number, from)?;
             Ok(Went::GoesOn)
         }
+        Task::Again { second, .. } => Ok(Went::Does(Next::Visit(second))),
     }
 }
 
@@ -168,6 +223,8 @@ fn visit<'p, T: Lines>(
         Step::One(test) => tick(lines, context, ways, test, spent),
         Step::Seq(a, b) => follow_both(lines, context, ways, a, b, spent),
         Step::Or(a, b) => follow_either(lines, context, ways, a, b, spent),
+        Step::Choice(a, b) => follow_either(lines, context, ways, a, b, spent),
+        Step::Optional(part) => follow_optional(lines, context, ways, part, spent),
         Step::And(a, b) => {
             ways.put_first(Task::Visit(b))?;
             Ok(Went::Does(Next::Look(Look::ahead(a, false))))

@@ -7,13 +7,17 @@ use crate::collection::Collection;
 use pattern_items::Behind;
 use syn_base::Class;
 
-/// A node, with the names of `vim_pattern::Node`, and one that never passes.
+/// A node, with the names of `vim_pattern::Node`, and plainer ones that stand for some of them.
 #[derive(Drop)]
 pub(crate) enum Step {
     Empty,
     One(Test),
     Seq(Box<Step>, Box<Step>),
     Or(Box<Step>, Box<Step>),
+    /// The one part or the other, where neither tries an atom, and each has a way.
+    Choice(Box<Step>, Box<Step>),
+    /// The part, or nothing.
+    Optional(Box<Step>),
     And(Box<Step>, Box<Step>),
     Group(Box<Step>, u8),
     External(Box<Step>, u8),

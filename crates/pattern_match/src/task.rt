@@ -22,6 +22,9 @@ pub(crate) enum Task<'p> {
     Close { number: u8, from: Place },
     /// To note where an external group matched.
     CloseExternal { number: u8, from: Place },
+    /// To follow the second part of a choice, if there was a tick since the first was begun, after so
+    /// many.
+    Again { second: &'p Step, cost: u64 },
 }
 
 /// The turns of a count that are left: how many are forced, and how many allowed.

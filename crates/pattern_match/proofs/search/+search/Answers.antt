@@ -14,11 +14,11 @@ use Rattle.pattern_match.specs.Ways.{Ways}
 use Rattle.pattern_match.specs.Machine.{part_marks}
 use Rattle.pattern_match.specs.Search.{IsSearch, HasEnded, wanted_marks, is_wanted, task_of}
 use Rattle.pattern_match.proofs.Leading.{led}
-use Rattle.pattern_match.proofs.Looping.{Running, stepped, at_once_done, taken, passed, one_pending, next_one, started}
+use Rattle.pattern_match.proofs.Looping.{Running, stepped, at_once_done, chosen, again_taken, taken, passed, one_pending, next_one, started}
 use Rattle.pattern_match.proofs.Visiting.{look_goes, look_over, part-kept, higher}
 use Rattle.pattern_match.proofs.LookingBehind.{behind_ended, behind_over, start_found, start_absent, start_over, start_marks, copy_dropped, starts_over}
 use Rattle.pattern_match.proofs.search.+search.Goals as goal
-use Rattle.pattern_match.proofs.search.+search.Goals.{follow_look-in-None+in_ok-sought-in-None, follow_look-in-Some+in_ok-sought-in-Some, follow_look-in-Found, follow_look-in-Absent, follow_look-in-TooCostly, search-in-Does+in_ok-went-in-Does, search-in-GoesOn+in-Some+in_ok-went-in-Some, search-in-GoesOn+in-None-2, search-in-Ends+else-pending-floor}
+use Rattle.pattern_match.proofs.search.+search.Goals.{follow_look-in-None+in_ok-sought-in-None, follow_look-in-Some+in_ok-sought-in-Some, follow_look-in-Found, follow_look-in-Absent, follow_look-in-TooCostly, search-in-Does+in-Some+in_ok-put_aside_again-in-Some, search-in-GoesOn+in-Some-take_first+in-Again, search-in-Does+in-None+in_ok-went-in-None, search-in-GoesOn+in-Some-take_first+in_default+in_ok-went-in_default, search-in-GoesOn+in-None-2, search-in-Ends+else-pending-floor}
 
 pub search-loop-init : goal.search-loop-init
 search-loop-init g t c =
@@ -165,28 +165,44 @@ search-loop-preserved g t c =
     let budget = c.args.spent.now.budget in
     let floor = c.args.ways.now.pending in
     elim c.match-went.branch [
-      | search-in-Does+in_ok-went-in-Does w ↦
+      | search-in-Does+in-Some+in_ok-put_aside_again-in-Some w ↦
+          (let r : Running x n c.args.wanted answer budget floor c.loop.ways c.loop.spent
+          (Does w.in-Does.next) = rw w.in-Does.is at c.loop.invariant in
+          rw (w.ways-is, w.spent-is, w.went-is)
+          (chosen x n c.args.wanted answer budget floor c.loop.ways c.loop.spent
+          w.put_aside_again.new.ways w.in-Does.next w.in-Some.first w.in-Some.second
+          w.in-Some.ensures r w.in_ok-put_aside_again-in-Some.ensures))
+      | search-in-GoesOn+in-Some-take_first+in-Again w ↦
+          (let r : Running x n c.args.wanted answer budget floor c.loop.ways c.loop.spent
+          GoesOn = rw w.in-GoesOn.is at c.loop.invariant in
+          let k = w.in-Some-take_first.ensures in
+          rw (w.ways-is, w.spent-is, w.went-is)
+          (again_taken x n c.args.wanted answer budget floor c.loop.ways c.loop.spent
+          w.take_first.new.self w.in-Again.second w.in-Again.cost r
+          (k.0 ∙ ap (λ i. i ∷ w.take_first.new.self.here.todo) w.in-Again.is) k.1 k.2
+          w.again.result w.again.ensures))
+      | search-in-Does+in-None+in_ok-went-in-None w ↦
           (let r : Running x n c.args.wanted answer budget floor c.loop.ways c.loop.spent
           (Does w.in-Does.next) = rw w.in-Does.is at c.loop.invariant in
           rw (w.ways-is, w.spent-is, w.went-is)
           (stepped x n c.args.wanted answer budget floor c.loop.ways c.loop.spent w.follow.new.ways
           w.follow.new.spent (task_of w.in-Does.next)
           (at_once_done x n c.args.wanted answer budget floor c.loop.ways c.loop.spent
-          w.in-Does.next r) w.in_ok-went-in-Does.went w.in_ok-went-in-Does.ensures))
-      | search-in-GoesOn+in-Some+in_ok-went-in-Some w ↦
+          w.in-Does.next r) w.in_ok-went-in-None.went w.in_ok-went-in-None.ensures))
+      | search-in-GoesOn+in-Some-take_first+in_default+in_ok-went-in_default w ↦
           (let r : Running x n c.args.wanted answer budget floor c.loop.ways c.loop.spent
           GoesOn = rw w.in-GoesOn.is at c.loop.invariant in
-          let k = w.in-Some.ensures in
+          let k = w.in-Some-take_first.ensures in
           rw (w.ways-is, w.spent-is, w.went-is)
           (stepped x n c.args.wanted answer budget floor w.take_first.new.self c.loop.spent
-          w.step.new.ways w.step.new.spent w.in-Some.item
+          w.step.new.ways w.step.new.spent w.in-Some-take_first.item
           (taken x n c.args.wanted answer budget floor c.loop.ways c.loop.spent
-          w.take_first.new.self w.in-Some.item r k.0 k.1 k.2) w.in_ok-went-in-Some.went
-          w.in_ok-went-in-Some.ensures))
+          w.take_first.new.self w.in-Some-take_first.item r k.0 k.1 k.2 w.in_default.not-Again)
+          w.in_ok-went-in_default.went w.in_ok-went-in_default.ensures))
       | search-in-GoesOn+in-None-2 w ↦
           (let r : Running x n c.args.wanted answer budget floor c.loop.ways c.loop.spent
           GoesOn = rw w.in-GoesOn.is at c.loop.invariant in
-          let k = w.in-None.ensures in
+          let k = w.in-None-take_first.ensures in
           let other : is_wanted c.args.wanted c.loop.ways.here.way.at ≡ false =
           rw (← k.1, ← w.place.ensures) (sym w.if-is_wanted.ensures) in
           rw (w.ways-is, w.spent-is, w.went-is, k.1)

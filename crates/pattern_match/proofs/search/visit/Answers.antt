@@ -1,11 +1,13 @@
-use Rattle.std.proofs.Common.{refl}
+use Rattle.std.proofs.Common.{◌≡◌, ◌∙◌, refl}
 use Rattle.std.specs.Prelude.{Some, None}
 use Rattle.std.proofs.lemmas.Result.{IfOk-weaker}
-use Rattle.vim_pattern.specs.Shape.{ahead, before, whole}
+use Rattle.vim_pattern.specs.Shape.{or, ahead, before, whole}
 use Rattle.match_rules.specs.Ways.{Context as AnyContext}
 use Rattle.pattern_match.specs.declared.look.Ending.TheVariants as ending
 use Rattle.pattern_match.specs.Contexts.{context_in}
+use Rattle.pattern_match.specs.Fates.{choice}
 use Rattle.pattern_match.specs.Steps.{shape_of, atom_of}
+use Rattle.pattern_match.proofs.FateLaws.{choice_is, choice_parts}
 use Rattle.pattern_match.proofs.Stepping.{atom_step}
 use Rattle.pattern_match.proofs.Visiting.{follow_empty, follow_group, follow_external, follow_repeat, follow_looks, follow_and, follow_never}
 use Rattle.pattern_match.proofs.search.visit.Goals as goal
@@ -32,6 +34,19 @@ returns-in-Seq g c =
 pub returns-in-Or : goal.returns-in-Or
 returns-in-Or g c =
     rw c.in-Or.is (rw (c.deref-in-Or-2.ensures, c.deref-in-Or.ensures) at c.follow_either.ensures)
+
+pub returns-in-Choice : goal.returns-in-Choice
+returns-in-Choice g c =
+    let a = shape_of c.deref-in-Choice.result.now in
+    let b = shape_of c.deref-in-Choice-2.result.now in
+    let k : shape_of c.args.node.now ≡ choice a b = rw (c.in-Choice.is, c.deref-in-Choice.ensures, c.deref-in-Choice-2.ensures) refl in
+    let parts = choice_parts a b (rw k at c.requires.numbers) in
+    let is : shape_of c.args.node.now ≡ or a b = k ∙ choice_is a b parts.0 parts.1 in
+    rw is c.follow_either-in-Choice.ensures
+
+pub returns-in-Optional : goal.returns-in-Optional
+returns-in-Optional g c =
+    rw c.in-Optional.is (rw c.deref-in-Optional.ensures at c.follow_optional.ensures)
 
 pub returns-in_ok-open_group-in-Group : goal.returns-in_ok-open_group-in-Group
 returns-in_ok-open_group-in-Group g c =
