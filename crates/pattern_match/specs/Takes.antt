@@ -5,7 +5,7 @@ use Rattle.pattern_items.specs.declared.atom.Atom.TheVariants.{Char, Any, Is, Se
 use Rattle.vim_pattern.specs.Shape.{Shape, one, seq, or, and, group, external, repeat, whole}
 use Rattle.pattern_match.specs.FirstAtom.{is_forced}
 
--- an atom is_taking a character or a line end; a reference may stand for an empty text
+-- an atom that takes a character or a line end; a reference may stand for an empty text
 abbrev pub atom_takes : Atom → Bool
 atom_takes (Char c) = true
 atom_takes (Any takes_end) = true
