@@ -35,7 +35,7 @@ fn one_less(most: Option<u32>) -> Option<u32>
 }
 
 /// How many turns are allowed, after some of them.
-fn less_by(most: Option<u32>, turns: u32) -> Option<u32>
+pub(crate) fn less_by(most: Option<u32>, turns: u32) -> Option<u32>
     ensures { result ≡ less_by most turns }
 {
     match most {
