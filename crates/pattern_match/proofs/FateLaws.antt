@@ -1,6 +1,6 @@
 -- A node comes to what its fate says.
 use Rattle.std.proofs.Common.{◌≡◌, ℕ, zero, suc, ◌+◌, Bool, true, false, List, [], ◌∷◌, ◌++◌, inl, inr, refl, sym, ap, ◌∙◌, arith, subst, append-nil, add-one}
-use Rattle.std.specs.Prelude.{Option, None, take, pos, ◌-ℤ◌, ◌&&◌, not, if◌then◌else◌}
+use Rattle.std.specs.Prelude.{Option, None, take, pos, ◌-ℤ◌, ◌&&◌, ◌||◌, not, if◌then◌else◌}
 use Rattle.std.proofs.lemmas.Bool.{cases_Bool, and_parts, and_from}
 use Rattle.std.proofs.lemmas.Bool.Decides.{nat_tests}
 use Rattle.syn_base.specs.declared.places.Place.{Place}
@@ -19,7 +19,7 @@ use Rattle.pattern_screens.specs.FirstAtoms.{both_lists, first_atoms}
 use Rattle.pattern_match.specs.FirstAtom.{first_atom, is_forced}
 use Rattle.pattern_match.specs.declared.fate.Fate.{Fate}
 use Rattle.pattern_match.specs.declared.fate.Fate.TheVariants.{Never, Stays, Passes, Opens, Tries}
-use Rattle.pattern_match.specs.Fates.{behind, either, counted, first_of, looked, fate_of, passes, choice}
+use Rattle.pattern_match.specs.Fates.{behind, either, stops_first, counted, first_of, looked, fate_of, passes, choice}
 use Rattle.pattern_match.specs.StandsFor.{StandsFor}
 use Rattle.pattern_match.specs.Starts.{places_before}
 use Rattle.pattern_match.proofs.FirstAtomLaws.{is_forced-more}
@@ -320,6 +320,15 @@ in_order-none : (lazy : Bool) (w : Way) (more : List Mark) → more ≡ [] →
 in_order-none true w more e = ap (λ m. Reach w ∷ m) e
 in_order-none false w more e = ap (λ m. m ++ Reach w ∷ []) e
 
+by-stop : (stops : Bool) (w : Way) (marks : List Mark) →
+    (stops ≡ true → IsOpening w.at marks) → ComesTo (counted Opens true stops) w marks
+by-stop true w marks h = h refl
+by-stop false w marks h = tt
+
+or-neither : (b : Bool) → (b || false) ≡ b
+or-neither true = refl
+or-neither false = refl
+
 module _ (text : Text) (part : Way → List Mark) (lazy : Bool) where
   -- where no turn takes anything, a count that isn't forced only stops
   unforced-stays : (most : Option ℕ) (w : Way) → AreAllAt w.at (part w) →
@@ -391,6 +400,13 @@ module _ (text : Text) (part : Way → List Mark) (lazy : Bool) where
   unforced-comes Opens least most w e k = opens-comes least most w e
   unforced-comes Tries least most w e k = tries-comes least most w e
 
+  spent-stays : (least : ℕ) (most : Option ℕ) (w : Way) → is_spent most ≡ true →
+      turns text part lazy least most w ≡ Reach w ∷ []
+  spent-stays zero most w e =
+      one-way (is_spent most) (Reach w ∷ []) _ (λ k. absurd (true_or_false (sym e ∙ k)))
+  spent-stays (suc least) most w e =
+      one-way (is_spent most) (Reach w ∷ []) _ (λ k. absurd (true_or_false (sym e ∙ k)))
+
   -- a forced turn that takes nothing is the last one
   module _ (least : ℕ) (most : Option ℕ) (w : Way) where
     abbrev after : Way → List Mark
@@ -405,8 +421,28 @@ module _ (text : Text) (part : Way → List Mark) (lazy : Bool) where
         other (is_after v.at w.at) _ _ (not_after v.at w.at e)
         ∙ unforced-stays (less_by most (suc least)) v h
 
+    -- a count that stops as soon as it may has a way behind it
+    stop-opens : (v : Way) → (lazy || is_spent (less_by most (suc least))) ≡ true →
+        IsOpening v.at (unforced text part lazy (less_by most (suc least)) v)
+    stop-opens v stops =
+        elim (cases_Bool lazy) [
+          | inl lazily ↦ lazy-opens zero (less_by most (suc least)) v refl lazily
+          | inr greedily ↦
+              let spent : is_spent (less_by most (suc least)) ≡ true = rw greedily at stops in
+              opening-one v (turns text part lazy zero (less_by most (suc least)) v)
+              (spent-stays zero (less_by most (suc least)) v spent)
+        ]
+
+    after-opens : (v : Way) → v.at ≡ w.at →
+        (lazy || is_spent (less_by most (suc least))) ≡ true → IsOpening w.at (after v)
+    after-opens v e stops =
+        subst (IsOpening w.at) (sym (other (is_after v.at w.at) _ _ (not_after v.at w.at e)))
+        (subst (λ p. IsOpening p (unforced text part lazy (less_by most (suc least)) v)) e
+        (stop-opens v stops))
+
     forced-comes : (f : Fate) → is_spent most ≡ false → ((v : Way) → ComesTo f v (part v)) →
-        ComesTo (counted f true lazy) w (turns text part lazy (suc least) most w)
+        ComesTo (counted f true (lazy || is_spent (less_by most (suc least)))) w
+        (turns text part lazy (suc least) most w)
     forced-comes Never unspent k =
         other (is_spent most) (Reach w ∷ []) (followed (part w) after) unspent
         ∙ ap (λ m. followed m after) (k w)
@@ -421,36 +457,41 @@ module _ (text : Text) (part : Way → List Mark) (lazy : Bool) where
         (followed-passing w.at (part w) after (k w)
         (λ v e. subst (λ p. IsPassing p (after v)) e
         (passing-one v (after v) (after-stays v e (all-of v.at (part v) (k v))))))
-    forced-comes Opens unspent k = tt
+    forced-comes Opens unspent k =
+        by-stop (lazy || is_spent (less_by most (suc least))) w _
+        (λ stops. subst (IsOpening w.at)
+        (sym (other (is_spent most) (Reach w ∷ []) (followed (part w) after) unspent))
+        (followed-opening w.at (part w) after (k w) (λ v e. after-opens v e stops)))
     forced-comes Tries unspent k = tt
-
-  spent-stays : (least : ℕ) (most : Option ℕ) (w : Way) → is_spent most ≡ true →
-      turns text part lazy least most w ≡ Reach w ∷ []
-  spent-stays zero most w e =
-      one-way (is_spent most) (Reach w ∷ []) _ (λ k. absurd (true_or_false (sym e ∙ k)))
-  spent-stays (suc least) most w e =
-      one-way (is_spent most) (Reach w ∷ []) _ (λ k. absurd (true_or_false (sym e ∙ k)))
 
   unspent-comes : (f : Fate) (least : ℕ) (most : Option ℕ) (w : Way) → is_spent most ≡ false →
       ((v : Way) → ComesTo f v (part v)) →
-      ComesTo (counted f (is_forced least most) lazy) w (turns text part lazy least most w)
-  unspent-comes f zero most w unspent k = unforced-comes f zero most w refl k
+      ComesTo (counted f (is_forced least most) (stops_first least most lazy)) w
+      (turns text part lazy least most w)
+  unspent-comes f zero most w unspent k =
+      subst (λ b. ComesTo (counted f false b) w (turns text part lazy zero most w))
+      (sym (or-neither lazy)) (unforced-comes f zero most w refl k)
   unspent-comes f (suc least) most w unspent k =
       let e : is_forced (suc least) most ≡ true = is_forced-more least most false unspent in
-      subst (λ b. ComesTo (counted f b lazy) w (turns text part lazy (suc least) most w)) (sym e)
+      subst (λ b. ComesTo
+      (counted f b (lazy || (b && is_spent (less_by most (suc least))))) w
+      (turns text part lazy (suc least) most w)) (sym e)
       (forced-comes least most w f unspent k)
 
   counted-comes : (f : Fate) (least : ℕ) (most : Option ℕ) (w : Way) →
       ((v : Way) → ComesTo f v (part v)) →
-      ComesTo (if is_spent most then Stays else counted f (is_forced least most) lazy) w
+      ComesTo (if is_spent most then Stays
+      else counted f (is_forced least most) (stops_first least most lazy)) w
       (turns text part lazy least most w)
   counted-comes f least most w k =
       elim (cases_Bool (is_spent most)) [
         | inl spent ↦
-            subst (λ b. ComesTo (if b then Stays else counted f (is_forced least most) lazy) w
+            subst (λ b. ComesTo (if b then Stays
+            else counted f (is_forced least most) (stops_first least most lazy)) w
             (turns text part lazy least most w)) (sym spent) (spent-stays least most w spent)
         | inr unspent ↦
-            subst (λ b. ComesTo (if b then Stays else counted f (is_forced least most) lazy) w
+            subst (λ b. ComesTo (if b then Stays
+            else counted f (is_forced least most) (stops_first least most lazy)) w
             (turns text part lazy least most w)) (sym unspent)
             (unspent-comes f least most w unspent k)
       ]
@@ -533,7 +574,7 @@ no-first (group part number) h = no-first part (behind-settled (fate_of part) Pa
 no-first (external part number) h = no-first part (behind-settled (fate_of part) Passes h)
 no-first (repeat part least most lazy) h =
     none-if (first_atoms part) (is_forced least most)
-    (λ forced. no-first part (forced-settled (is_spent most) (is_forced least most) lazy (fate_of part) (unspent _ _ forced) forced h))
+    (λ forced. no-first part (forced-settled (is_spent most) (is_forced least most) (stops_first least most lazy) (fate_of part) (unspent _ _ forced) forced h))
 no-first (ahead part negative) h = refl
 no-first (before part negative limit) h = refl
 no-first (whole part) h = refl

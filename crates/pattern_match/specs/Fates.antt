@@ -1,8 +1,8 @@
 -- What a node comes to, whatever the text is and wherever it is tried. Atoms alone move a way or ask
 -- the text, so what happens before the first of them is settled when the pattern is made ready.
-use Rattle.std.specs.Prelude.{Bool, true, false, ◌&&◌, if◌then◌else◌}
+use Rattle.std.specs.Prelude.{ℕ, Bool, true, false, ◌&&◌, ◌||◌, Option, if◌then◌else◌}
 use Rattle.vim_pattern.specs.Shape.{Shape, empty, one, seq, or, and, group, external, repeat, ahead, before, whole}
-use Rattle.match_rules.specs.Counts.{is_spent}
+use Rattle.match_rules.specs.Counts.{is_spent, less_by}
 use Rattle.pattern_match.specs.FirstAtom.{is_forced}
 use Rattle.pattern_match.specs.declared.fate.Fate.{Fate}
 use Rattle.pattern_match.specs.declared.fate.Fate.TheVariants.{Never, Stays, Passes, Opens, Tries}
@@ -29,15 +29,19 @@ either first Opens = Opens
 either first Never = first
 either first second = Passes
 
--- a count that may take a turn, and has to or not: a turn that takes nothing is none, and a lazy
--- count stops first
-abbrev pub counted : Fate → (forced lazy : Bool) → Fate
+-- a count stops as soon as it may: a lazy one, and one that may take no turns but those that are forced
+abbrev pub stops_first : ℕ → Option ℕ → Bool → Bool
+stops_first least most lazy = lazy || (is_forced least most && is_spent (less_by most least))
+
+-- a count that may take a turn, and has to or not, and stops as soon as it may or not: a turn that takes
+-- nothing is none, and stands for all that are forced
+abbrev pub counted : Fate → (forced stops : Bool) → Fate
 counted Tries false true = Opens
-counted Tries forced lazy = Tries
-counted Opens false true = Opens
-counted Opens forced lazy = Tries
-counted part true lazy = part
-counted part false lazy = Stays
+counted Tries forced stops = Tries
+counted Opens forced true = Opens
+counted Opens forced stops = Tries
+counted part true stops = part
+counted part false stops = Stays
 
 -- the first way of a part alone
 abbrev pub first_of : Fate → Fate
@@ -60,7 +64,8 @@ fate_of (and a b) = behind (looked (fate_of a) false) (fate_of b)
 fate_of (group part number) = behind (fate_of part) Passes
 fate_of (external part number) = behind (fate_of part) Passes
 fate_of (repeat part least most lazy) =
-    if is_spent most then Stays else counted (fate_of part) (is_forced least most) lazy
+    if is_spent most then Stays
+    else counted (fate_of part) (is_forced least most) (stops_first least most lazy)
 fate_of (ahead part negative) = looked (fate_of part) negative
 fate_of (before part negative limit) = looked (fate_of part) negative
 fate_of (whole part) = first_of (fate_of part)

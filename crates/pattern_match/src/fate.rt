@@ -56,13 +56,14 @@ pub(crate) fn either(first: Fate, second: Fate) -> Fate
     }
 }
 
-/// Of a count that may take a turn, and has to or not. A turn that takes nothing is none, so where
-/// none is forced, a part without atoms leaves the stop alone.
-pub(crate) fn counted(part: Fate, forced: bool, lazy: bool) -> Fate
-    ensures { result ≡ counted part forced lazy }
+/// Of a count that may take a turn, and has to or not, and stops as soon as it may or not. A turn that
+/// takes nothing is none, so where none is forced, a part without atoms leaves the stop alone.
+pub(crate) fn counted(part: Fate, forced: bool, stops: bool) -> Fate
+    ensures { result ≡ counted part forced stops }
 {
     match part {
-        Fate::Opens | Fate::Tries if !forced && lazy => Fate::Opens,
+        Fate::Opens if stops => Fate::Opens,
+        Fate::Tries if !forced && stops => Fate::Opens,
         Fate::Opens | Fate::Tries => Fate::Tries,
         _ if forced => part,
         _ => Fate::Stays,

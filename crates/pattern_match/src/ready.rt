@@ -17,7 +17,7 @@ ghost use Rattle.pattern_match.specs.Takes.{atom_takes, is_taking};
 use crate::collection::Collection;
 use crate::fate::{Fate, behind, counted, either, first_of, looked};
 use crate::made::Made;
-use crate::step::{Step, Test, is_forced};
+use crate::step::{Step, Test, is_forced, stops_first};
 use crate::turns::is_spent;
 use pattern_items::{Atom, Behind};
 use std::alloc::Global;
@@ -59,7 +59,8 @@ impl Above {
             Above::Group(_) | Above::External(_) => behind(last, Fate::Passes),
             Above::Repeat { most, .. } if is_spent(*most) => Fate::Stays,
             Above::Repeat { least, most, lazy } => {
-                counted(last, is_forced(*least, *most), *lazy)
+                let stops = stops_first(*least, *most, *lazy);
+                counted(last, is_forced(*least, *most), stops)
             }
             Above::Ahead { not } | Above::Before { not, .. } => looked(last, *not),
             Above::Whole => first_of(last),

@@ -176,6 +176,7 @@ fn step<'p, T: Lines>(
             ways.note_external(number, from)?;
             Ok(Went::GoesOn)
         }
+        // The search sees to it itself.
         Task::Again { second, .. } => Ok(Went::Does(Next::Visit(second))),
     }
 }
@@ -223,6 +224,7 @@ fn visit<'p, T: Lines>(
         Step::One(test) => tick(lines, context, ways, test, spent),
         Step::Seq(a, b) => follow_both(lines, context, ways, a, b, spent),
         Step::Or(a, b) => follow_either(lines, context, ways, a, b, spent),
+        // The search sees to it itself, and drops what comes to nothing.
         Step::Choice(a, b) => follow_either(lines, context, ways, a, b, spent),
         Step::Optional(part) => follow_optional(lines, context, ways, part, spent),
         Step::And(a, b) => {

@@ -1,9 +1,12 @@
 //! Nodes and atoms of a pattern, made ready for the matcher.
 ghost use Rattle.std.specs.Prelude.{◌≡◌, MatchOption, None, Some};
+ghost use Rattle.pattern_match.specs.Fates.{stops_first};
 ghost use Rattle.pattern_match.specs.FirstAtom.{first_atom, is_forced};
 ghost use Rattle.pattern_match.specs.Steps.{atom_of, shape_of};
 
 use crate::collection::Collection;
+use crate::runs::less_by;
+use crate::turns::is_spent;
 use pattern_items::Behind;
 use syn_base::Class;
 
@@ -104,4 +107,12 @@ pub(crate) fn is_forced(least: u32, most: Option<u32>) -> bool
         Some(most) => least > 0 && most > 0,
         None => least > 0,
     }
+}
+
+/// Whether a count stops as soon as it may: a lazy one, and one that may take no turns but those that it
+/// has to take.
+pub(crate) fn stops_first(least: u32, most: Option<u32>, lazy: bool) -> bool
+    ensures { result ≡ stops_first least most lazy }
+{
+    lazy || (is_forced(least, most) && is_spent(less_by(most, least as usize)))
 }
