@@ -125,16 +125,17 @@ module _ (x : Context) (t : Turns) (old : Ways Task) (earlier : Spent) (most : O
       let plain = run.plain some in
       let cost = times-cost spent (suc n) (own_line ways.here.way) in
       let budget = times-budget spent (suc n) (own_line ways.here.way) in
-      let within = run.within in
-      (
+      let within = run.within in (
         columns_on at (suc n),
-        (record {
-          place_is = run-fits x a at count n run h ways.here.way;
-          ways = ap (λ w. record (stopped n) { here = record (further ways.here n) { way = w } }) (sym (plain-moves (further ways.here n).way (columns_on at (suc n)) a plain));
-          spent = ap (λ l. spent_on (spent_so n) (Tick l ∷ [])) (sym (plain-looks x (further ways.here n).way a plain));
-          within = omega arith;
-        },
-        record { line = c.on_text.line; col = omega arith }),
+        (
+          record {
+            place_is = run-fits x a at count n run h ways.here.way;
+            ways = ap (λ w. record (stopped n) { here = record (further ways.here n) { way = w } }) (sym (plain-moves (further ways.here n).way (columns_on at (suc n)) a plain));
+            spent = ap (λ l. spent_on (spent_so n) (Tick l ∷ [])) (sym (plain-looks x (further ways.here n).way a plain));
+            within = omega arith;
+          },
+          record { line = c.on_text.line; col = omega arith },
+        ),
       )
 
   counted-so : (n : ℕ) → n ≤ count → IsCounting x t old earlier (less_by most n) (run_aside ways n) (spent_so n)

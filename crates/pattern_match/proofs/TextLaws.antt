@@ -75,7 +75,6 @@ behind_characters x (c ∷ text) p exact =
           ∙ sym (ap (λ rest. only_if (begins rest (c ∷ text)) (columns_on p (length (c ∷ text)))) is.2)
     ]
 
-
 -- ---- what is answered of it
 
 hull-same : (l : ℤ) → one_line l ≡ hull_of (one_line l) (one_line l)
