@@ -1,4 +1,4 @@
-use Rattle.std.proofs.Common.{◌<◌, ◌+◌, ◌-◌, ◌≡◌, ℕ, inl, inr, subst, arith, get_or, length, reverse}
+use Rattle.std.proofs.Common.{◌<◌, ◌+◌, ◌-◌, ◌≡◌, inl, inr, subst, arith, get_or, length, reverse}
 use Rattle.std.proofs.lemmas.Bool.{cases_lt}
 use Rattle.paint_rules.specs.Rules.{place_at}
 use Rattle.item_pick.specs.Quiet.{IsPassed, item_numbered}
