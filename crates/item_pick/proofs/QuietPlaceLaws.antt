@@ -61,7 +61,7 @@ none_starts r t p floor k =
 
 -- nothing starts where no word begins and no item of the choice is left
 pub row_empty : (r : Rules) (t : Text) (p : Place) (floor : ℕ) (k : Looked) (choice : Choice) →
-    begins_word r.sets.keyword (line_at t p.line) p.col ≡ false → IsNextAt r t p floor k choice (length r.items) 0 → IsQuietAt r t choice floor k p
+    begins_word r.sets.keyword (line_at t p.line) p.col ≡ false → IsNextAt r t p floor k [] choice (length r.items) 0 → IsQuietAt r t choice floor k p
 row_empty r t p floor k choice word next =
     quiet_by r t p floor k choice (no_keyword r (is_free r [] choice) (line_at t p.line) p.col word)
     (next_items r t p floor [] choice k (length r.items) 0 next)

@@ -1,8 +1,10 @@
 -- What is kept says of an item, and what that means for picking.
-use Rattle.std.proofs.Common.{◌≡◌, ◌∙◌, refl, sym, ap, subst, arith, ℕ, zero, suc, ◌+◌, ◌-◌, ◌<◌, ◌≤◌, ◌⊎◌, inl, inr, Bool, true, false, List, [], ◌∷◌, length, get_or}
+use Rattle.std.proofs.Common.{◌≡◌, ◌∙◌, refl, sym, ap, subst, arith, ℕ, zero, suc, ◌+◌, ◌-◌, ◌<◌, ◌≤◌, ◌⊎◌, inl, inr, Bool, true, false, List, [], ◌∷◌, ◌++◌, length, get_or}
 use Rattle.std.specs.Prelude.{IfSome, IsTrue, slice_get, Result, Ok, Err, IfOk, Option, Some, None, not, slice_index, ◌&&◌, ◌||◌, nat_lt, nat_eq, is_none, pos, ◌+ℤ◌}
 use Rattle.std.specs.List.{All, list_any}
 use Rattle.std.proofs.lemmas.Bool.{cases_lt}
+use Rattle.std.proofs.lemmas.List.Elements.{All-append, All-cons, All-nil}
+use Rattle.std.proofs.lemmas.List.Sorted.{IsNonDecreasingBy-push}
 use Rattle.std.proofs.lemmas.Bool.Decides.{nat_tests}
 use Rattle.syn_base.specs.declared.looked.Looked.{Looked}
 use Rattle.syn_base.specs.Looked.{hull_of}
@@ -30,12 +32,12 @@ use Rattle.item_pick.specs.declared.runs.Run.{Run}
 use Rattle.item_pick.specs.declared.runs.Search.{Search}
 use Rattle.item_pick.specs.Attempts.{IsFutile}
 use Rattle.item_pick.specs.Columns.{may_start_at}
-use Rattle.item_pick.specs.Quiet.{IsEarlier, IsNextItem, IsQuiet, item_numbered}
+use Rattle.item_pick.specs.Quiet.{IsEarlier, IsNextItem, IsPassed, IsQuiet, item_numbered}
 use Rattle.item_pick.specs.Runs.{Covers, TellsOf}
 use Rattle.item_pick.specs.Screens.{HoldsLine, HoldsLines, IsIdle, IsLater, IsSettled}
 use Rattle.item_pick.specs.Standing.{first_pattern, has_one_start, IsFirst, IsPatternOf}
 use Rattle.item_pick.specs.Started.{admits, is_free}
-use Rattle.item_pick.specs.Tables.{fails, is_vain, passes, AnchorStands, IsAnchored, IsEnough, IsMissed, IsNextAt, IsNextIn, IsNumberAt, IsVainAt, Lacks, ListStands, MemoryStands, RunStands, StaysOut, TablesStand, VainStands}
+use Rattle.item_pick.specs.Tables.{fails, is_vain, passes, AnchorStands, IsAnchored, IsEnough, IsMissed, IsNextAt, IsNextIn, IsNumberAt, IsVainAt, Lacks, ListStands, MemoryStands, RisesTo, RunStands, StaysOut, TablesStand, VainStands}
 use Rattle.item_pick.proofs.MatchLaws.{no_start}
 use Rattle.item_pick.proofs.QuietLaws.{earlier}
 use Rattle.item_pick.proofs.ScreenLaws.{each_held, futile_idle}
@@ -86,13 +88,13 @@ module _ (r : Rules) (law : IsLaw r) (t : Text) (p : Place) (number : ℕ) (is :
 
 -- what a row leaves, of the admitted items
 pub next_at : (r : Rules) → IsLaw r → (t : Text) (p : Place) (number floor : ℕ) (k : Looked) → HoldsLine k p.line → IsNumberAt r (line_at t p.line) p.col number →
-    (choice : Choice) (list : List ℕ) → ListStands r choice number list →
-    (left next : ℕ) → left ≤ length r.items → IsNextIn r t p floor k list left next → IsNextAt r t p floor k choice left next
-next_at r law t p number floor k held key choice list stands left next within h = (
+    (tried : List ItemId) (choice : Choice) (list : List ℕ) → ListStands r choice number list →
+    (left next : ℕ) → left ≤ length r.items → IsNextIn r t p floor k tried list left next → IsNextAt r t p floor k tried choice left next
+next_at r law t p number floor k held key tried choice list stands left next within h = (
   h.0,
   λ j a b admitted. elim (h.1 j a b) [
-    | inl lacks ↦ stays_quiet r law t p number key.1 (item_numbered j) (stands j (omega (arith, b, within)) admitted lacks) floor k held
-    | inr quiet ↦ quiet
+    | inl lacks ↦ inr (stays_quiet r law t p number key.1 (item_numbered j) (stands j (omega (arith, b, within)) admitted lacks) floor k held)
+    | inr passed ↦ passed
   ],
 )
 
@@ -100,22 +102,29 @@ pub not_free : (tried admitted : Bool) → admitted ≡ false → (not tried && 
 not_free true admitted e = refl
 not_free false admitted e = e
 
+not_again : (tried admitted : Bool) → tried ≡ true → (not tried && admitted) ≡ false
+not_again true admitted e = refl
+not_again false admitted e = absurd (cc)
+
 passed_by : (r : Rules) (t : Text) (p : Place) (floor : ℕ) (k : Looked) (tried : List ItemId) (choice : Choice) (i : ItemId) →
-    (b : Bool) → admits r choice i ≡ b → (admits r choice i ≡ true → IsQuiet r t p floor k i) →
+    (b : Bool) → admits r choice i ≡ b → (admits r choice i ≡ true → IsPassed r t p floor k tried i) →
     (is_free r tried choice i ≡ false) ⊎ IsQuiet r t p floor k i
-passed_by r t p floor k tried choice i true e quiet = inr (quiet e)
-passed_by r t p floor k tried choice i false e quiet = inl (not_free (list_any (same_item i) tried) (admits r choice i) e)
+passed_by r t p floor k tried choice i true e passed = elim (passed e) [
+  | inl again ↦ inl (not_again (list_any (same_item i) tried) (admits r choice i) again)
+  | inr quiet ↦ inr quiet
+]
+passed_by r t p floor k tried choice i false e passed = inl (not_free (list_any (same_item i) tried) (admits r choice i) e)
 
 -- what is left of the admitted items is what is left to try
 pub next_items : (r : Rules) (t : Text) (p : Place) (floor : ℕ) (tried : List ItemId) (choice : Choice) (k : Looked) (left next : ℕ) →
-    IsNextAt r t p floor k choice left next → IsNextItem r t p floor tried choice k left next
+    IsNextAt r t p floor k tried choice left next → IsNextItem r t p floor tried choice k left next
 next_items r t p floor tried choice k left next h = (
   h.0,
   λ j a b. passed_by r t p floor k tried choice (item_numbered j) (admits r choice (item_numbered j)) refl (h.1 j a b),
 )
 
 pub next_ok : (r : Rules) (t : Text) (p : Place) (floor : ℕ) (tried : List ItemId) (choice : Choice) (k : Looked) (left : ℕ) (result : Result ℕ Memory) →
-    IfOk result (IsNextAt r t p floor k choice left) → IfOk result (IsEarlier r t p floor tried choice k left)
+    IfOk result (IsNextAt r t p floor k tried choice left) → IfOk result (IsEarlier r t p floor tried choice k left)
 next_ok r t p floor tried choice k left (Ok next) h = earlier r t p floor tried choice k left next (next_items r t p floor tried choice k left next h)
 next_ok r t p floor tried choice k left (Err memory) h = tt
 
@@ -260,6 +269,47 @@ has_or_lacks (x ∷ xs) j = elim (nat_eq x j) as (λ b. nat_eq x j ≡ b → Lac
     | inr has ↦ inr (suc has.0, omega (arith, has.1), has.2)
   ]
 ] refl
+
+-- ---- lists that rise
+
+pub none_rises : (n : ℕ) → RisesTo n []
+none_rises n = record {
+  rises = λ i j d h g. absurd (omega (arith, g));
+  within = λ k d h. absurd (omega (arith, h));
+}
+
+pub rises_on : (m n : ℕ) (list : List ℕ) → m ≤ n → RisesTo m list → RisesTo n list
+rises_on m n list more h = record {
+  rises = h.rises;
+  within = λ k d g. omega (arith, more, h.within k d g);
+}
+
+pub rises_by : (n : ℕ) (list more : List ℕ) → more ≡ list ++ n ∷ [] → RisesTo n list → RisesTo n more
+rises_by n list more e h = subst (RisesTo n) (sym e) (record {
+  rises = IsNonDecreasingBy-push (λ x. x) list n h.rises (λ d some. h.within (length list - 1) d (omega (arith, some)));
+  within = All-append (λ x. x ≤ n) list (n ∷ []) h.within (All-cons (λ x. x ≤ n) n [] (omega arith) (All-nil (λ x. x ≤ n)));
+})
+
+pub is_below : (a b : ℕ) → nat_lt a b ≡ true → a < b
+is_below a b e = grind (arith, nat_tests)
+
+pub isnt_below : (a b : ℕ) → nat_lt a b ≡ false → b ≤ a
+isnt_below a b e = grind (arith, nat_tests)
+
+-- what holds of the items of a list from a place on, up to where they aren't below `left` any more,
+-- holds of all numbers from `next` on that the list has, where those before are below `next`
+pub next_in : (P : ℕ → Type 0) (list : List ℕ) (left next count : ℕ) → ((k : ℕ) → k < count → get_or list k 0 < next) →
+    ((k : ℕ) → count ≤ k → k < length list → (left ≤ get_or list k 0) ⊎ P (get_or list k 0)) → (j : ℕ) → next ≤ j → j < left → Lacks list j ⊎ P j
+next_in P list left next count before passed j a b = elim (has_or_lacks list j) [
+  | inl lacks ↦ inl lacks
+  | inr has ↦ elim (cases_lt has.0 count) [
+    | inl early ↦ absurd (omega (arith, before has.0 early, has.2, a))
+    | inr behind ↦ elim (passed has.0 behind has.1) [
+      | inl above ↦ absurd (omega (arith, above, has.2, b))
+      | inr holds ↦ inr (subst P has.2 holds)
+    ]
+  ]
+]
 
 no_key : (r : Rules) (choice : Choice) (all : List ℕ) (i : ItemId) → StaysOut r 777 i → (pattern : Pattern) → IsPatternOf (item_of r.items i).kind pattern → ⊥
 no_key r choice all i out pattern its =

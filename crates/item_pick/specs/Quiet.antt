@@ -1,11 +1,12 @@
 -- Items that can't start at a place.
-use Rattle.std.specs.Prelude.{◌≡◌, ◌<◌, ◌≤◌, ◌-◌, ◌⊎◌, ℕ, false, List, length}
+use Rattle.std.specs.Prelude.{◌≡◌, ◌<◌, ◌≤◌, ◌-◌, ◌⊎◌, ℕ, true, false, List, length}
+use Rattle.std.specs.List.{list_any}
 use Rattle.syn_base.specs.declared.looked.Looked.{Looked}
 use Rattle.syn_base.specs.declared.places.Place.{Place}
 use Rattle.syn_base.specs.declared.places.ItemId.{ItemId}
 use Rattle.match_rules.specs.Ways.{Text, line_at}
 use Rattle.syntax_set.specs.declared.item.Pattern.{Pattern}
-use Rattle.paint_rules.specs.Rules.{Rules, item_of}
+use Rattle.paint_rules.specs.Rules.{Rules, item_of, same_item}
 use Rattle.paint_rules.specs.ItemMatch.{match_from}
 use Rattle.item_pick.specs.declared.choice.Choice.{Choice}
 use Rattle.item_pick.specs.Screens.{IsIdle}
@@ -19,6 +20,11 @@ IsQuiet r t p floor k i =
     (pattern : Pattern) → IsPatternOf (item_of r.items i).kind pattern →
     (c : ℕ) → floor - pattern.lc ≤ c → c ≤ length (line_at t p.line) →
     IsIdle (match_from r t i pattern p) k c
+
+-- it has started there, or it doesn't
+abbrev pub IsPassed : Rules → Text → Place → ℕ → Looked → List ItemId → ItemId → Type 0
+IsPassed r t p floor k tried i =
+    (list_any (same_item i) tried ≡ true) ⊎ IsQuiet r t p floor k i
 
 abbrev pub item_numbered : ℕ → ItemId
 item_numbered n = record { 0 = n }

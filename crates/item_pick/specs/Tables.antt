@@ -1,6 +1,7 @@
 -- Which items of a choice may start at a column, by the key of the column.
 use Rattle.std.specs.Prelude.{◌≡◌, ◌<◌, ◌≤◌, ◌+◌, ◌-◌, ◌⊎◌, ℕ, Bool, true, not, ◌&&◌, false, nat_lt, is_none, List, length, slice_index, IfSome}
 use Rattle.std.specs.List.{All}
+use Rattle.std.specs.List.Sorted.{IsNonDecreasing}
 use Rattle.char_class.specs.declared.sets.Sets.{Sets}
 use Rattle.vim_pattern.specs.Tree.{PatternTree}
 use Rattle.syn_base.specs.declared.looked.Looked.{Looked}
@@ -19,7 +20,7 @@ use Rattle.item_pick.specs.declared.memory.PickMemory.{PickMemory}
 use Rattle.item_pick.specs.declared.runs.Run.{Run}
 use Rattle.item_pick.specs.declared.vains.Vain.{Vain}
 use Rattle.item_pick.specs.declared.tables.Row.{Row}
-use Rattle.item_pick.specs.Quiet.{item_numbered, IsQuiet}
+use Rattle.item_pick.specs.Quiet.{item_numbered, IsPassed}
 use Rattle.item_pick.specs.Screens.{IsSettled}
 use Rattle.item_pick.specs.Standing.{IsFirst, IsPatternOf}
 use Rattle.item_pick.specs.Started.{admits}
@@ -56,21 +57,27 @@ ListStands r choice number list =
     (j : ℕ) → j < length r.items → admits r choice (item_numbered j) ≡ true → Lacks list j →
     StaysOut r number (item_numbered j)
 
--- the admitted items from one on, below another, can't start at a place
-abbrev pub IsNextAt : Rules → Text → Place → ℕ → Looked → Choice → ℕ → ℕ → Type 0
-IsNextAt r t p floor k choice left next =
+-- the admitted items from one on, below another, have started at a place, or can't start there
+abbrev pub IsNextAt : Rules → Text → Place → ℕ → Looked → List ItemId → Choice → ℕ → ℕ → Type 0
+IsNextAt r t p floor k tried choice left next =
     (next ≤ left) ×
     ((j : ℕ) → next ≤ j → j < left → admits r choice (item_numbered j) ≡ true →
-    IsQuiet r t p floor k (item_numbered j))
+    IsPassed r t p floor k tried (item_numbered j))
 
--- those that a list has not, or that can't start at a place
-abbrev pub IsNextIn : Rules → Text → Place → ℕ → Looked → List ℕ → ℕ → ℕ → Type 0
-IsNextIn r t p floor k list left next =
+-- those that a list has not, that have started at a place, or that can't start there
+abbrev pub IsNextIn : Rules → Text → Place → ℕ → Looked → List ItemId → List ℕ → ℕ → ℕ → Type 0
+IsNextIn r t p floor k tried list left next =
     (next ≤ left) ×
-    ((j : ℕ) → next ≤ j → j < left → Lacks list j ⊎ IsQuiet r t p floor k (item_numbered j))
+    ((j : ℕ) → next ≤ j → j < left → Lacks list j ⊎ IsPassed r t p floor k tried (item_numbered j))
 
-abbrev pub RowStands : Rules → Row → Type 0
-RowStands r row = ListStands r row.choice row.number row.items.items
+-- the numbers rise, and none is above this one
+pub record RisesTo (n : ℕ) (list : List ℕ) : Type 0 where
+  pub rises : IsNonDecreasing list
+  pub within : All (λ x. x ≤ n) list
+
+pub record RowStands (r : Rules) (row : Row) : Type 0 where
+  pub lists : ListStands r row.choice row.number row.items.items
+  pub rises : IsNonDecreasing row.items.items
 
 -- an attempt by a pattern has no way at a column whose key has a number
 abbrev pub is_vain : Sets → ℕ → Bool → ℕ → Pattern → Bool

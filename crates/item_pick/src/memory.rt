@@ -1,10 +1,11 @@
 //! What is kept of a syntax: which items may start by what stands at a column.
-ghost use Rattle.std.specs.Prelude.{◌≡◌, ◌<◌, ◌≤◌, ◌+◌, ◌⊎◌, ◌^◌, ℕ, List, length, reverse, IfOk, IfSome, IsTrue};
+ghost use Rattle.std.specs.Prelude.{◌≡◌, ◌<◌, ◌≤◌, ◌+◌, ◌^◌, ℕ, List, length, reverse, get_or, nat_lt, IfOk, IfSome, IsTrue};
+ghost use Rattle.std.specs.List.Sorted.{IsNonDecreasing};
 ghost use Rattle.match_rules.specs.Ways.{Text, line_at};
 ghost use Rattle.paint_rules.specs.Rules.{Rules, item_of, place_at};
 ghost use Rattle.pattern_screens.specs.Keys.{AreNumbers};
 ghost use Rattle.item_pick.specs.PartsSeen.{rules_in};
-ghost use Rattle.item_pick.specs.Quiet.{IsQuiet, item_numbered};
+ghost use Rattle.item_pick.specs.Quiet.{IsPassed, IsQuiet, item_numbered};
 ghost use Rattle.item_pick.specs.Runs.{TellsOf};
 ghost use Rattle.item_pick.specs.Screens.{HoldsLine};
 ghost use Rattle.item_pick.specs.Standing.{ChoiceFits, IsFirst, IsItem, IsOwn};
@@ -164,43 +165,42 @@ impl PickMemory {
     }
 
     /// Whether an item is known to have no match with its item start at a column.
-    fn is_settled(&self, id: u32, search: Search) -> bool
+    fn is_settled(&self, id: u32, search: &Search<'_>) -> bool
         ensures { IsTrue result → (r : Rules) (t : Text) (l : ℕ) → MemoryStands r t l self.now →
-            HoldsLine search.looked l →
-            IsQuiet r t (place_at l search.at) search.floor search.looked (item_numbered id) }
+            HoldsLine search.now.looked l →
+            IsQuiet r t (place_at l search.now.at) search.now.floor search.now.looked
+            (item_numbered id) }
     {
         self.runs.covers(ItemId(id), search, self.numbers.len())
     }
 
-    /// The number behind an item, or what is next without it where it is behind that already, isn't
-    /// below what is left, or doesn't start at a column.
-    fn next_with(&self, next: usize, id: u32, left: usize, search: Search) -> usize
-        ensures least { next ≤ result }
-        ensures within { next ≤ left → result ≤ left }
-        ensures open { id < left → (id < result) ⊎ ((r : Rules) (t : Text) (l : ℕ) →
-            MemoryStands r t l self.now → HoldsLine search.looked l →
-            IsQuiet r t (place_at l search.at) search.floor search.looked (item_numbered id)) }
+    /// Whether an item has started at a column, or is known not to.
+    fn is_passed(&self, id: u32, search: &Search<'_>) -> bool
+        ensures { IsTrue result → (r : Rules) (t : Text) (l : ℕ) → MemoryStands r t l self.now →
+            HoldsLine search.now.looked l →
+            IsPassed r t (place_at l search.now.at) search.now.floor search.now.looked
+            (reverse search.now.tried.now) (item_numbered id) }
     {
-        let number = id as usize;
-        if number < next || left <= number || self.is_settled(id, search) {
-            next
-        } else {
-            number + 1
-        }
+        search.tried.has(ItemId(id)) || self.is_settled(id, search)
     }
 
-    /// The number behind the greatest item of a list that is below another one and may start at a
-    /// column; 0 where there is none.
-    fn next_open(&self, list: &[u32], left: usize, search: Search) -> usize
-        ensures { (r : Rules) (t : Text) (l : ℕ) → MemoryStands r t l self.now →
-            HoldsLine search.looked l →
-            IsNextIn r t (place_at l search.at) search.floor search.looked list.now left result }
+    /// The number behind the last item of a list, whose numbers rise, that is below another one and may
+    /// start at a column; 0 where there is none.
+    fn next_open(&self, list: &[u32], left: usize, search: &Search<'_>) -> usize
+        ensures { IsNonDecreasing list.now → (r : Rules) (t : Text) (l : ℕ) →
+            MemoryStands r t l self.now → HoldsLine search.now.looked l →
+            IsNextIn r t (place_at l search.now.at) search.now.floor search.now.looked
+            (reverse search.now.tried.now) list.now left result }
     {
-        let mut next = 0;
-        for id in list {
-            next = self.next_with(next, *id, left, search);
+        let mut count = count_below(list, left);
+        'items: while count > 0 {
+            count -= 1;
+            let id = list[count];
+            if !self.is_passed(id, search) {
+                return id as usize + 1;
+            }
         }
-        next
+        0
     }
 
     /// The number of items that are left by a row, if it stands at a place.
@@ -210,16 +210,17 @@ impl PickMemory {
         place: usize,
         choice: Choice,
         number: u16,
-        search: Search,
+        search: &Search<'_>,
         left: usize,
     ) -> Option<usize>
         requires { left ≤ length _asked.now.parts.now.items.now }
         ensures { (t : Text) (l : ℕ) →
             MemoryStands (rules_in _asked.now.parts.now _asked.now.budget) t l self.now →
-            IsNumberAt (rules_in _asked.now.parts.now _asked.now.budget) (line_at t l) search.at
-            number → HoldsLine search.looked l →
+            IsNumberAt (rules_in _asked.now.parts.now _asked.now.budget) (line_at t l) search.now.at
+            number → HoldsLine search.now.looked l →
             IfSome result (IsNextAt (rules_in _asked.now.parts.now _asked.now.budget) t
-            (place_at l search.at) search.floor search.looked choice left) }
+            (place_at l search.now.at) search.now.floor search.now.looked
+            (reverse search.now.tried.now) choice left) }
     {
         let row = self.row(place, choice, number)?;
         Some(self.next_open(&row.items, left, search))
@@ -232,7 +233,7 @@ impl PickMemory {
         asked: &Asked,
         choice: Choice,
         number: u16,
-        search: Search,
+        search: &Search<'_>,
         left: usize,
     ) -> Result<usize, Memory>
         requires choice { ChoiceFits (rules_in asked.now.parts.now asked.now.budget) choice }
@@ -243,10 +244,11 @@ impl PickMemory {
         ensures runs { self.new.runs ≡ self.old.runs }
         ensures next { (t : Text) (l : ℕ) →
             MemoryStands (rules_in asked.now.parts.now asked.now.budget) t l self.old →
-            IsNumberAt (rules_in asked.now.parts.now asked.now.budget) (line_at t l) search.at
-            number → HoldsLine search.looked l →
+            IsNumberAt (rules_in asked.now.parts.now asked.now.budget) (line_at t l) search.now.at
+            number → HoldsLine search.now.looked l →
             IfOk result (IsNextAt (rules_in asked.now.parts.now asked.now.budget) t
-            (place_at l search.at) search.floor search.looked choice left) }
+            (place_at l search.now.at) search.now.floor search.now.looked
+            (reverse search.now.tried.now) choice left) }
     {
         let place = self.place(choice, number).unwrap_or(NOWHERE);
         match self.left_by(asked, place, choice, number, search, left) {
@@ -492,9 +494,10 @@ impl Memo<Asked<'_>> for PickMemory {
             at: picking.at.col,
             floor: picking.floor,
             looked,
+            tried: picking.tried,
         };
         match self.number_at(search.at) {
-            Some(number) => self.left_in(picking.syntax, choice, number, search, left),
+            Some(number) => self.left_in(picking.syntax, choice, number, &search, left),
             None => Ok(left),
         }
     }
@@ -515,6 +518,20 @@ fn both(a: Columns, b: Columns) -> Columns
         first: a.first.max(b.first),
         end: a.end.min(b.end),
     }
+}
+
+/// How many numbers of a list that rises are below one.
+fn count_below(list: &[u32], bound: usize) -> usize
+    ensures within { result ≤ length list.now }
+    ensures below { IsNonDecreasing list.now → (k : ℕ) → k < result → get_or list.now k 0 < bound }
+    ensures rest { IsNonDecreasing list.now → (k : ℕ) → result ≤ k → k < length list.now →
+        bound ≤ get_or list.now k 0 }
+{
+    list.partition_point(
+        |number: &u32| -> bool
+            ensures { result ≡ nat_lt number.now bound }
+        { (*number as usize) < bound },
+    )
 }
 
 /// The number of a choice.

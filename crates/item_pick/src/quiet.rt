@@ -1,5 +1,5 @@
 //! Columns at which nothing starts, by what stands there.
-ghost use Rattle.std.specs.Prelude.{◌≡◌, ◌<◌, ◌≤◌, length, reverse, IfOk, IsTrue};
+ghost use Rattle.std.specs.Prelude.{◌≡◌, ◌<◌, ◌≤◌, [], length, reverse, IfOk, IsTrue};
 ghost use Rattle.match_rules.specs.Ways.{line_at};
 ghost use Rattle.keyword_table.specs.ItemNumbers.{AreItemsBelow};
 ghost use Rattle.keyword_table.specs.Words.{begins_word};
@@ -94,6 +94,7 @@ fn quiet_by<T: Lines>(
     requires present { at.line < length (T.lines lines.now) }
     requires within { at.col ≤ length (line_at (T.lines lines.now) at.line) }
     requires frames { Fits (length syntax.now.parts.now.items.now) (reverse stack.now) }
+    requires none_tried { tried.now ≡ [] }
     requires held { HoldsLine so_far at.line }
     requires memory { MemoryStands (rules_in syntax.now.parts.now syntax.now.budget)
         (T.lines lines.now) at.line memory.old }
@@ -127,6 +128,7 @@ impl<T: Lines> Picking<'_, T, Asked<'_>> {
         requires valid { IsSound self.now.syntax.now }
         requires place { IsPlace (T.lines self.now.lines.now) self.now.at }
         requires column { col < length (line_at (T.lines self.now.lines.now) self.now.at.line) }
+        requires none_tried { self.now.tried.now ≡ [] }
         requires held { HoldsLine looked self.now.at.line }
         requires choice { ChoiceFits
             (rules_in self.now.syntax.now.parts.now self.now.syntax.now.budget) choice }
@@ -158,6 +160,7 @@ impl<T: Lines> Picking<'_, T, Asked<'_>> {
         requires valid { IsSound self.now.syntax.now }
         requires place { IsPlace (T.lines self.now.lines.now) self.now.at }
         requires column { col < length (line_at (T.lines self.now.lines.now) self.now.at.line) }
+        requires none_tried { self.now.tried.now ≡ [] }
         requires held { HoldsLine looked self.now.at.line }
         requires choice { ChoiceFits
             (rules_in self.now.syntax.now.parts.now self.now.syntax.now.budget) choice }
@@ -181,9 +184,10 @@ impl<T: Lines> Picking<'_, T, Asked<'_>> {
                     at: col,
                     floor: self.floor,
                     looked,
+                    tried: self.tried,
                 };
                 let count = self.syntax.parts.items.added();
-                let left = memory.left_in(self.syntax, choice, number, search, count)?;
+                let left = memory.left_in(self.syntax, choice, number, &search, count)?;
                 Ok(left == 0)
             }
             None => Ok(false),
@@ -197,6 +201,7 @@ impl<T: Lines> Picking<'_, T, Asked<'_>> {
         looked: Looked,
         memory: &mut PickMemory,
     ) -> Result<usize, Memory>
+        requires none_tried { self.now.tried.now ≡ [] }
         requires held { HoldsLine looked self.now.at.line }
         requires valid { IsSound self.now.syntax.now }
         requires place { IsPlace (T.lines self.now.lines.now) self.now.at }

@@ -11,6 +11,7 @@ ghost use Rattle.item_pick.specs.Screens.{HoldsLines};
 
 use crate::asked::Asked;
 use crate::columns::Columns;
+use crate::tried::Tried;
 use region_ends::item_of;
 use std::alloc::Global;
 use syn_base::{ItemId, Looked, Memory};
@@ -33,13 +34,15 @@ pub(crate) struct Run {
 
 /// Where items are sought.
 #[derive(Clone, Copy)]
-pub(crate) struct Search {
+pub(crate) struct Search<'a> {
     /// The column.
     pub(crate) at: usize,
     /// The column of the last start or close in the line.
     pub(crate) floor: usize,
     /// The lines looked at so far.
     pub(crate) looked: Looked,
+    /// The items that have started there.
+    pub(crate) tried: &'a Tried<'a>,
 }
 
 /// Whether some lines are among those looked at.
@@ -58,8 +61,8 @@ pub(crate) struct Runs {
 impl Run {
     /// Whether an item isn't matched where it is sought from any column before an end, and the lines
     /// that tell so were looked at.
-    pub(crate) fn covers(&self, item: ItemId, search: Search, end: usize) -> bool
-        ensures { IsTrue result → Covers self.now item search end }
+    pub(crate) fn covers(&self, item: ItemId, search: &Search<'_>, end: usize) -> bool
+        ensures { IsTrue result → Covers self.now item search.now end }
     {
         let enough = match self.least {
             Some(least) => least <= search.floor,
@@ -172,10 +175,10 @@ impl Runs {
 
     /// Whether it is known that an item isn't matched where it is sought from any column before an
     /// end.
-    pub(crate) fn covers(&self, item: ItemId, search: Search, end: usize) -> bool
+    pub(crate) fn covers(&self, item: ItemId, search: &Search<'_>, end: usize) -> bool
         ensures { IsTrue result → (r : Rules) (t : Text) (l : ℕ) →
             All (RunStands r t l) self.now.list.items →
-            (run : Run) × RunStands r t l run × Covers run item search end }
+            (run : Run) × RunStands r t l run × Covers run item search.now end }
     {
         match self.list.get(item.0 as usize) {
             Some(run) => run.covers(item, search, end),

@@ -1,12 +1,13 @@
 //! Which items of a choice may start at a column, by the key of the column.
 ghost use Rattle.std.specs.Prelude.{◌≡◌, ◌<◌, ◌≤◌, ℕ, length, slice_get, slice_index, Some, IfOk, IfSome, IsTrue, true};
+ghost use Rattle.std.specs.List.Sorted.{IsNonDecreasing};
 ghost use Rattle.syntax_set.specs.declared.item.Pattern.{Pattern as PatternOf};
 ghost use Rattle.paint_rules.specs.Rules.{item_of};
 ghost use Rattle.item_pick.specs.PartsSeen.{rules_in};
 ghost use Rattle.item_pick.specs.Quiet.{item_numbered};
 ghost use Rattle.item_pick.specs.Standing.{ChoiceFits, IsItem};
 ghost use Rattle.item_pick.specs.Started.{admits};
-ghost use Rattle.item_pick.specs.Tables.{fails, is_screened, Lacks, ListStands, RowStands, StaysOut};
+ghost use Rattle.item_pick.specs.Tables.{fails, is_screened, Lacks, ListStands, RisesTo, RowStands, StaysOut};
 
 use crate::asked::Asked;
 use crate::choice::{Choice, admits};
@@ -20,7 +21,8 @@ use vim_pattern::Tree;
 /// In place of the number of a key: the row has all items that start by a pattern.
 pub(crate) const ANY: u16 = KEYS;
 
-/// The admitted items of a choice that may start at a column whose key has a number.
+/// The admitted items of a choice that may start at a column whose key has a number, in the order in
+/// which they were defined.
 #[derive(Drop)]
 pub(crate) struct Row {
     pub(crate) choice: Choice,
@@ -88,6 +90,7 @@ impl Asked<'_> {
     fn put(&self, id: u32, number: u16, items: &mut Vec<u32>) -> Result<(), Memory>
         requires { id < length (rules_in self.now.parts.now self.now.budget).items }
         ensures kept { (j : ℕ) → Lacks items.new.items j → Lacks items.old.items j }
+        ensures rises { RisesTo id items.old.items → RisesTo id items.new.items }
         ensures here { IfOk result (λ _. Lacks items.new.items id →
             StaysOut (rules_in self.now.parts.now self.now.budget) number (item_numbered id)) }
     {
@@ -108,6 +111,7 @@ impl Asked<'_> {
         requires item { id < length (rules_in self.now.parts.now self.now.budget).items }
         requires choice { ChoiceFits (rules_in self.now.parts.now self.now.budget) choice }
         ensures kept { (j : ℕ) → Lacks items.new.items j → Lacks items.old.items j }
+        ensures rises { RisesTo id items.old.items → RisesTo id items.new.items }
         ensures here { IfOk result (λ _.
             admits (rules_in self.now.parts.now self.now.budget) choice (item_numbered id) ≡ true →
             Lacks items.new.items id →
@@ -129,6 +133,7 @@ impl Asked<'_> {
     ) -> Result<(), Memory>
         requires { count ≡ length (rules_in self.now.parts.now self.now.budget).items }
         ensures kept { (j : ℕ) → Lacks items.new.items j → Lacks items.old.items j }
+        ensures rises { RisesTo id items.old.items → RisesTo id items.new.items }
         ensures here { IfOk result (λ _.
             id < length (rules_in self.now.parts.now self.now.budget).items →
             Lacks items.new.items id →
@@ -143,8 +148,9 @@ impl Asked<'_> {
     /// The items of a choice that may start.
     fn listed(&self, alloc: Global, choice: Choice, number: u16) -> Result<Vec<u32>, Memory>
         requires { ChoiceFits (rules_in self.now.parts.now self.now.budget) choice }
-        ensures { IfOk result (λ list.
+        ensures lists { IfOk result (λ list.
             ListStands (rules_in self.now.parts.now self.now.budget) choice number list.items) }
+        ensures rises { IfOk result (λ list. IsNonDecreasing list.items) }
     {
         let count = self.parts.items.added() as u32;
         let mut items = Vec::new(alloc);
@@ -158,8 +164,9 @@ impl Asked<'_> {
     fn narrowed(&self, alloc: Global, all: &Row, number: u16) -> Result<Vec<u32>, Memory>
         requires number { all.now.number ≡ 777 }
         requires stands { RowStands (rules_in self.now.parts.now self.now.budget) all.now }
-        ensures { IfOk result (λ list. ListStands (rules_in self.now.parts.now self.now.budget)
+        ensures lists { IfOk result (λ list. ListStands (rules_in self.now.parts.now self.now.budget)
             all.now.choice number list.items) }
+        ensures rises { IfOk result (λ list. IsNonDecreasing list.items) }
     {
         let count = self.parts.items.added();
         let mut items = Vec::new(alloc);

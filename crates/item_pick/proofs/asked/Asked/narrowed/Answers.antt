@@ -1,22 +1,38 @@
-use Rattle.std.proofs.Common.{◌<◌, ℕ, List, get_or, length, below_more, arith, ap, subst}
+use Rattle.std.proofs.Common.{◌<◌, ◌≤◌, ◌-◌, ℕ, List, get_or, length, below_more, arith, ap, subst}
 use Rattle.item_pick.specs.PartsSeen.{rules_in}
 use Rattle.item_pick.specs.Quiet.{item_numbered}
-use Rattle.item_pick.specs.Tables.{Lacks, ListStands, StaysOut}
-use Rattle.item_pick.proofs.TableLaws.{narrowed}
+use Rattle.item_pick.specs.Tables.{Lacks, ListStands, RisesTo, StaysOut}
+use Rattle.item_pick.proofs.TableLaws.{narrowed, rises_on}
 use Rattle.item_pick.proofs.asked.Asked.narrowed.Goals as goal
 
 pub loop-id-preserved : goal.loop-id-preserved
 loop-id-preserved c =
     let r = rules_in c.args.self.now.parts.now c.args.self.now.budget in
     let kept = c.put_known.ensures.kept in
-    below_more _ _ (λ k h within lacks. c.loop-id.invariant k h within (kept _ lacks))
-    (subst (λ (list : List ℕ). get_or list c.loop-id.id-index 0 < length r.items → Lacks c.put_known.new.items.items (get_or list c.loop-id.id-index 0) → StaysOut r c.args.number (item_numbered (get_or list c.loop-id.id-index 0)))
-    c.as_slice-id-items.ensures.value c.in_ok-put_known.ensures.here)
+    let all = c.args.all.now.items.items in
+    let here = c.loop-id.id-index in
+    record {
+      lists = below_more _ _ (λ k h within lacks. c.loop-id.invariant.lists k h within (kept _ lacks))
+          (subst (λ (list : List ℕ). get_or list c.loop-id.id-index 0 < length r.items → Lacks c.put_known.new.items.items (get_or list c.loop-id.id-index 0) → StaysOut r c.args.number (item_numbered (get_or list c.loop-id.id-index 0)))
+          c.as_slice-id-items.ensures.value c.in_ok-put_known.ensures.here);
+      rises = λ n before.
+          let within : here < length all = omega (arith, c.loop-id-test.true, ap length c.as_slice-id-items.ensures.value) in
+          rises_on (get_or all here 0) n _ (before here (omega arith))
+          (subst (λ (list : List ℕ). RisesTo (get_or list here 0) c.loop-id.items.items → RisesTo (get_or list here 0) c.put_known.new.items.items) c.as_slice-id-items.ensures.value c.put_known.ensures.rises
+          (c.loop-id.invariant.rises (get_or all here 0) (λ k h. c.requires.stands.rises k here 0 (omega (arith, h)) within)));
+    }
 
-pub returns : goal.returns
-returns c =
+pub returns-clause-rises : goal.returns-clause-rises
+returns-clause-rises c =
+    let all = c.args.all.now.items.items in
+    let end = c.loop-id.id-index in
+    let within : end ≤ length all = omega (arith, c.loop-id.auto.id-index-end, ap length c.as_slice-id-items.ensures.value) in
+    (c.loop-id.invariant.rises (get_or all (end - 1) 0) (λ k h. c.requires.stands.rises k (end - 1) 0 (omega (arith, h)) (omega (arith, h, within)))).rises
+
+pub returns-clause-lists : goal.returns-clause-lists
+returns-clause-lists c =
     let r = rules_in c.args.self.now.parts.now c.args.self.now.budget in
     let all = c.args.all.now.items.items in
     narrowed r c.args.all.now.choice c.args.number all c.loop-id.items.items
-    (subst (λ n. ListStands r c.args.all.now.choice n all) c.requires.number c.requires.stands)
-    (λ k h. c.loop-id.invariant k (omega (arith, h, ap length c.as_slice-id-items.ensures.value)))
+    (subst (λ n. ListStands r c.args.all.now.choice n all) c.requires.number c.requires.stands.lists)
+    (λ k h. c.loop-id.invariant.lists k (omega (arith, h, ap length c.as_slice-id-items.ensures.value)))

@@ -1,4 +1,5 @@
-use Rattle.std.proofs.Common.{ℕ, List, subst}
+use Rattle.std.proofs.Common.{ℕ, List, reverse, subst, sym}
+use Rattle.std.specs.List.Sorted.{IsNonDecreasing}
 use Rattle.paint_rules.specs.Rules.{place_at}
 use Rattle.item_pick.specs.PartsSeen.{rules_in}
 use Rattle.item_pick.specs.Screened.{futile_by}
@@ -14,6 +15,6 @@ returns c t l memory key held =
     let row = c.in_ok-row.ensures in
     let stands =
     subst (λ choice. ListStands r choice c.args.number c.in_ok-row.row.now.items.items) row.choice
-    (subst (λ number. ListStands r c.in_ok-row.row.now.choice number c.in_ok-row.row.now.items.items) row.number (row.stands r memory.tables)) in
-    next_at r (futile_by sets budget) t (place_at l c.args.search.at) c.args.number c.args.search.floor c.args.search.looked held key c.args.choice c.in_ok-row.row.now.items.items stands
-    c.args.left c.next_open.result c.requires (subst (λ (list : List ℕ). IsNextIn r t (place_at l c.args.search.at) c.args.search.floor c.args.search.looked list c.args.left c.next_open.result) c.deref.ensures.value (c.next_open.ensures r t l memory held))
+    (subst (λ number. ListStands r c.in_ok-row.row.now.choice number c.in_ok-row.row.now.items.items) row.number (row.stands r memory.tables).lists) in
+    next_at r (futile_by sets budget) t (place_at l c.args.search.now.at) c.args.number c.args.search.now.floor c.args.search.now.looked held key (reverse c.args.search.now.tried.now) c.args.choice c.in_ok-row.row.now.items.items stands
+    c.args.left c.next_open.result c.requires (subst (λ (list : List ℕ). IsNextIn r t (place_at l c.args.search.now.at) c.args.search.now.floor c.args.search.now.looked (reverse c.args.search.now.tried.now) list c.args.left c.next_open.result) c.deref.ensures.value (c.next_open.ensures (subst (λ (list : List ℕ). IsNonDecreasing list) (sym c.deref.ensures.value) (row.stands r memory.tables).rises) r t l memory held))

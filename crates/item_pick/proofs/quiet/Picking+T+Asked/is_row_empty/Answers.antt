@@ -1,6 +1,7 @@
-use Rattle.std.proofs.Common.{◌≡◌, ◌∙◌, ℕ, List, false, sym, subst, eqb→eq}
+use Rattle.std.proofs.Common.{◌≡◌, ◌∙◌, ℕ, List, [], reverse, false, sym, subst, eqb→eq}
 use Rattle.std.specs.Prelude.{nat_eq}
 use Rattle.std.proofs.lemmas.Float.{T_from_true}
+use Rattle.syn_base.specs.declared.places.ItemId.{ItemId}
 use Rattle.keyword_table.specs.Words.{begins_word}
 use Rattle.paint_rules.specs.Rules.{place_at}
 use Rattle.item_pick.specs.PartsSeen.{rules_in}
@@ -21,6 +22,7 @@ returns-in_ok-left-in-Some-clause-quiet g c e =
     let k = c.args.looked in
     row_empty r t p floor k c.args.choice
     (subst (λ (line : List ℕ). begins_word r.sets.keyword line c.args.col ≡ false) c.line.ensures word)
-    (subst (λ (n : ℕ). IsNextAt r t p floor k c.args.choice n 0) c.added-count.ensures.number
-    (subst (IsNextAt r t p floor k c.args.choice c.added-count.result) none
-    (c.in_ok-left-in-Some.ensures.next t l c.requires.memory (c.in-Some.ensures r t l c.requires.memory) c.requires.held)))
+    (subst (λ (n : ℕ). IsNextAt r t p floor k [] c.args.choice n 0) c.added-count.ensures.number
+    (subst (IsNextAt r t p floor k [] c.args.choice c.added-count.result) none
+    (subst (λ (xs : List ItemId). IsNextAt r t p floor k (reverse xs) c.args.choice c.added-count.result c.in_ok-left-in-Some.left) c.requires.none_tried
+    (c.in_ok-left-in-Some.ensures.next t l c.requires.memory (c.in-Some.ensures r t l c.requires.memory) c.requires.held))))
