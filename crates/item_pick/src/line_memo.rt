@@ -11,9 +11,10 @@ use crate::choice::Choice;
 use crate::columns::Columns;
 use crate::memo::Memo;
 use crate::picking::Picking;
+use crate::syntax::Syntax;
 use pattern_match::{Context, LineMemo};
-use region_ends::item_of;
-use syn_base::{ItemId, Lines, Memory};
+use region_ends::{EndAnswer, item_of};
+use syn_base::{Externals, ItemId, Lines, Memory, Place};
 use syntax_set::Pattern;
 
 impl Asked<'_> {
@@ -98,5 +99,17 @@ impl Memo<Asked<'_>> for LineMemo {
         left: usize,
     ) -> Result<usize, Memory> {
         Ok(left)
+    }
+
+    fn find_end<T: Lines>(
+        &mut self,
+        picking: &Picking<'_, T, Asked<'_>>,
+        region: ItemId,
+        externals: &Externals,
+        from: Place,
+    ) -> Result<EndAnswer, Memory> {
+        picking
+            .syntax
+            .find_end(picking.alloc, picking.lines, region, externals, from)
     }
 }
