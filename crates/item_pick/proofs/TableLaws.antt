@@ -37,7 +37,7 @@ use Rattle.item_pick.specs.Runs.{Covers, TellsOf}
 use Rattle.item_pick.specs.Screens.{HoldsLine, HoldsLines, IsIdle, IsLater, IsSettled}
 use Rattle.item_pick.specs.Standing.{first_pattern, has_one_start, IsFirst, IsPatternOf}
 use Rattle.item_pick.specs.Started.{admits, is_free}
-use Rattle.item_pick.specs.Tables.{fails, is_vain, passes, AnchorStands, IsAnchored, IsEnough, IsMissed, IsNextAt, IsNextIn, IsNumberAt, IsVainAt, Lacks, ListStands, MemoryStands, RisesTo, RunStands, StaysOut, TablesStand, VainStands}
+use Rattle.item_pick.specs.Tables.{fails, is_vain, passes, AnchorStands, EndsStand, IsAnchored, IsEnough, IsMissed, IsNextAt, IsNextIn, IsNumberAt, IsVainAt, Lacks, ListStands, MemoryStands, RisesTo, RunStands, StaysOut, TablesStand, VainStands}
 use Rattle.item_pick.proofs.MatchLaws.{no_start}
 use Rattle.item_pick.proofs.QuietLaws.{earlier}
 use Rattle.item_pick.proofs.ScreenLaws.{each_held, futile_idle}
@@ -251,6 +251,7 @@ still_stands r t l a b tables numbers runs stands = record {
   tables = tables;
   keys = subst (λ v. AreNumbers r.sets (line_at t l) (length (line_at t l) + 1) v.items) (sym numbers) stands.keys;
   runs = subst (λ v. All (RunStands r t l) v.list.items) (sym runs) stands.runs;
+  ends = subst (EndsStand r t l) (sym runs) stands.ends;
 }
 
 -- ---- lists

@@ -14,10 +14,12 @@ use Rattle.pattern_screens.specs.Bounds.{failing_cost}
 use Rattle.pattern_screens.specs.Keys.{AreNumbers, is_first, key_numbered, key_of}
 use Rattle.pattern_screens.specs.Screens.{is_futile, verdict}
 use Rattle.pattern_screens.specs.declared.key.Key.{Key}
+use Rattle.region_ends.specs.EndMemo.{EndMemoStands}
 use Rattle.item_pick.specs.declared.anchors.Anchor.{Anchor}
 use Rattle.item_pick.specs.declared.choice.Choice.{Choice}
 use Rattle.item_pick.specs.declared.memory.PickMemory.{PickMemory}
 use Rattle.item_pick.specs.declared.runs.Run.{Run}
+use Rattle.item_pick.specs.declared.runs.Runs.{Runs}
 use Rattle.item_pick.specs.declared.vains.Vain.{Vain}
 use Rattle.item_pick.specs.declared.tables.Row.{Row}
 use Rattle.item_pick.specs.Quiet.{item_numbered, IsPassed}
@@ -126,11 +128,16 @@ pub record RunStands (r : Rules) (t : Text) (l : ℕ) (run : Run) : Type 0 where
       IsSettled r t l run.item pattern run.places.first run.places.end run.looked c
   pub enough : IfSome run.least (IsEnough r run.item run.from)
 
+-- what is known of where regions end in the line
+abbrev pub EndsStand : Rules → Text → ℕ → Runs → Type 0
+EndsStand r t l runs = EndMemoStands r.items r.sets r.budget t l runs.ends
+
 -- besides, the line is entered
 pub record MemoryStands (r : Rules) (t : Text) (l : ℕ) (memory : PickMemory) : Type 0 where
   pub tables : TablesStand r memory
   pub keys : AreNumbers r.sets (line_at t l) (length (line_at t l) + 1) memory.numbers.items
   pub runs : All (RunStands r t l) memory.runs.list.items
+  pub ends : EndsStand r t l memory.runs
 
 -- the column is one of the line's, its end included, and its key has this number
 abbrev pub IsNumberAt : Rules → List ℕ → ℕ → ℕ → Type 0

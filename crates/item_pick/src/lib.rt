@@ -11,6 +11,7 @@ mod asked;
 mod asking;
 mod choice;
 mod columns;
+mod ends;
 mod line_memo;
 mod memo;
 mod memory;
@@ -29,6 +30,7 @@ mod vains;
 mod words;
 
 pub use asking::{pick, pick_with};
+pub use ends::end_with;
 pub use memory::PickMemory;
 pub use parts::Parts;
 pub use quiet::quiet_until;

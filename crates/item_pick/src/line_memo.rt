@@ -11,9 +11,10 @@ use crate::choice::Choice;
 use crate::columns::Columns;
 use crate::memo::Memo;
 use crate::picking::Picking;
+use crate::syntax::Syntax;
 use pattern_match::{Context, LineMemo};
-use region_ends::item_of;
-use syn_base::{ItemId, Lines, Looked, Memory};
+use region_ends::{EndAnswer, item_of};
+use syn_base::{Externals, ItemId, Lines, Looked, Memory, Place};
 use syntax_set::Pattern;
 
 impl Asked<'_> {
@@ -101,5 +102,17 @@ impl Memo<Asked<'_>> for LineMemo {
         _looked: Looked,
     ) -> Result<usize, Memory> {
         Ok(left)
+    }
+
+    fn find_end<T: Lines>(
+        &mut self,
+        picking: &Picking<'_, T, Asked<'_>>,
+        region: ItemId,
+        externals: &Externals,
+        from: Place,
+    ) -> Result<EndAnswer, Memory> {
+        picking
+            .syntax
+            .find_end(picking.alloc, picking.lines, region, externals, from)
     }
 }

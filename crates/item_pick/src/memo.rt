@@ -1,15 +1,20 @@
-//! What is remembered of a line: from which columns no item is matched.
-ghost use Rattle.std.specs.Prelude.{◌≡◌, ◌≤◌, ℕ, length, reverse, IfOk};
+//! What is remembered of a line: from which columns no item is matched, and where regions end.
+ghost use Rattle.std.specs.Prelude.{◌≡◌, ◌<◌, ◌≤◌, ℕ, length, reverse, true, IfOk};
 ghost use Rattle.match_rules.specs.Ways.{Text, line_at};
+ghost use Rattle.paint_rules.specs.Rules.{item_of};
+ghost use Rattle.paint_rules.specs.Close.{is_region};
+ghost use Rattle.paint_rules.specs.EndInLine.{end_in_line, for_ends};
+ghost use Rattle.region_ends.specs.Searches.{IsEnd};
 ghost use Rattle.item_pick.specs.Quiet.{IsEarlier};
 ghost use Rattle.item_pick.specs.Screens.{HoldsLine, IsLater, IsSettled};
-ghost use Rattle.item_pick.specs.Standing.{ChoiceFits, IsFirst, IsOwn, IsPlace};
+ghost use Rattle.item_pick.specs.Standing.{ChoiceFits, IsFirst, IsItem, IsOwn, IsPlace};
 
 use crate::choice::Choice;
 use crate::columns::Columns;
 use crate::picking::Picking;
 use crate::syntax::Syntax;
-use syn_base::{ItemId, Lines, Looked, Memory};
+use region_ends::EndAnswer;
+use syn_base::{Externals, ItemId, Lines, Looked, Memory, Place};
 use syntax_set::Pattern;
 
 /// A memo of a line.
@@ -85,4 +90,29 @@ pub(crate) trait Memo<S: Syntax> {
         ensures next { IfOk result (IsEarlier (S.rules picking.now.syntax.now)
             (T.lines picking.now.lines.now) picking.now.at picking.now.floor
             (reverse picking.now.tried.now) choice looked left) };
+
+    /// The end of a region in the line of a place.
+    fn find_end<T: Lines>(
+        &mut self,
+        picking: &Picking<'_, T, S>,
+        region: ItemId,
+        externals: &Externals,
+        from: Place,
+    ) -> Result<EndAnswer, Memory>
+        requires valid { S.valid picking.now.syntax.now }
+        requires item { IsItem (S.rules picking.now.syntax.now) region }
+        requires region { is_region (item_of (S.rules picking.now.syntax.now).items region).kind
+            ≡ true }
+        requires present { from.line < length (T.lines picking.now.lines.now) }
+        requires stands { stands self.old picking.now.syntax.now (T.lines picking.now.lines.now)
+            picking.now.at.line }
+        ensures stands { stands self.new picking.now.syntax.now (T.lines picking.now.lines.now)
+            picking.now.at.line }
+        ensures end { IfOk result (λ a. IsEnd a region (end_in_line (record {
+          rules = for_ends (S.rules picking.now.syntax.now);
+          text = T.lines picking.now.lines.now;
+          item = region;
+          externals = externals.now;
+          from = from;
+        }))) };
 }

@@ -15,16 +15,18 @@ use crate::anchors::{Anchor, Anchors};
 use crate::asked::Asked;
 use crate::choice::Choice;
 use crate::columns::Columns;
+use crate::ends::end_with;
 use crate::memo::Memo;
 use crate::parts::Parts;
 use crate::picking::Picking;
 use crate::runs::{Run, Runs, Search, holds};
+use crate::syntax::Syntax;
 use crate::tables::{ANY, Row};
 use crate::vains::{Vain, Vains};
 use pattern_screens::number_line;
-use region_ends::item_of;
+use region_ends::{EndAnswer, item_of};
 use std::alloc::Global;
-use syn_base::{ItemId, Lines, Looked, Memory, Place};
+use syn_base::{Externals, ItemId, Lines, Looked, Memory, Place};
 use syntax_set::Pattern;
 
 /// How many rows a choice has: one for each key, and one for all.
@@ -49,7 +51,7 @@ pub struct PickMemory {
     vains: Vains,
     anchors: Anchors,
     numbers: Vec<u16>,
-    runs: Runs,
+    pub(crate) runs: Runs,
 }
 
 impl PickMemory {
@@ -500,6 +502,31 @@ impl Memo<Asked<'_>> for PickMemory {
             Some(number) => self.left_in(picking.syntax, choice, number, &search, left),
             None => Ok(left),
         }
+    }
+
+    fn find_end<T: Lines>(
+        &mut self,
+        picking: &Picking<'_, T, Asked<'_>>,
+        region: ItemId,
+        externals: &Externals,
+        from: Place,
+    ) -> Result<EndAnswer, Memory> {
+        let asked = picking.syntax;
+        let lines = picking.lines;
+        if from.line != picking.at.line {
+            return asked.find_end(picking.alloc, lines, region, externals, from);
+        }
+        end_with(
+            picking.alloc,
+            asked.parts,
+            lines,
+            region,
+            externals,
+            asked.no_externals,
+            from,
+            self,
+            asked.budget,
+        )
     }
 }
 

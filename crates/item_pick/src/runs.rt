@@ -1,18 +1,19 @@
-//! What is known of the line that is painted: from which columns an item isn't matched.
+//! What is known of the line that is painted: from which columns an item isn't matched, and where
+//! regions end.
 ghost use Rattle.std.specs.Prelude.{◌≡◌, ◌<◌, ◌≤◌, ◌-◌, ◌^◌, ℕ, [], IfSome, IsTrue};
 ghost use Rattle.std.specs.List.{All};
 ghost use Rattle.match_rules.specs.Ways.{Text};
 ghost use Rattle.paint_rules.specs.Rules.{Rules, item_of};
 ghost use Rattle.item_pick.specs.PartsSeen.{rules_in};
 ghost use Rattle.item_pick.specs.Standing.{has_one_start, IsFirst, IsItem};
-ghost use Rattle.item_pick.specs.Tables.{IsEnough, RunStands};
+ghost use Rattle.item_pick.specs.Tables.{EndsStand, IsEnough, RunStands};
 ghost use Rattle.item_pick.specs.Runs.{Covers, TellsOf};
 ghost use Rattle.item_pick.specs.Screens.{HoldsLines};
 
 use crate::asked::Asked;
 use crate::columns::Columns;
 use crate::tried::Tried;
-use region_ends::item_of;
+use region_ends::{EndMemo, item_of};
 use std::alloc::Global;
 use syn_base::{ItemId, Looked, Memory};
 use syntax_set::{ItemKind, Pattern};
@@ -56,6 +57,7 @@ pub(crate) fn holds(looked: Looked, lines: Looked) -> bool
 #[derive(Drop)]
 pub(crate) struct Runs {
     list: Vec<Run>,
+    pub(crate) ends: EndMemo,
 }
 
 impl Run {
@@ -148,14 +150,17 @@ impl Runs {
     {
         Runs {
             list: Vec::new(alloc),
+            ends: EndMemo::new(alloc),
         }
     }
 
     /// Forgets what was known.
     pub(crate) fn clear(&mut self)
-        ensures { self.new.list.items ≡ [] }
+        ensures list { self.new.list.items ≡ [] }
+        ensures ends { (r : Rules) (t : Text) (l : ℕ) → EndsStand r t l self.new }
     {
         self.list.clear();
+        self.ends.clear();
     }
 
     /// The run of an item that holds a column or ends there, and tells of a place.
@@ -188,7 +193,8 @@ impl Runs {
 
     /// Keeps a run at the place of its item, unless it is empty.
     pub(crate) fn keep(&mut self, run: Run) -> Result<(), Memory>
-        ensures { (r : Rules) (t : Text) (l : ℕ) → All (RunStands r t l) self.old.list.items →
+        ensures ends { self.new.ends ≡ self.old.ends }
+        ensures list { (r : Rules) (t : Text) (l : ℕ) → All (RunStands r t l) self.old.list.items →
             RunStands r t l run → All (RunStands r t l) self.new.list.items }
     {
         if run.from == run.to {
@@ -205,7 +211,8 @@ impl Runs {
 
     /// Puts what says nothing before a place.
     fn fill(&mut self, place: usize) -> Result<(), Memory>
-        ensures { (r : Rules) (t : Text) (l : ℕ) → All (RunStands r t l) self.old.list.items →
+        ensures ends { self.new.ends ≡ self.old.ends }
+        ensures list { (r : Rules) (t : Text) (l : ℕ) → All (RunStands r t l) self.old.list.items →
             All (RunStands r t l) self.new.list.items }
     {
         for _ in self.list.len()..place {
@@ -216,7 +223,8 @@ impl Runs {
 
     /// Puts at the end what says nothing.
     fn put_empty(&mut self) -> Result<(), Memory>
-        ensures { (r : Rules) (t : Text) (l : ℕ) → All (RunStands r t l) self.old.list.items →
+        ensures ends { self.new.ends ≡ self.old.ends }
+        ensures list { (r : Rules) (t : Text) (l : ℕ) → All (RunStands r t l) self.old.list.items →
             All (RunStands r t l) self.new.list.items }
     {
         self.put(Run {
@@ -231,7 +239,8 @@ impl Runs {
 
     /// Puts a run at the end.
     fn put(&mut self, run: Run) -> Result<(), Memory>
-        ensures { (r : Rules) (t : Text) (l : ℕ) → All (RunStands r t l) self.old.list.items →
+        ensures ends { self.new.ends ≡ self.old.ends }
+        ensures list { (r : Rules) (t : Text) (l : ℕ) → All (RunStands r t l) self.old.list.items →
             RunStands r t l run → All (RunStands r t l) self.new.list.items }
     {
         self.list.push(run)?;

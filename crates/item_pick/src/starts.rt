@@ -56,27 +56,34 @@ impl<T: Lines, S: Syntax> Picking<'_, T, S> {
     }
 
     /// The end of a region that starts by a match, in the line where its start ends.
-    fn end_of(&self, id: ItemId, m: &Match, looked: &mut Looked) -> Result<Option<RegionEnd>, Stop>
+    fn end_of<M: Memo<S>>(
+        &self,
+        id: ItemId,
+        m: &Match,
+        looked: &mut Looked,
+        memo: &mut M,
+    ) -> Result<Option<RegionEnd>, Stop>
         requires valid { S.valid self.now.syntax.now }
         requires item { IsItem (S.rules self.now.syntax.now) id }
         requires region { is_region (item_of (S.rules self.now.syntax.now).items id).kind ≡ true }
         requires ends { (m.now.to).line < 2 ^ 33 }
-        ensures { IsToldAfter looked.old result looked.new (end_in_line (record {
+        requires memo { M.stands memo.old self.now.syntax.now (T.lines self.now.lines.now)
+            self.now.at.line }
+        ensures told { IsToldAfter looked.old result looked.new (end_in_line (record {
           rules = for_ends (S.rules self.now.syntax.now);
           text = T.lines self.now.lines.now;
           item = id;
           externals = m.now.externals;
           from = m.now.to;
         })) }
+        ensures memo { M.stands memo.new self.now.syntax.now (T.lines self.now.lines.now)
+            self.now.at.line }
     {
         if m.to.line >= self.lines.len() {
             look_at(looked, m.to.line);
             return Ok(None);
         }
-        match self
-            .syntax
-            .find_end(self.alloc, self.lines, id, &m.externals, m.to)?
-        {
+        match memo.find_end(self, id, &m.externals, m.to)? {
             EndAnswer::Ends(end, seen) => {
                 *looked = looked.join(seen);
                 Ok(Some(end))
@@ -90,12 +97,13 @@ impl<T: Lines, S: Syntax> Picking<'_, T, S> {
     }
 
     /// What a match of a start pattern starts: a oneline region only with its end.
-    fn region_start(
+    fn region_start<M: Memo<S>>(
         &self,
         id: ItemId,
         start: usize,
         m: Match,
         looked: &mut Looked,
+        memo: &mut M,
     ) -> Result<Option<Starting>, Stop>
         requires valid { S.valid self.now.syntax.now }
         requires item { IsItem (S.rules self.now.syntax.now) id }
@@ -103,11 +111,15 @@ impl<T: Lines, S: Syntax> Picking<'_, T, S> {
         requires start { start
             < length (starts_of (item_of (S.rules self.now.syntax.now).items id).kind) }
         requires ends { m.to.line < 2 ^ 33 }
+        requires memo { M.stands memo.old self.now.syntax.now (T.lines self.now.lines.now)
+            self.now.at.line }
         ensures told { IsToldAs (seen_start (S.rules self.now.syntax.now).items) looked.old result
             looked.new (region_start
             (here_at (S.rules self.now.syntax.now) (T.lines self.now.lines.now) self.now.at) id
             (start_pattern (S.rules self.now.syntax.now).items id start) (Some m)) }
         ensures there { IfOk result (IsStartThere (S.rules self.now.syntax.now).items) }
+        ensures memo { M.stands memo.new self.now.syntax.now (T.lines self.now.lines.now)
+            self.now.at.line }
     {
         let oneline = self.item(id).oneline;
         if !oneline && m.to.line != self.at.line {
@@ -118,7 +130,7 @@ impl<T: Lines, S: Syntax> Picking<'_, T, S> {
                 end: None,
             }));
         }
-        let end = self.end_of(id, &m, looked)?;
+        let end = self.end_of(id, &m, looked, memo)?;
         if oneline && end.is_none() {
             return Ok(None);
         }
@@ -158,7 +170,7 @@ impl<T: Lines, S: Syntax> Picking<'_, T, S> {
             self.now.at.line }
     {
         match self.item_match(id, start, pattern, looked, memo)? {
-            Some(m) => self.region_start(id, start, m, looked),
+            Some(m) => self.region_start(id, start, m, looked, memo),
             None => Ok(None),
         }
     }

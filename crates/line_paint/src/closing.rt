@@ -14,7 +14,7 @@ ghost use Rattle.line_paint.specs.Standing.{frames_or, items_of};
 use crate::ends::{is_region_body, searched_anew, searched_if};
 use crate::frames::remade;
 use crate::spots::{goes_beyond, is_reached};
-use crate::{Site, Stop};
+use crate::{Picker, Site, Stop};
 use paint_rules::{Part, Spot, Waiting};
 use region_ends::{earlier_end, kept_end_over};
 use state_stack::{Frame, Stack};
@@ -111,18 +111,21 @@ fn col_here(spot: Spot) -> Option<usize>
 }
 
 /// What the frames under a start area become that was popped; none where they stay.
-pub(crate) fn body_after_area<S: Site>(
+pub(crate) fn body_after_area<S: Site, M: Picker<S>>(
     alloc: Global,
     site: &S,
+    memory: &mut M,
     stack: &Stack,
     looked: &mut Looked,
 ) -> Result<Option<Stack>, Stop>
     requires valid { S.valid site.now }
+    requires memory { M.stands memory.old site.now }
     requires fits { Fits (length (S.here site.now).rules.items) (reverse stack.now) }
     ensures comes { Comes (frames_or (reverse stack.now)) result looked.old looked.new
         (body_after_area (S.here site.now) (reverse stack.now)) }
     ensures items { IfOk result
         (λ s. items_of (frames_or (reverse stack.now) s) ≡ items_of (reverse stack.now)) }
+    ensures memory { M.stands memory.new site.now }
 {
     match stack.top_and_below() {
         None => Ok(None),
@@ -130,7 +133,8 @@ pub(crate) fn body_after_area<S: Site>(
             if !is_region_body(site, body) || body.known_end.is_some() {
                 return Ok(None);
             }
-            let frame = searched_if(alloc, site, body, col_here(body.search), looked)?;
+            let from = col_here(body.search);
+            let frame = searched_if(alloc, site, memory, body, from, looked)?;
             Ok(remade(alloc, body, below, frame, None)?)
         }
     }
@@ -161,9 +165,10 @@ fn is_over<S: Site>(site: &S, top: &Frame, below_is: bool) -> bool
 }
 
 /// The top frame over those below it, which have searched.
-fn over_searched<S: Site>(
+fn over_searched<S: Site, M: Picker<S>>(
     alloc: Global,
     site: &S,
+    memory: &mut M,
     c: usize,
     top: &Frame,
     below: &Stack,
@@ -171,6 +176,7 @@ fn over_searched<S: Site>(
     looked: &mut Looked,
 ) -> Result<Anew, Stop>
     requires valid { S.valid site.now }
+    requires memory { M.stands memory.old site.now }
     requires is_item { (top.now.item).0 < length (S.here site.now).rules.items }
     requires room { length below.now < 1000 }
     requires items { items_of (frames_or (reverse below.now) rest.frames)
@@ -180,9 +186,10 @@ fn over_searched<S: Site>(
     ensures items { IfOk result
         (λ a. items_of (frames_or (top.now ∷ reverse below.now) a.frames)
         ≡ items_of (top.now ∷ reverse below.now)) }
+    ensures memory { M.stands memory.new site.now }
 {
     if is_over(site, top, rest.over) {
-        let frame = searched_anew(alloc, site, c, top, looked)?;
+        let frame = searched_anew(alloc, site, memory, c, top, looked)?;
         let frames = remade(alloc, top, below, frame, rest.frames)?;
         Ok(Anew { frames, over: true })
     } else {
@@ -196,47 +203,53 @@ fn over_searched<S: Site>(
 
 /// The frames under one with `extend` that was popped: from the last one with `extend` on, those
 /// with `keepend` and those above such a one search anew, the bottom one first.
-fn anew_over_keepend<S: Site>(
+fn anew_over_keepend<S: Site, M: Picker<S>>(
     alloc: Global,
     site: &S,
+    memory: &mut M,
     c: usize,
     stack: &Stack,
     looked: &mut Looked,
 ) -> Result<Anew, Stop>
     requires valid { S.valid site.now }
+    requires memory { M.stands memory.old site.now }
     requires fits { Fits (length (S.here site.now).rules.items) (reverse stack.now) }
     ensures comes { Comes (anew_or (reverse stack.now)) result looked.old looked.new
         (anew_over_keepend (S.here site.now) c (reverse stack.now)) }
     ensures items { IfOk result
         (λ a. items_of (frames_or (reverse stack.now) a.frames) ≡ items_of (reverse stack.now)) }
+    ensures memory { M.stands memory.new site.now }
 {
     match stack.top_and_below() {
         None => Ok(untouched()),
         Some((top, below)) => {
             if site.item(top.item).extend {
-                return over_searched(alloc, site, c, top, below, untouched(), looked);
+                return over_searched(alloc, site, memory, c, top, below, untouched(), looked);
             }
-            let rest = anew_over_keepend(alloc, site, c, below, looked)?;
-            over_searched(alloc, site, c, top, below, rest, looked)
+            let rest = anew_over_keepend(alloc, site, memory, c, below, looked)?;
+            over_searched(alloc, site, memory, c, top, below, rest, looked)
         }
     }
 }
 
 /// The exposed frame, unless it has searched already, searches anew where it has no `keepend`.
-fn exposed_anew<S: Site>(
+fn exposed_anew<S: Site, M: Picker<S>>(
     alloc: Global,
     site: &S,
+    memory: &mut M,
     c: usize,
     has_searched: bool,
     stack: &Stack,
     looked: &mut Looked,
 ) -> Result<Option<Stack>, Stop>
     requires valid { S.valid site.now }
+    requires memory { M.stands memory.old site.now }
     requires fits { Fits (length (S.here site.now).rules.items) (reverse stack.now) }
     ensures comes { Comes (frames_or (reverse stack.now)) result looked.old looked.new
         (exposed_anew (S.here site.now) c has_searched (reverse stack.now)) }
     ensures items { IfOk result
         (λ s. items_of (frames_or (reverse stack.now) s) ≡ items_of (reverse stack.now)) }
+    ensures memory { M.stands memory.new site.now }
 {
     match stack.top_and_below() {
         None => Ok(None),
@@ -247,37 +260,40 @@ fn exposed_anew<S: Site>(
             if site.item(top.item).keepend {
                 return Ok(None);
             }
-            let frame = searched_anew(alloc, site, c, top, looked)?;
+            let frame = searched_anew(alloc, site, memory, c, top, looked)?;
             Ok(remade(alloc, top, below, frame, None)?)
         }
     }
 }
 
 /// What the frames become from which one was popped; none where they stay.
-pub(crate) fn frames_after<S: Site>(
+pub(crate) fn frames_after<S: Site, M: Picker<S>>(
     alloc: Global,
     site: &S,
+    memory: &mut M,
     c: usize,
     popped: &Frame,
     below: &Stack,
     looked: &mut Looked,
 ) -> Result<Option<Stack>, Stop>
     requires valid { S.valid site.now }
+    requires memory { M.stands memory.old site.now }
     requires is_item { (popped.now.item).0 < length (S.here site.now).rules.items }
     requires fits { Fits (length (S.here site.now).rules.items) (reverse below.now) }
     ensures comes { Comes (frames_or (reverse below.now)) result looked.old looked.new
         (frames_after (S.here site.now) c popped.now (reverse below.now)) }
     ensures items { IfOk result
         (λ s. items_of (frames_or (reverse below.now) s) ≡ items_of (reverse below.now)) }
+    ensures memory { M.stands memory.new site.now }
 {
     if !site.item(popped.item).extend {
-        return exposed_anew(alloc, site, c, false, below, looked);
+        return exposed_anew(alloc, site, memory, c, false, below, looked);
     }
-    let Anew { frames, over } = anew_over_keepend(alloc, site, c, below, looked)?;
+    let Anew { frames, over } = anew_over_keepend(alloc, site, memory, c, below, looked)?;
     match frames {
-        None => exposed_anew(alloc, site, c, over, below, looked),
+        None => exposed_anew(alloc, site, memory, c, over, below, looked),
         Some(frames) => {
-            let exposed = exposed_anew(alloc, site, c, over, &frames, looked)?;
+            let exposed = exposed_anew(alloc, site, memory, c, over, &frames, looked)?;
             Ok(Some(stack_or(frames, exposed)))
         }
     }

@@ -1,14 +1,14 @@
 //! The searches of frames for their ends.
-ghost use Rattle.std.specs.Prelude.{◌≡◌, ◌<◌, IfOk, length, true, max};
+ghost use Rattle.std.specs.Prelude.{◌≡◌, ◌<◌, IfOk, IsTrue, None, length, true, max};
 ghost use Rattle.std.specs.Option.{option_map};
 ghost use Rattle.paint_rules.specs.Rules.{item_of};
 ghost use Rattle.paint_rules.specs.Close.{is_body, is_region, is_region_body, with_end, searched, search_col, searched_if, searched_anew, is_open, at_line_start};
-ghost use Rattle.line_paint.specs.Answers.{Comes, same};
+ghost use Rattle.line_paint.specs.Answers.{Comes};
 ghost use Rattle.line_paint.specs.Frames.{line_end_if, frame_or};
 ghost use Rattle.paint_rules.specs.States.{spot_of};
 
 use crate::spots::spot_of;
-use crate::{Site, Stop};
+use crate::{Picker, Site, Stop};
 use paint_rules::{Part, RegionEnd, Spot};
 use region_ends::EndAnswer;
 use state_stack::Frame;
@@ -89,30 +89,68 @@ fn is_region(kind: &ItemKind) -> bool
     }
 }
 
-/// A frame that searched its end in this line, from a column.
-fn searched<S: Site>(
+/// Whether a search in vain leaves a frame as it is.
+fn stays_open<S: Site>(site: &S, frame: &Frame) -> bool
+    requires { (frame.now.item).0 < length (S.here site.now).rules.items }
+    ensures { IsTrue result → with_end (S.here site.now) frame.now None ≡ frame.now }
+{
+    frame.known_end.is_none()
+        && frame.high_to.is_none()
+        && frame.area_end.is_none()
+        && frame.area_high.is_none()
+        && frame.area_shows.is_none()
+        && !site.item(frame.item).oneline
+}
+
+/// The frame with the end that its search found, or with none; none where it stays as it is. So a
+/// stack in the midst of a long region stays from line to line.
+fn ended_anew<S: Site>(
+    site: &S,
+    frame: &Frame,
+    found: Option<RegionEnd>,
+) -> Result<Option<Frame>, Memory>
+    requires { (frame.now.item).0 < length (S.here site.now).rules.items }
+    ensures { IfOk result
+        (λ f. frame_or frame.now f ≡ with_end (S.here site.now) frame.now found) }
+{
+    if found.is_none() && stays_open(site, frame) {
+        return Ok(None);
+    }
+    let anew = with_end(site, frame, found)?;
+    if frame.same(&anew) {
+        Ok(None)
+    } else {
+        Ok(Some(anew))
+    }
+}
+
+/// A frame that searched its end in this line, from a column; none where it stays.
+fn searched<S: Site, M: Picker<S>>(
     alloc: Global,
     site: &S,
+    memory: &mut M,
     frame: &Frame,
     c: usize,
     looked: &mut Looked,
-) -> Result<Frame, Stop>
+) -> Result<Option<Frame>, Stop>
     requires valid { S.valid site.now }
+    requires memory { M.stands memory.old site.now }
     requires is_item { (frame.now.item).0 < length (S.here site.now).rules.items }
     requires is_region { is_region (item_of (S.here site.now).rules.items frame.now.item).kind
         ≡ true }
-    ensures comes { Comes same result looked.old looked.new
+    ensures comes { Comes (frame_or frame.now) result looked.old looked.new
         (searched (S.here site.now) frame.now c) }
-    ensures item { IfOk result (λ f. f.item ≡ frame.now.item) }
+    ensures item { IfOk result (λ f. (frame_or frame.now f).item ≡ frame.now.item) }
+    ensures memory { M.stands memory.new site.now }
 {
-    match site.find_end(alloc, frame.item, &frame.externals, c)? {
+    match memory.find_end(alloc, site, frame.item, &frame.externals, c)? {
         EndAnswer::Ends(end, seen) => {
             *looked = looked.join(seen);
-            Ok(with_end(site, frame, Some(end))?)
+            Ok(ended_anew(site, frame, Some(end))?)
         }
         EndAnswer::NotHere(seen) => {
             *looked = looked.join(seen);
-            Ok(with_end(site, frame, None)?)
+            Ok(ended_anew(site, frame, None)?)
         }
         EndAnswer::TooCostly => Err(Stop::TooCostly(frame.item)),
     }
@@ -134,60 +172,59 @@ fn search_col(c: usize, search: Spot) -> Option<usize>
 }
 
 /// A frame that searched its end from a column, if there is one.
-pub(crate) fn searched_if<S: Site>(
+pub(crate) fn searched_if<S: Site, M: Picker<S>>(
     alloc: Global,
     site: &S,
+    memory: &mut M,
     frame: &Frame,
     from: Option<usize>,
     looked: &mut Looked,
 ) -> Result<Option<Frame>, Stop>
     requires valid { S.valid site.now }
+    requires memory { M.stands memory.old site.now }
     requires is_item { (frame.now.item).0 < length (S.here site.now).rules.items }
     requires is_region { is_region (item_of (S.here site.now).rules.items frame.now.item).kind
         ≡ true }
     ensures comes { Comes (frame_or frame.now) result looked.old looked.new
         (searched_if (S.here site.now) frame.now from) }
     ensures item { IfOk result (λ f. (frame_or frame.now f).item ≡ frame.now.item) }
+    ensures memory { M.stands memory.new site.now }
 {
     match from {
         None => Ok(None),
-        Some(c) => {
-            let searched = searched(alloc, site, frame, c, looked)?;
-            Ok(Some(searched))
-        }
+        Some(c) => searched(alloc, site, memory, frame, c, looked),
     }
 }
 
 /// The frame that a region body becomes where it searches anew from a column, or none where it
 /// stays.
-pub(crate) fn searched_anew<S: Site>(
+pub(crate) fn searched_anew<S: Site, M: Picker<S>>(
     alloc: Global,
     site: &S,
+    memory: &mut M,
     c: usize,
     frame: &Frame,
     looked: &mut Looked,
 ) -> Result<Option<Frame>, Stop>
     requires valid { S.valid site.now }
+    requires memory { M.stands memory.old site.now }
     requires is_item { (frame.now.item).0 < length (S.here site.now).rules.items }
     ensures comes { Comes (frame_or frame.now) result looked.old looked.new
         (searched_anew (S.here site.now) c frame.now) }
     ensures item { IfOk result (λ f. (frame_or frame.now f).item ≡ frame.now.item) }
+    ensures memory { M.stands memory.new site.now }
 {
     if is_region_body(site, frame) {
-        searched_if(alloc, site, frame, search_col(c, frame.search), looked)
+        searched_if(
+            alloc,
+            site,
+            memory,
+            frame,
+            search_col(c, frame.search),
+            looked,
+        )
     } else {
         Ok(None)
-    }
-}
-
-/// A frame that was made anew, unless it is the same as before: so a stack in the midst of a long
-/// region stays as it is from line to line.
-fn unless_same(frame: &Frame, anew: Option<Frame>) -> Option<Frame>
-    ensures { frame_or frame.now result ≡ frame_or frame.now anew }
-{
-    match anew {
-        None => None,
-        Some(anew) => if frame.same(&anew) { None } else { Some(anew) },
     }
 }
 
@@ -202,21 +239,23 @@ fn is_open(end: Option<Spot>) -> bool
 }
 
 /// The frame that searches at the start of a line, if its end lies before it or isn't known.
-pub(crate) fn at_line_start<S: Site>(
+pub(crate) fn at_line_start<S: Site, M: Picker<S>>(
     alloc: Global,
     site: &S,
+    memory: &mut M,
     frame: &Frame,
     looked: &mut Looked,
 ) -> Result<Option<Frame>, Stop>
     requires valid { S.valid site.now }
+    requires memory { M.stands memory.old site.now }
     requires is_item { (frame.now.item).0 < length (S.here site.now).rules.items }
     ensures comes { Comes (frame_or frame.now) result looked.old looked.new
         (at_line_start (S.here site.now) frame.now) }
     ensures item { IfOk result (λ f. (frame_or frame.now f).item ≡ frame.now.item) }
+    ensures memory { M.stands memory.new site.now }
 {
     if is_open(frame.known_end) {
-        let searched = searched_anew(alloc, site, 0, frame, looked)?;
-        Ok(unless_same(frame, searched))
+        searched_anew(alloc, site, memory, 0, frame, looked)
     } else {
         Ok(None)
     }

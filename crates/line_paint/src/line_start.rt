@@ -10,15 +10,16 @@ ghost use Rattle.line_paint.specs.Standing.{frames_or, items_of};
 
 use crate::ends::at_line_start;
 use crate::frames::remade;
-use crate::{Site, Stop};
+use crate::{Picker, Site, Stop};
 use state_stack::{Frame, Stack};
 use std::alloc::Global;
 use syn_base::Looked;
 
 /// The top frame searches, if it is to, once those below it have.
-fn top_searched<S: Site>(
+fn top_searched<S: Site, M: Picker<S>>(
     alloc: Global,
     site: &S,
+    memory: &mut M,
     top: &Frame,
     below: &Stack,
     rest: Option<Stack>,
@@ -26,6 +27,7 @@ fn top_searched<S: Site>(
     looked: &mut Looked,
 ) -> Result<Option<Stack>, Stop>
     requires valid { S.valid site.now }
+    requires memory { M.stands memory.old site.now }
     requires is_item { (top.now.item).0 < length (S.here site.now).rules.items }
     requires room { length below.now < 1000 }
     requires items { items_of (frames_or (reverse below.now) rest) ≡ items_of (reverse below.now) }
@@ -34,9 +36,10 @@ fn top_searched<S: Site>(
     ensures items { IfOk result
         (λ s. items_of (frames_or (top.now ∷ reverse below.now) s)
         ≡ items_of (top.now ∷ reverse below.now)) }
+    ensures memory { M.stands memory.new site.now }
 {
     let frame = if searches {
-        at_line_start(alloc, site, top, looked)?
+        at_line_start(alloc, site, memory, top, looked)?
     } else {
         None
     };
@@ -44,54 +47,60 @@ fn top_searched<S: Site>(
 }
 
 /// What the frames below the top become, the bottom one first; none where all stay.
-fn below_at_line_start<S: Site>(
+fn below_at_line_start<S: Site, M: Picker<S>>(
     alloc: Global,
     site: &S,
+    memory: &mut M,
     stack: &Stack,
     looked: &mut Looked,
 ) -> Result<Option<Stack>, Stop>
     requires valid { S.valid site.now }
+    requires memory { M.stands memory.old site.now }
     requires fits { Fits (length (S.here site.now).rules.items) (reverse stack.now) }
     ensures comes { Comes (frames_or (reverse stack.now)) result looked.old looked.new
         (below_at_line_start (S.here site.now) (reverse stack.now)) }
     ensures items { IfOk result
         (λ s. items_of (frames_or (reverse stack.now) s) ≡ items_of (reverse stack.now)) }
+    ensures memory { M.stands memory.new site.now }
 {
     match stack.top_and_below() {
         None => Ok(None),
         Some((top, below)) => {
             let item = site.item(top.item);
             if item.extend {
-                return top_searched(alloc, site, top, below, None, item.keepend, looked);
+                return top_searched(alloc, site, memory, top, below, None, item.keepend, looked);
             }
-            let rest = below_at_line_start(alloc, site, below, looked)?;
-            top_searched(alloc, site, top, below, rest, item.keepend, looked)
+            let rest = below_at_line_start(alloc, site, memory, below, looked)?;
+            top_searched(alloc, site, memory, top, below, rest, item.keepend, looked)
         }
     }
 }
 
 /// What a stack becomes at the start of a line; none where it stays.
-pub(crate) fn line_start<S: Site>(
+pub(crate) fn line_start<S: Site, M: Picker<S>>(
     alloc: Global,
     site: &S,
+    memory: &mut M,
     stack: &Stack,
     looked: &mut Looked,
 ) -> Result<Option<Stack>, Stop>
     requires valid { S.valid site.now }
+    requires memory { M.stands memory.old site.now }
     requires fits { Fits (length (S.here site.now).rules.items) (reverse stack.now) }
     ensures comes { Comes (frames_or (reverse stack.now)) result looked.old looked.new
         (line_start (S.here site.now) (reverse stack.now)) }
     ensures items { IfOk result
         (λ s. items_of (frames_or (reverse stack.now) s) ≡ items_of (reverse stack.now)) }
+    ensures memory { M.stands memory.new site.now }
 {
     match stack.top_and_below() {
         None => Ok(None),
         Some((top, below)) => {
             if site.item(top.item).extend {
-                return top_searched(alloc, site, top, below, None, true, looked);
+                return top_searched(alloc, site, memory, top, below, None, true, looked);
             }
-            let rest = below_at_line_start(alloc, site, below, looked)?;
-            top_searched(alloc, site, top, below, rest, true, looked)
+            let rest = below_at_line_start(alloc, site, memory, below, looked)?;
+            top_searched(alloc, site, memory, top, below, rest, true, looked)
         }
     }
 }

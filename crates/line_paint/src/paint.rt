@@ -180,19 +180,22 @@ fn last_column<S: Site, M: Picker<S>>(
 }
 
 /// The stack at the start of a line.
-fn first_stack<S: Site>(
+fn first_stack<S: Site, M: Picker<S>>(
     alloc: Global,
     site: &S,
+    memory: &mut M,
     stack: &Stack,
     looked: &mut Looked,
 ) -> Result<Stack, PaintError>
     requires valid { S.valid site.now }
+    requires memory { M.stands memory.old site.now }
     requires fits { Fits (length (S.here site.now).rules.items) (reverse stack.now) }
     ensures begins { Begins result looked.old looked.new
         (line_start (S.here site.now) (reverse stack.now)) }
     ensures fits { IfOk result (λ s. Fits (length (S.here site.now).rules.items) (reverse s)) }
+    ensures memory { M.stands memory.new site.now }
 {
-    match line_start(alloc, site, stack, looked) {
+    match line_start(alloc, site, memory, stack, looked) {
         Ok(None) => Ok(stack.copy()?),
         Ok(Some(anew)) => Ok(anew),
         Err(stop) => Err(at(stop, 0)),
@@ -225,7 +228,7 @@ pub(crate) fn painted_by<S: Site, M: Picker<S>>(
     ensures memory { M.stands memory.new site.now }
 {
     let mut looked = own_line(site);
-    let stack = first_stack(alloc, site, &before.stack, &mut looked)?;
+    let stack = first_stack(alloc, site, memory, &before.stack, &mut looked)?;
     let mut standing = Standing {
         state: State {
             stack,

@@ -19,7 +19,7 @@ use crate::{LineNote, PaintError};
 use item_pick::{Parts, PickMemory};
 use paint_rules::Which;
 use pattern_match::Match;
-use region_ends::{EndAnswer, find_end, offset_place};
+use region_ends::offset_place;
 use state_stack::State;
 use std::alloc::Global;
 use std::marker::Model;
@@ -98,31 +98,6 @@ impl<T: Lines> Site for Painting<'_, T> {
 
     fn offset_place(&self, m: &Match, pattern: &Pattern, which: Which) -> Place {
         offset_place(self.lines, m, pattern, which)
-    }
-
-    fn find_end(
-        &self,
-        alloc: Global,
-        region: ItemId,
-        externals: &Externals,
-        c: usize,
-    ) -> Result<EndAnswer, Memory> {
-        let from = Place {
-            line: self.line as usize,
-            col: c,
-        };
-        let parts = self.parts;
-        find_end(
-            alloc,
-            parts.items,
-            parts.programs,
-            parts.sets,
-            self.lines,
-            region,
-            externals,
-            from,
-            self.budget,
-        )
     }
 }
 

@@ -1,7 +1,10 @@
-//! What starts at a place, by a memory that outlives a line.
-ghost use Rattle.std.specs.Prelude.{◌≡◌, ◌<◌, ◌≤◌, ℕ, Bool, [], length, reverse, IfOk, pos, Some};
+//! What starts at a place, and where regions end, by a memory that outlives a line.
+ghost use Rattle.std.specs.Prelude.{◌≡◌, ◌<◌, ◌≤◌, ℕ, Bool, [], length, reverse, IfOk, pos, true, Some};
 ghost use Rattle.syn_base.specs.Looked.{one_line};
-ghost use Rattle.paint_rules.specs.Rules.{this_line};
+ghost use Rattle.paint_rules.specs.Rules.{item_of, place_at, this_line};
+ghost use Rattle.paint_rules.specs.Close.{is_region};
+ghost use Rattle.paint_rules.specs.EndInLine.{end_in_line, search_from};
+ghost use Rattle.region_ends.specs.Searches.{IsEnd};
 ghost use Rattle.paint_rules.specs.Painted.{looked_first};
 ghost use Rattle.paint_rules.specs.Pick.{picked};
 ghost use Rattle.item_pick.specs.Picks.{IsPicked};
@@ -12,12 +15,13 @@ ghost use Rattle.paint_rules.specs.States.{StateFits};
 
 use crate::Site;
 use item_pick::Picked;
+use region_ends::EndAnswer;
 use state_stack::State;
 use std::alloc::Global;
-use syn_base::{ItemId, List, Looked, Memory};
+use syn_base::{Externals, ItemId, List, Looked, Memory};
 
-/// What starts at a place of a line, told by a memory that outlives the line. It is handed the lines
-/// that were looked at so far, and adds those that it looks at.
+/// What starts at a place of a line, and where regions end, told by a memory that outlives the line. It
+/// is handed the lines that were looked at so far, and adds those that it looks at.
 pub(crate) trait Picker<S: Site> {
     /// Whether what it remembers is true of a line.
     ghost stands: { Self → S → Type 0 };
@@ -80,4 +84,23 @@ pub(crate) trait Picker<S: Site> {
             })) }
         ensures from { IfOk result (λ to. c ≤ to) }
         ensures to { IfOk result (λ to. to ≤ length (this_line (S.here site.now))) };
+
+    /// The end of a region in the line, sought from a column on.
+    fn find_end(
+        &mut self,
+        alloc: Global,
+        site: &S,
+        region: ItemId,
+        externals: &Externals,
+        c: usize,
+    ) -> Result<EndAnswer, Memory>
+        requires valid { S.valid site.now }
+        requires memory { stands self.old site.now }
+        requires is_item { region.0 < length (S.here site.now).rules.items }
+        requires is_region { is_region (item_of (S.here site.now).rules.items region).kind ≡ true }
+        ensures memory { stands self.new site.now }
+        ensures end { IfOk result
+            (λ a. IsEnd a region (end_in_line
+            (search_from (S.here site.now) region externals.now
+            (place_at (S.here site.now).line c)))) };
 }

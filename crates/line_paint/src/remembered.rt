@@ -1,12 +1,13 @@
-//! What starts in a line, by what is kept of the syntax.
+//! What starts and ends in a line, by what is kept of the syntax.
 use crate::painting::Painting;
 use crate::picker::Picker;
 use crate::site::Site;
 use crate::staying::closes_from;
-use item_pick::{PickMemory, Picked, pick_with, quiet_until};
+use item_pick::{PickMemory, Picked, end_with, pick_with, quiet_until};
+use region_ends::EndAnswer;
 use state_stack::State;
 use std::alloc::Global;
-use syn_base::{ItemId, Lines, List, Looked, Memory, Place};
+use syn_base::{Externals, ItemId, Lines, List, Looked, Memory, Place};
 
 impl<T: Lines> Picker<Painting<'_, T>> for PickMemory {
     ghost use Rattle.item_pick.specs.PartsSeen.{rules_in};
@@ -78,5 +79,30 @@ impl<T: Lines> Picker<Painting<'_, T>> for PickMemory {
             site.budget,
         )?;
         Ok(closes.min(starts))
+    }
+
+    fn find_end(
+        &mut self,
+        alloc: Global,
+        site: &Painting<'_, T>,
+        region: ItemId,
+        externals: &Externals,
+        c: usize,
+    ) -> Result<EndAnswer, Memory> {
+        let from = Place {
+            line: site.line as usize,
+            col: c,
+        };
+        end_with(
+            alloc,
+            site.parts,
+            site.lines,
+            region,
+            externals,
+            site.no_externals(),
+            from,
+            self,
+            site.budget,
+        )
     }
 }

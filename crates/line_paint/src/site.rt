@@ -1,20 +1,16 @@
 //! The line that is painted, and what the painter asks about it.
-ghost use Rattle.std.specs.Prelude.{◌≡◌, ◌<◌, ◌^◌, length, IfOk, true};
-ghost use Rattle.paint_rules.specs.Rules.{Here, this_line, item_of, no_externals, place_at};
+ghost use Rattle.std.specs.Prelude.{◌≡◌, ◌<◌, ◌^◌, length};
+ghost use Rattle.paint_rules.specs.Rules.{Here, this_line, item_of, no_externals};
 ghost use Rattle.paint_rules.specs.Offsets.{offset_place};
-ghost use Rattle.paint_rules.specs.EndInLine.{search_from, end_in_line};
-ghost use Rattle.paint_rules.specs.Close.{is_region};
-ghost use Rattle.region_ends.specs.Searches.{IsEnd};
 
 use paint_rules::Which;
 use pattern_match::Match;
-use region_ends::{EndAnswer, item_of};
-use std::alloc::Global;
+use region_ends::item_of;
 use std::rc::Rc;
-use syn_base::{Externals, ItemId, Memory, Place};
+use syn_base::{Externals, ItemId, Place};
 use syntax_set::{Item, ItemSet, Pattern};
 
-/// The line that is painted: where it stands, its items, and the search for ends.
+/// The line that is painted: where it stands, and its items.
 pub(crate) trait Site {
     /// The rules, the text, and the number of the line.
     ghost here: { Self → Here };
@@ -45,19 +41,4 @@ pub(crate) trait Site {
 
     fn offset_place(&self, m: &Match, pattern: &Pattern, which: Which) -> Place
         ensures { result ≡ offset_place (here self.now).text m.now pattern.now which };
-
-    fn find_end(
-        &self,
-        alloc: Global,
-        region: ItemId,
-        externals: &Externals,
-        c: usize,
-    ) -> Result<EndAnswer, Memory>
-        requires valid { valid self.now }
-        requires is_item { region.0 < length (here self.now).rules.items }
-        requires is_region { is_region (item_of (here self.now).rules.items region).kind ≡ true }
-        ensures { IfOk result
-            (λ a. IsEnd a region (end_in_line
-            (search_from (here self.now) region externals.now
-            (place_at (here self.now).line c)))) };
 }

@@ -9,7 +9,7 @@ ghost use Rattle.line_paint.specs.Standing.{items_of};
 use crate::closing::{
     Closing, area_on, body_after_area, closing_of, container_goes_on, frames_after, waiting_after,
 };
-use crate::{Site, Stop};
+use crate::{Picker, Site, Stop};
 use paint_rules::Spot;
 use state_stack::{Frame, Stack, State};
 use std::alloc::Global;
@@ -28,41 +28,47 @@ pub(crate) struct Standing {
 }
 
 /// The stack under a start area that was popped.
-fn under_area<S: Site>(
+fn under_area<S: Site, M: Picker<S>>(
     alloc: Global,
     site: &S,
+    memory: &mut M,
     below: &Stack,
     looked: &mut Looked,
 ) -> Result<Stack, Stop>
     requires valid { S.valid site.now }
+    requires memory { M.stands memory.old site.now }
     requires fits { Fits (length (S.here site.now).rules.items) (reverse below.now) }
     ensures comes { Comes reverse result looked.old looked.new
         (body_after_area (S.here site.now) (reverse below.now)) }
     ensures items { IfOk result (λ s. items_of (reverse s) ≡ items_of (reverse below.now)) }
+    ensures memory { M.stands memory.new site.now }
 {
-    match body_after_area(alloc, site, below, looked)? {
+    match body_after_area(alloc, site, memory, below, looked)? {
         None => Ok(below.copy()?),
         Some(stack) => Ok(stack),
     }
 }
 
 /// The stack under another frame that was popped.
-fn under_popped<S: Site>(
+fn under_popped<S: Site, M: Picker<S>>(
     alloc: Global,
     site: &S,
+    memory: &mut M,
     c: usize,
     popped: &Frame,
     below: &Stack,
     looked: &mut Looked,
 ) -> Result<Stack, Stop>
     requires valid { S.valid site.now }
+    requires memory { M.stands memory.old site.now }
     requires is_item { (popped.now.item).0 < length (S.here site.now).rules.items }
     requires fits { Fits (length (S.here site.now).rules.items) (reverse below.now) }
     ensures comes { Comes reverse result looked.old looked.new
         (frames_after (S.here site.now) c popped.now (reverse below.now)) }
     ensures items { IfOk result (λ s. items_of (reverse s) ≡ items_of (reverse below.now)) }
+    ensures memory { M.stands memory.new site.now }
 {
-    match frames_after(alloc, site, c, popped, below, looked)? {
+    match frames_after(alloc, site, memory, c, popped, below, looked)? {
         None => Ok(below.copy()?),
         Some(stack) => Ok(stack),
     }
@@ -70,13 +76,21 @@ fn under_popped<S: Site>(
 
 impl Standing {
     /// One step of closing; false where the top frame stays.
-    fn close_once<S: Site>(&mut self, alloc: Global, site: &S, c: usize) -> Result<bool, Stop>
+    fn close_once<S: Site, M: Picker<S>>(
+        &mut self,
+        alloc: Global,
+        site: &S,
+        memory: &mut M,
+        c: usize,
+    ) -> Result<bool, Stop>
         requires valid { S.valid site.now }
+        requires memory { M.stands memory.old site.now }
         requires stands { Stands (length (S.here site.now).rules.items) c self.old }
         ensures leads { LeadsOn result self.old self.new
             (close_once (S.here site.now) c (standing_of self.old) (reverse self.old.state.stack)) }
         ensures stands { IfOk result
             (λ _. Stands (length (S.here site.now).rules.items) c self.new) }
+        ensures memory { M.stands memory.new site.now }
     {
         if self.is_over {
             return Ok(false);
@@ -93,14 +107,14 @@ impl Standing {
                     Ok(true)
                 }
                 Closing::LeavesArea => {
-                    let stack = under_area(alloc, site, below, &mut self.looked)?;
+                    let stack = under_area(alloc, site, memory, below, &mut self.looked)?;
                     self.state.stack = stack;
                     self.state.waiting = None;
                     self.floor = c;
                     Ok(true)
                 }
                 Closing::Leaves => {
-                    let stack = under_popped(alloc, site, c, top, below, &mut self.looked)?;
+                    let stack = under_popped(alloc, site, memory, c, top, below, &mut self.looked)?;
                     let waiting = waiting_after(site, c, top.item);
                     let is_over = container_goes_on(site, c, top, below);
                     self.state.stack = stack;
@@ -114,19 +128,27 @@ impl Standing {
     }
 
     /// Closes all that ends at a place.
-    pub(crate) fn close<S: Site>(&mut self, alloc: Global, site: &S, c: usize) -> Result<(), Stop>
+    pub(crate) fn close<S: Site, M: Picker<S>>(
+        &mut self,
+        alloc: Global,
+        site: &S,
+        memory: &mut M,
+        c: usize,
+    ) -> Result<(), Stop>
         requires valid { S.valid site.now }
+        requires memory { M.stands memory.old site.now }
         requires stands { Stands (length (S.here site.now).rules.items) c self.old }
         ensures leads { Leads result self.old self.new
             (closed (S.here site.now) c (standing_of self.old)) }
         ensures stands { IfOk result
             (λ _. Stands (length (S.here site.now).rules.items) c self.new) }
+        ensures memory { M.stands memory.new site.now }
     {
         let len = self.state.stack.len();
         let mut left = len + len;
         'steps: while left > 0 {
             left -= 1;
-            match self.close_once(alloc, site, c) {
+            match self.close_once(alloc, site, memory, c) {
                 Ok(true) => {}
                 Ok(false) => return Ok(()),
                 Err(stop) => return Err(stop),

@@ -83,7 +83,7 @@ impl Standing {
         ensures stands { IfOk result
             (λ _. Stands (length (S.here site.now).rules.items) c self.new) }
     {
-        match self.close(alloc, site, c) {
+        match self.close(alloc, site, memory, c) {
             Ok(()) => self.start_next(alloc, site, memory, c),
             Err(stop) => Err(stop),
         }

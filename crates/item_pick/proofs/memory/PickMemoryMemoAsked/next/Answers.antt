@@ -1,6 +1,7 @@
-use Rattle.std.proofs.Common.{arith, refl}
+use Rattle.std.proofs.Common.{arith, refl, subst, sym}
 use Rattle.item_pick.specs.PartsSeen.{rules_in}
 use Rattle.item_pick.specs.Screened.{futile_by}
+use Rattle.region_ends.specs.EndMemo.{EndMemoStands}
 use Rattle.item_pick.proofs.TableLaws.{later_by, run_goes_on, still_stands}
 use Rattle.item_pick.proofs.memory.PickMemoryMemoAsked.next.Goals as goal
 
@@ -19,7 +20,8 @@ returns-in_err-keep-clause-stands g c =
     record {
       tables = record { rows = kept.tables.rows; vains = kept.tables.vains; anchors = kept.tables.anchors };
       keys = kept.keys;
-      runs = c.keep.ensures r t l kept.runs longer;
+      runs = c.keep.ensures.list r t l kept.runs longer;
+      ends = subst (λ ends. EndMemoStands r.items r.sets r.budget t l ends) (sym c.keep.ensures.ends) kept.ends;
     }
 
 pub returns-clause-stands : goal.returns-clause-stands
@@ -37,7 +39,8 @@ returns-clause-stands g c =
     record {
       tables = record { rows = kept.tables.rows; vains = kept.tables.vains; anchors = kept.tables.anchors };
       keys = kept.keys;
-      runs = c.keep.ensures r t l kept.runs longer;
+      runs = c.keep.ensures.list r t l kept.runs longer;
+      ends = subst (λ ends. EndMemoStands r.items r.sets r.budget t l ends) (sym c.keep.ensures.ends) kept.ends;
     }
 
 pub returns-clause-next : goal.returns-clause-next

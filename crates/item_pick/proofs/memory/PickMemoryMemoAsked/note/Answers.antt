@@ -1,5 +1,6 @@
-use Rattle.std.proofs.Common.{arith}
+use Rattle.std.proofs.Common.{arith, subst, sym}
 use Rattle.item_pick.specs.PartsSeen.{rules_in}
+use Rattle.region_ends.specs.EndMemo.{EndMemoStands}
 use Rattle.item_pick.proofs.TableLaws.{run_and}
 use Rattle.item_pick.proofs.memory.PickMemoryMemoAsked.note.Goals as goal
 
@@ -15,9 +16,10 @@ returns g c =
     record {
       tables = record { rows = stands.tables.rows; vains = stands.tables.vains; anchors = stands.tables.anchors };
       keys = stands.keys;
-      runs = c.keep.ensures r t l stands.runs
+      runs = c.keep.ensures.list r t l stands.runs
           (run_and r t l c.args.id c.args.pattern.now first run c.args.col c.args.places.first c.args.places.end
           c.run_at-run.ensures.tells.same (c.run_at-run.ensures.stands t l stands) (omega (arith, c.if-run-col.false)) c.args.lines c.join.result c.join.ensures c.requires.settled
           c.both-places.result.first c.both-places.result.end
           c.both-places.ensures.first.0 c.both-places.ensures.first.1 c.both-places.ensures.end.0 c.both-places.ensures.end.1);
+      ends = subst (λ ends. EndMemoStands r.items r.sets r.budget t l ends) (sym c.keep.ensures.ends) stands.ends;
     }

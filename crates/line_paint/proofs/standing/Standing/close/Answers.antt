@@ -8,6 +8,7 @@ steps-preserved g c = record {
       c.steps.invariant.whole _ (standing_of c.close_once.new.self)
       (rw c.in-Ok-true.field-0-test at c.in-Ok-true.ensures.leads);
   stands = c.in-Ok-true.ensures.stands;
+  memory = c.close_once.ensures.memory;
 }
 
 pub returns-in-Ok-false-clause-leads : goal.returns-in-Ok-false-clause-leads
