@@ -100,6 +100,7 @@ impl<T: Copy> Ways<T> {
     }
 
     /// Begins with one way again, in the memory that there is.
+    #[inline(always)]
     pub(crate) fn begin(&mut self, at: Place)
         ensures { self.new ≡ record {
           here = record { todo = []; way = way_from at };
@@ -223,6 +224,7 @@ impl<T: Copy> Ways<T> {
     }
 
     /// Takes up the next pending way in place of the present one, if there is one.
+    #[inline(always)]
     pub(crate) fn take_up(&mut self) -> bool
         ensures none { IsFalse result → (self.old.pending ≡ []) × (self.new ≡ self.old) }
         ensures next { IsTrue result → self.old.pending ≡ self.new.here ∷ self.new.pending }
@@ -410,6 +412,7 @@ fn ways_counted(pending: &[Pending]) -> usize
 }
 
 /// Takes the next way from the entries, and answers the entry that it was in.
+#[inline(always)]
 fn take_next(pending: &mut Vec<Pending>) -> Option<Pending>
     ensures { MatchOption result ((pending.old.items ≡ []) × (pending.new ≡ pending.old))
         (λ next. (older : List AnyPending) × (pending.old.items ≡ older ++ next ∷ []) ×
