@@ -18,10 +18,12 @@ pub returns-in_err-note-clause-stands : goal.returns-in_err-note-clause-stands
 returns-in_err-note-clause-stands c r tables row = record {
   rows = subst (λ rows. All (RowStands r) rows.items) (sym c.note.ensures.rows) tables.rows;
   vains = subst (λ vains. All (VainStands r) vains.list.items) (sym c.note.ensures.vains) tables.vains;
+  anchors = subst (λ anchors. All (AnchorStands r) anchors.list.items) (sym c.note.ensures.anchors) tables.anchors;
 }
 
 pub returns-in_err-push-clause-stands : goal.returns-in_err-push-clause-stands
 returns-in_err-push-clause-stands c r tables row = record {
   rows = subst (All (RowStands r)) (sym c.in_err-push.ensures.items) (subst (λ rows. All (RowStands r) rows.items) (sym c.note.ensures.rows) tables.rows);
   vains = subst (λ vains. All (VainStands r) vains.list.items) (sym c.note.ensures.vains) tables.vains;
+  anchors = subst (λ anchors. All (AnchorStands r) anchors.list.items) (sym c.note.ensures.anchors) tables.anchors;
 }
