@@ -35,7 +35,15 @@ impl Standing {
         ensures stands { IfOk result
             (λ _. Stands (length (S.here site.now).rules.items) c self.new) }
     {
-        match memory.pick(alloc, site, c, &self.state, self.floor, &self.tried, self.looked)? {
+        match memory.pick(
+            alloc,
+            site,
+            c,
+            &self.state,
+            self.floor,
+            &self.tried,
+            self.looked,
+        )? {
             Picked::Start(starting, looked) => {
                 self.looked = looked;
                 match self.start(alloc, site, c, starting) {
