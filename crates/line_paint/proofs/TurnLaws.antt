@@ -19,7 +19,7 @@ use Rattle.line_paint.specs.Answers.{Stops}
 use Rattle.line_paint.specs.Leads.{Stands, standing_of}
 use Rattle.paint_rules.specs.States.{Fits, WaitFits}
 use Rattle.line_paint.specs.Turns.{Next, More, Last, after_pick, next_start, turn, Held, LeadsNext}
-use Rattle.paint_rules.proofs.PaintedLaws.{hull_assoc, first_first, first_none, first_bind, bind_assoc, goes_on, refusal_first}
+use Rattle.paint_rules.proofs.PaintedLaws.{hull_assoc, first_none, first_bind, bind_assoc, goes_on, refusal_first}
 use Rattle.line_paint.proofs.ComesLaws.{stops_bind, stops_then, stops_whole}
 
 pub two_stand : {A : Type 0} (n c : ℕ) (r : Result A Stop) (from to : StandingCode) (i : ItemId)
