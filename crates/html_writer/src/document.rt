@@ -25,7 +25,8 @@ pub fn page<P: Lines + Colours>(
     requires as_many { length (P.coloured painting.now) ≡ length (P.lines painting.now) }
     requires fit { FitLines (P.lines painting.now) (P.coloured painting.now) }
     ensures { IfOk result (λ bytes. bytes
-        ≡ page_text title.now (P.lines painting.now) (P.coloured painting.now) groups.now links.now options) }
+        ≡ page_text title.now (P.lines painting.now) (P.coloured painting.now)
+        groups.now links.now options) }
 {
     let shown = shown_groups(alloc, painting, links)?;
     let mut page = Vec::new(alloc);

@@ -25,7 +25,8 @@ pub(crate) fn push_lines<P: Lines + Colours>(
     requires fit { FitLines (P.lines painting.now) (P.coloured painting.now) }
     ensures { let lines = P.lines painting.now in
         OnOk result (page.new.items ≡ page.old.items
-        ++ lines_text groups.now links.now options (length (decimal (length lines))) 1 lines (P.coloured painting.now)) }
+        ++ lines_text groups.now links.now options
+        (length (decimal (length lines))) 1 lines (P.coloured painting.now)) }
 {
     let width = width_of(painting.len());
     for line in 0..painting.len() {

@@ -205,7 +205,8 @@ impl<T: Lines> Picking<'_, T, Asked<'_>> {
         requires held { HoldsLine looked self.now.at.line }
         requires valid { IsSound self.now.syntax.now }
         requires place { IsPlace (T.lines self.now.lines.now) self.now.at }
-        requires frames { Fits (length self.now.syntax.now.parts.now.items.now) (reverse stack.now) }
+        requires frames { Fits (length self.now.syntax.now.parts.now.items.now)
+            (reverse stack.now) }
         requires memory { MemoryStands
             (rules_in self.now.syntax.now.parts.now self.now.syntax.now.budget)
             (T.lines self.now.lines.now) self.now.at.line memory.old }

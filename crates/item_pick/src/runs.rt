@@ -166,7 +166,8 @@ impl Runs {
     /// The run of an item that holds a column or ends there, and tells of a place.
     pub(crate) fn known(&self, item: ItemId, col: usize, at: usize) -> Option<Run>
         ensures tells { IfSome result (TellsOf item col at) }
-        ensures stands { (r : Rules) (t : Text) (l : ℕ) → All (RunStands r t l) self.now.list.items →
+        ensures stands { (r : Rules) (t : Text) (l : ℕ) →
+            All (RunStands r t l) self.now.list.items →
             IfSome result (RunStands r t l) }
     {
         let run = *self.list.get(item.0 as usize)?;

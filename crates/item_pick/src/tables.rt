@@ -164,7 +164,8 @@ impl Asked<'_> {
     fn narrowed(&self, alloc: Global, all: &Row, number: u16) -> Result<Vec<u32>, Memory>
         requires number { all.now.number ≡ 777 }
         requires stands { RowStands (rules_in self.now.parts.now self.now.budget) all.now }
-        ensures lists { IfOk result (λ list. ListStands (rules_in self.now.parts.now self.now.budget)
+        ensures lists { IfOk result
+            (λ list. ListStands (rules_in self.now.parts.now self.now.budget)
             all.now.choice number list.items) }
         ensures rises { IfOk result (λ list. IsNonDecreasing list.items) }
     {

@@ -59,7 +59,8 @@ pub(crate) struct Stretch {
 fn next_change(c: usize, spot: Spot) -> usize
     requires { c < 2 ^ 64 - 1 }
     ensures behind { c < result }
-    ensures same { (d : ℕ) → c ≤ d → d < result → is_before (At 0 d) spot ≡ is_before (At 0 c) spot }
+    ensures same { (d : ℕ) → c ≤ d → d < result →
+        is_before (At 0 d) spot ≡ is_before (At 0 c) spot }
 {
     match spot {
         Spot::At { ahead: 0, col } if c < col => col,

@@ -74,6 +74,7 @@ pub(crate) fn follow_both<'p, T: Lines>(
 
 /// Follows the one part or the other (`/\|`). Where the first atom of the one doesn't fit, that is its
 /// one tick, and no way is put aside.
+#[inline(always)]
 pub(crate) fn follow_either<'p, T: Lines>(
     lines: &T,
     context: &Context<'_>,

@@ -114,6 +114,7 @@ pub(crate) fn turn<'p, T: Lines>(
 
 /// Makes the turns of a count that are left: the next one, with the stop behind it where the count
 /// may stop; a lazy count stops first.
+#[inline(always)]
 pub(crate) fn count<'p, T: Lines>(
     lines: &T,
     context: &Context<'_>,

@@ -50,7 +50,11 @@ impl<'a> Model for CheckWords<'a> {
 
     ghost Value = { given.CheckWords };
 
-    ghost view = { λ w. record { syntax = w.syntax.now; folder = w.folder.now; assume_fromstart = w.assume_fromstart } };
+    ghost view = { λ w. record {
+      syntax = w.syntax.now;
+      folder = w.folder.now;
+      assume_fromstart = w.assume_fromstart;
+    } };
 }
 
 /// What is painted: the syntax, the name of the text file, and the most ticks of one attempt, which are
@@ -109,7 +113,8 @@ impl Model for LargeWords {
 
     ghost view = { λ w. record { seed = w.seed; lines = w.lines; budget = w.budget } };
 
-    ghost invariant = { λ w. (w.seed ≤ 4294967295) × (1 ≤ w.lines) × (w.lines ≤ 100000) × (1 ≤ w.budget) };
+    ghost invariant = { λ w. (w.seed ≤ 4294967295) × (1 ≤ w.lines) ×
+        (w.lines ≤ 100000) × (1 ≤ w.budget) };
 }
 
 impl<'a> Asked<'a> {
@@ -135,7 +140,8 @@ impl<'a> Asked<'a> {
 impl<'a> Printing<'a> {
     /// What this command with these words behind it asks.
     fn read(command: &str, front: &'a [String], rest: &'a [String]) -> Option<Printing<'a>>
-        ensures { result ≡ printing_with command.now (options_said (texts_of front.now)) (names_in (texts_of rest.now)) }
+        ensures { result ≡ printing_with command.now (options_said (texts_of front.now))
+            (names_in (texts_of rest.now)) }
     {
         if command == "check" {
             return Some(Printing::Check(CheckWords::read(front, rest)?));
@@ -153,7 +159,8 @@ impl<'a> Printing<'a> {
 impl<'a> CheckWords<'a> {
     /// What the words behind `check` ask.
     fn read(front: &'a [String], rest: &'a [String]) -> Option<CheckWords<'a>>
-        ensures { result ≡ check_of (options_said (texts_of front.now)) (one_name (names_in (texts_of rest.now))) }
+        ensures { result ≡ check_of (options_said (texts_of front.now))
+            (one_name (names_in (texts_of rest.now))) }
     {
         let options = Options::read(front)?;
         let syntax = one_name(rest)?;
@@ -199,7 +206,8 @@ impl<'a> CheckWords<'a> {
 impl<'a> PaintWords<'a> {
     /// What the words behind `spans` ask.
     fn read(front: &'a [String], rest: &'a [String]) -> Option<PaintWords<'a>>
-        ensures { result ≡ spans_of (options_said (texts_of front.now)) (two_names (names_in (texts_of rest.now))) }
+        ensures { result ≡ spans_of (options_said (texts_of front.now))
+            (two_names (names_in (texts_of rest.now))) }
     {
         let options = Options::read(front)?;
         let (syntax, text) = two_names(rest)?;
@@ -246,7 +254,8 @@ impl<'a> PaintWords<'a> {
 impl<'a> PageWords<'a> {
     /// What the words behind `html` or `edit` ask.
     fn read(front: &'a [String], rest: &'a [String]) -> Option<PageWords<'a>>
-        ensures { result ≡ html_of (options_said (texts_of front.now)) (two_names (names_in (texts_of rest.now))) }
+        ensures { result ≡ html_of (options_said (texts_of front.now))
+            (two_names (names_in (texts_of rest.now))) }
     {
         let options = Options::read(front)?;
         let (syntax, text) = two_names(rest)?;
@@ -282,7 +291,8 @@ impl<'a> PageWords<'a> {
 impl LargeWords {
     /// What the words behind `large` ask.
     fn read(front: &[String], rest: &[String]) -> Option<LargeWords>
-        ensures { result ≡ large_of (options_said (texts_of front.now)) (two_names (names_in (texts_of rest.now))) }
+        ensures { result ≡ large_of (options_said (texts_of front.now))
+            (two_names (names_in (texts_of rest.now))) }
     {
         let options = Options::read(front)?;
         let (seed, lines) = two_names(rest)?;

@@ -11,7 +11,8 @@ use crate::{Put, Sink};
 pub fn put_all<O: Sink>(sink: &mut O, bytes: &[u8]) -> bool
     ensures whole { OnTrue result (O.written sink.new ≡ appended (O.written sink.old) bytes.now) }
     ensures unfailed { OnTrue result (O.faults sink.new ≡ O.faults sink.old) }
-    ensures part { OnFalse result (AppendsPrefix (O.written sink.old) (O.written sink.new) bytes.now) }
+    ensures part { OnFalse result
+        (AppendsPrefix (O.written sink.old) (O.written sink.new) bytes.now) }
     ensures failed { OnFalse result (Rose (O.faults sink.old) (O.faults sink.new)) }
 {
     let mut done = 0;

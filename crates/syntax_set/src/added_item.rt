@@ -72,7 +72,8 @@ impl AddedItem {
 }
 
 fn has_item(clusters: &Clusters, list: &GroupList, include: u32, item: &Item) -> bool
-    ensures { result ≡ has_by clusters.now.lists list.now.special list.now.entries include item.now }
+    ensures { result ≡ has_by clusters.now.lists
+        list.now.special list.now.entries include item.now }
 {
     let own = item.include == include;
     let entries = &list.entries;

@@ -45,7 +45,8 @@ impl Model for Clusters {
 
     ghost view = { λ a. record { names = a.names; lists = a.lists.items } };
 
-    ghost invariant = { λ a. HoldsReached a.names a.lists.items (option_map (λ columns. columns.items) a.reached) };
+    ghost invariant = { λ a. HoldsReached a.names a.lists.items
+        (option_map (λ columns. columns.items) a.reached) };
 }
 
 impl Clusters {

@@ -235,7 +235,8 @@ pub(crate) fn delimited(
     ensures found { IfOk result (λ found. MatchOption found.rest
         (spec.delimited delimiter text.now ≡ None)
         (λ rest. spec.delimited delimiter text.now ≡ Some (found.pattern, rest.now))) }
-    ensures known { IfOk result (λ found. IfSome found.rest (λ rest. Known found.in_vain rest.now)) }
+    ensures known { IfOk result
+        (λ found. IfSome found.rest (λ rest. Known found.in_vain rest.now)) }
 {
     let mut pattern = List::new(alloc);
     let mut search = Search {

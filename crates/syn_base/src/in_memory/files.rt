@@ -38,7 +38,14 @@ impl Model for MemoryFiles {
 impl MemoryFiles {
     /// These files. The calls whose numbers, from 1, are in `failing` answer that the read failed.
     pub fn new(files: List<(List<u8>, List<u8>)>, failing: List<u64>) -> MemoryFiles
-        ensures { result ≡ record { files = files; failing = failing; calls = 0; faults = 0; misses = 0; longs = 0 } }
+        ensures { result ≡ record {
+          files = files;
+          failing = failing;
+          calls = 0;
+          faults = 0;
+          misses = 0;
+          longs = 0;
+        } }
     {
         MemoryFiles {
             files,

@@ -89,7 +89,8 @@ impl Sink for MemorySink {
         // Exactly the calls of the list and those without room fail; the others move as many bytes
         // as they can.
         ensures exact { result ≡ (if sink_fails self.old then Put.Failed
-            else Put.Bytes (moved (length piece.now) self.old.most (self.old.room - length self.old.bytes))) }
+            else Put.Bytes (moved (length piece.now) self.old.most
+            (self.old.room - length self.old.bytes))) }
         ensures counted { self.new.faults ≡ counting (is_failed_put result) self.old.faults }
         ensures calls { self.new.calls ≡ one_more self.old.calls }
         ensures failing { self.new.failing ≡ self.old.failing }

@@ -39,7 +39,13 @@ impl MemorySource {
     /// These bytes. The calls whose numbers, from 1, are in `failing` fail.
     pub fn new(bytes: List<u8>, most: usize, failing: List<u64>) -> MemorySource
         requires { 0 < most }
-        ensures { result ≡ record { left = bytes; most = most; failing = failing; calls = 0; faults = 0 } }
+        ensures { result ≡ record {
+          left = bytes;
+          most = most;
+          failing = failing;
+          calls = 0;
+          faults = 0;
+        } }
     {
         MemorySource {
             bytes,
