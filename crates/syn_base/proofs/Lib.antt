@@ -1,2 +1,3 @@
+pub mod ExternalLaws
 pub mod OutsideLaws
 pub mod ListLaws
