@@ -7,6 +7,7 @@
 #![tactic(auto)]
 
 mod answers;
+mod at_hand;
 mod closing;
 mod ends;
 mod frames;

@@ -13,6 +13,7 @@ ghost use Rattle.line_paint.specs.Painting.{here_in};
 ghost use Rattle.item_pick.specs.PartsSeen.{rules_in};
 ghost use Rattle.item_pick.specs.Tables.{TablesStand};
 
+use crate::at_hand::AtHand;
 use crate::paint::painted_by;
 use crate::site::Site;
 use crate::{LineNote, PaintError};
@@ -165,12 +166,11 @@ pub fn paint_line_with<T: Lines, L: Ledger>(
     ensures steps { steps.new ≡ steps.old + 1 }
 {
     steps.add_one();
-    // The proof needs the bounds that this call tells of the text.
-    let _count = lines.len();
+    let lines = AtHand::new(lines, line);
     let no_externals = NoExternals::new(alloc)?;
     let painting = Painting {
         parts,
-        lines,
+        lines: &lines,
         line: line as u32,
         budget,
         no_externals: &no_externals,

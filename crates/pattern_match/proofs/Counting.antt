@@ -69,7 +69,7 @@ module _ (x : Context) (t : Turns) (old : Ways Task) (numbers : HasNumbers (shap
         let k : task_marks x (Count t) old.here.way ≡ Reach old.here.way ∷ task_marks x (Turn t) old.here.way = free_marks e l ∙ ap (λ b. in_order b (task_marks x (Turn t) old.here.way) (Reach old.here.way ∷ [])) lazy in
         rw k (silent x (height (shape_of t.part.now) + 1) _ old new s GoesOn h (leads_stop x (height (shape_of t.part.now) + 1) old new (Turn t) n numbers (omega arith)))
 
-    greedy_marks : is_spent t.most ≡ false → t.least ≡ 0 → t.lazy ≡ false → marks_first x (Count t) old ≡ marks_first x (Turn t) old ++ marks_with x old.here.todo old.here.way
+    pub greedy_marks : is_spent t.most ≡ false → t.least ≡ 0 → t.lazy ≡ false → marks_first x (Count t) old ≡ marks_first x (Turn t) old ++ marks_with x old.here.todo old.here.way
     greedy_marks e l lazy =
         let k : task_marks x (Count t) old.here.way ≡ task_marks x (Turn t) old.here.way ++ Reach old.here.way ∷ [] = free_marks e l ∙ ap (λ b. in_order b (task_marks x (Turn t) old.here.way) (Reach old.here.way ∷ [])) lazy in
         rw (k, followed-append, append-nil) refl

@@ -2,6 +2,7 @@
 use Rattle.std.proofs.Common.{◌≡◌, ◌≢◌, ℕ, zero, suc, ◌+◌, ◌-◌, ◌<◌, ◌≤◌, Bool, true, false, cond, List, [], ◌∷◌, length, get_or, refl, sym, ap, ◌∙◌, arith}
 use Rattle.std.specs.Prelude.{reverse, replicate, set, nat_eq, All, Option, Some, None}
 use Rattle.std.specs.Option.{option_or}
+use Rattle.std.proofs.lemmas.Bool.{eqb-true}
 use Rattle.std.proofs.lemmas.Bool.Decides.{nat_tests}
 use Rattle.std.proofs.lemmas.List.{length-set, get_or-set_same, get_or-set_other, get_or-replicate}
 use Rattle.syn_base.specs.declared.places.Place.{Place}
@@ -33,6 +34,10 @@ nine-notes (entry ∷ older) = nine-note (with_notes older) entry.note (nine-not
 
 pub noted_from-none : (notes : List Noted) → noted_from notes 0 ≡ way_from (place 0 0)
 noted_from-none notes = ap with_notes (entries_from-none before_of (reverse notes))
+
+-- a way that names no note noted nothing
+pub nothing_noted : (notes : List Noted) (number : ℕ) (at : Place) → nat_eq number 0 ≡ true → record (noted_from notes number) { at = at } ≡ way_from at
+nothing_noted notes number at h = rw (eqb-true number 0 h) (ap (λ (w : Way). record w { at = at }) (noted_from-none notes))
 
 -- the note with a number, on top of those before it
 pub noted_from-at : (notes : List Noted) (number : ℕ) (entry : Noted) → AreLinked before_of (reverse notes) → All (λ e. IsNumbered e.note) notes

@@ -1,5 +1,5 @@
 -- A tick, and then a step from there: two parts, and the turns of a count of an atom.
-use Rattle.std.proofs.Common.{◌≡◌, ℕ, ◌+◌, ◌-◌, ◌<◌, ◌≤◌, true, false, List, [], ◌∷◌, ◌++◌, refl, sym, ap, ◌∙◌, arith}
+use Rattle.std.proofs.Common.{◌≡◌, ℕ, ◌+◌, ◌-◌, ◌<◌, ◌≤◌, true, false, List, [], ◌∷◌, ◌++◌, refl, sym, ap, ◌∙◌, arith, append-nil}
 use Rattle.std.specs.Prelude.{Option}
 use Rattle.std.specs.Borrow.{Bor}
 use Rattle.syn_base.specs.declared.looked.Looked.{Looked}
@@ -29,7 +29,7 @@ use Rattle.pattern_match.specs.Machine.{task_marks, marks_with}
 use Rattle.pattern_match.specs.Heights.{height}
 use Rattle.pattern_match.specs.Search.{Goes, IsOver, IsStep, marks_first, IsTick}
 use Rattle.pattern_match.proofs.Leading.{silent, leads_on, leads_do}
-use Rattle.pattern_match.proofs.Counting.{count_spent, count_greedy, turn_dropped}
+use Rattle.pattern_match.proofs.Counting.{count_spent, count_greedy, greedy_marks, turn_dropped}
 use Rattle.pattern_match.proofs.Stepping.{way_behind-kept, behind, over, failed, turn_marks, turn_taken, turn_over}
 
 module _ (x : Context) (high : ℕ) (marks left : List Mark) (looked : Looked) (old mid new : Ways Task) (earlier between later : Spent)
@@ -129,6 +129,26 @@ module _ (x : Context) (i : Bor Step) (old : Ways Task) (looked : Looked)
   optional_over h = record { made = Tick looked ∷ []; left = followed (Reach old.here.way ∷ []) (marks_with x old.here.todo); all = or_nothing-marks; over = omega arith }
 
 -- ---- the turns of a greedy count of an atom
+
+-- a turn that has one tick alone
+module _ (x : Context) (t : Turns) (old : Ways Task) (numbers : HasNumbers (shape_of t.part.now)) (on_text : IsPlaceOf x.text old.here.way.at)
+    (unspent : is_spent t.most ≡ false) (free : t.least ≡ 0) (greedy : t.lazy ≡ false) (looked : Looked)
+    (fails : visits x (shape_of t.part.now) old.here.way ≡ Tick looked ∷ []) (earlier : Spent) where
+  no_turn-marks : marks_first x (Count t) old ≡ Tick looked ∷ followed (Reach old.here.way ∷ []) (marks_with x old.here.todo)
+  no_turn-marks =
+      greedy_marks x t old numbers on_text unspent free greedy
+      ∙ (ap (λ marks. followed (followed marks (task_marks x (AfterTurn t old.here.way.at))) (marks_with x old.here.todo) ++ marks_with x old.here.todo old.here.way) fails
+      ∙ ap (λ marks. Tick looked ∷ marks) (sym (append-nil (marks_with x old.here.todo old.here.way))))
+
+  pub no_turn-passed : (later : Spent) → later ≡ spent_on earlier (Tick looked ∷ []) → earlier.cost < earlier.budget → Goes x (height (shape_of t.part.now) + 1) (marks_first x (Count t) old) old old earlier later GoesOn
+  no_turn-passed later spent within =
+      let high = height (shape_of t.part.now) + 1 in
+      let low : later.cost ≤ later.budget = rw spent (omega arith) in
+      ticked_goes x high (marks_first x (Count t) old) _ looked old old old earlier later later no_turn-marks spent refl refl (λ p. p) GoesOn
+      (silent x high _ old old later GoesOn low (leads_on x high old old old.here.way refl (λ p. p)))
+
+  pub no_turn-over : earlier.budget ≤ earlier.cost → IsOver (marks_first x (Count t) old) earlier
+  no_turn-over h = record { made = Tick looked ∷ []; left = followed (Reach old.here.way ∷ []) (marks_with x old.here.todo); all = no_turn-marks; over = omega arith }
 
 -- what the count has come to: a step from there is one of the whole count
 pub record IsCounting (x : Context) (t : Turns) (old : Ways Task) (earlier : Spent) (most : Option ℕ) (ways : Ways Task) (spent : Spent) : Type 0 where

@@ -1,14 +1,19 @@
 -- What an attempt of a ready pattern answers.
-use Rattle.std.specs.Prelude.{◌≡◌, ℕ, pos, nat_lt, List, Option, Some, None, slice_get, if◌then◌else◌}
+use Rattle.std.specs.Prelude.{◌≡◌, ℕ, pos, nat_lt, List, Option, Some, None, replicate, slice_get, if◌then◌else◌}
 use Rattle.syn_base.specs.declared.looked.Looked.{Looked}
 use Rattle.syn_base.specs.Looked.{one_line}
 use Rattle.syn_base.specs.declared.places.Place.{Place}
 use Rattle.vim_pattern.specs.Tree.{PatternTree}
-use Rattle.match_rules.specs.Ways.{Text, Context, Way}
+use Rattle.match_rules.specs.Ways.{Text, Capture, Context, Way}
 use Rattle.match_rules.specs.Attempt.{Answer, attempt, lines_of, match_from, match_to, externals_of}
 use Rattle.pattern_match.specs.declared.answer.Match.{Match}
 use Rattle.pattern_match.specs.declared.answer.Attempt.{Attempt}
 use Rattle.pattern_match.specs.declared.answer.Attempt.TheVariants.{Found, Absent, TooCostly}
+
+-- the places of nine groups: those that are kept, or none where no group matched
+abbrev pub nine_captures : Option (List Capture) → List Capture
+nine_captures None = replicate 9 None
+nine_captures (Some places) = places
 
 -- the lines looked at; that of the start where there was no tick
 abbrev pub lines_or_start : Place → Option Looked → Looked

@@ -13,6 +13,7 @@ mod cases;
 mod collection;
 mod context;
 mod fate;
+mod found;
 mod look;
 mod made;
 mod memo;

@@ -1,22 +1,22 @@
 //! Patterns that are ready, by number.
-ghost use Rattle.std.specs.Prelude.{◌≡◌, ◌<◌, ◌≤◌, ◌^◌, ◌-◌, [], ◌∷◌, ◌++◌, List, length, map, false, Some, slice_get, IfOk, OnOk, OnErr, IfSome};
+ghost use Rattle.std.specs.Prelude.{◌≡◌, ◌<◌, ◌≤◌, ◌^◌, ◌-◌, [], ◌∷◌, ◌++◌, List, length, false, Some, slice_get, IfOk, OnOk, OnErr, IfSome};
 ghost use Rattle.vim_pattern.specs.GroupNumbers.{HasNumbers};
 ghost use Rattle.vim_pattern.specs.Tree.{PatternTree};
 ghost use Rattle.match_rules.specs.Ways.{IsPlaceOf, way_from};
 ghost use Rattle.match_rules.specs.Marks.{Tick};
 ghost use Rattle.match_rules.specs.Visits.{visits};
-ghost use Rattle.match_rules.specs.Attempt.{answer_of, not_before, external_of};
+ghost use Rattle.match_rules.specs.Attempt.{answer_of};
 ghost use Rattle.pattern_screens.specs.FirstAtoms.{first_cost};
 ghost use Rattle.pattern_match.specs.Contexts.{context_in};
 ghost use Rattle.pattern_match.specs.Screens.{IsVainAt, passes_at};
 ghost use Rattle.pattern_match.specs.StandsFor.{StandsFor};
 ghost use Rattle.pattern_match.specs.Steps.{shape_of};
-ghost use Rattle.pattern_match.specs.Ways.{found_way};
-ghost use Rattle.pattern_match.specs.Answers.{answered, lines_or_start, match_of, IsAttempt};
+ghost use Rattle.pattern_match.specs.Answers.{answered, lines_or_start, IsAttempt};
 ghost use Rattle.pattern_match.specs.OnText.{AnswersStayOnText};
 
-use crate::answer::{Attempt, Caps, GROUPS, Match};
+use crate::answer::Attempt;
 use crate::context::Context;
+use crate::found::found_match;
 use crate::parts::fails_at_once;
 use crate::ready::ready;
 use crate::screens::some_first_fits;
@@ -24,12 +24,11 @@ use crate::search::{Sought, search};
 use crate::spent::Spent;
 use crate::step::Step;
 use crate::task::Task;
-use crate::walks::part_of_line;
-use crate::ways::{FoundWay, Ways};
+use crate::ways::Ways;
 use pattern_screens::screen_cost;
 use std::alloc::Global;
 use std::marker::Model;
-use syn_base::{Externals, Lines, List, Looked, Memory, PatternId, Place};
+use syn_base::{Lines, Looked, Memory, PatternId, Place};
 use vim_pattern::Tree;
 
 /// A pattern that is ready: its tree, of which contracts speak, and the node that stands for that of
@@ -252,7 +251,7 @@ fn attempt_of<'p, T: Lines>(
     let looked = looked_or_start(lines, spent.looked, start);
     Ok(match sought {
         Sought::Found => {
-            let found = found_match(alloc, lines, start, &ways.way())?;
+            let found = found_match(alloc, lines, start, ways)?;
             Attempt::Found(found, looked)
         }
         Sought::Absent => Attempt::Absent(looked),
@@ -268,62 +267,4 @@ fn looked_or_start<T: Lines>(lines: &T, looked: Option<Looked>, start: Place) ->
     // The proof needs the bounds that this call tells of the text.
     let _count = lines.len();
     looked.unwrap_or(Looked::one(start.line as i64))
-}
-
-/// The match of a way that was found from a start.
-fn found_match<T: Lines>(
-    alloc: Global,
-    lines: &T,
-    start: Place,
-    way: &FoundWay,
-) -> Result<Match, Memory>
-    ensures { IfOk result (λ found. found ≡ match_of (T.lines lines.now) start
-        (found_way way.now)) }
-{
-    let from = way.start.unwrap_or(start);
-    let to = not_before(from, way.stop.unwrap_or(way.at));
-    Ok(Match {
-        from,
-        to,
-        caps: Caps::new(way.captures),
-        externals: externals_of(alloc, lines, &way.externals)?,
-    })
-}
-
-/// The end of a match, or its beginning where that comes later.
-fn not_before(from: Place, to: Place) -> Place
-    ensures { result ≡ not_before from to }
-{
-    if to < from { from } else { to }
-}
-
-/// The texts of external groups.
-fn externals_of<T: Lines>(
-    alloc: Global,
-    lines: &T,
-    groups: &[Option<(Place, Place)>; GROUPS],
-) -> Result<Externals, Memory>
-    ensures { IfOk result (λ texts. texts ≡ map (external_of (T.lines lines.now)) groups.now) }
-{
-    let mut texts = List::new(alloc);
-    for group in groups {
-        texts.push(external_of(alloc, lines, *group)?)?;
-    }
-    Ok(Externals::from_parts(texts))
-}
-
-/// The text of an external group: empty where it goes over a line end, or didn't match.
-fn external_of<T: Lines>(
-    alloc: Global,
-    lines: &T,
-    group: Option<(Place, Place)>,
-) -> Result<List<char>, Memory>
-    ensures { IfOk result (λ text. text ≡ external_of (T.lines lines.now) group) }
-{
-    match group {
-        Some((from, to)) if from.line == to.line => {
-            List::from_slice(alloc, part_of_line(lines, from, to.col))
-        }
-        _ => Ok(List::new(alloc)),
-    }
 }

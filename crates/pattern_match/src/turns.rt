@@ -10,6 +10,7 @@ ghost use Rattle.pattern_match.specs.Heights.{height};
 ghost use Rattle.pattern_match.specs.Search.{Leads, IsLed, IsStep, marks_first};
 
 use crate::context::Context;
+use crate::parts::fails_at_once;
 use crate::runs::{less_by, make_run};
 use crate::spent::Spent;
 use crate::step::{Step, Test};
@@ -137,11 +138,43 @@ pub(crate) fn count<'p, T: Lines>(
         put_aside_with(ways, Task::Turn(turns))?;
         Ok(Went::GoesOn)
     } else if let Step::One(test) = turns.part {
-        count_atoms(lines, context, ways, test, turns, spent)
+        count_atom(lines, context, ways, test, turns, spent)
     } else {
         ways.put_aside()?;
         turn(lines, context, ways, turns, spent)
     }
+}
+
+/// Makes the turns of a greedy count of an atom. Where it doesn't fit at once, that is its one tick,
+/// and no way is put aside.
+#[inline(always)]
+fn count_atom<'p, T: Lines>(
+    lines: &T,
+    context: &Context<'_>,
+    ways: &mut Ways<Task<'p>>,
+    test: &Test,
+    turns: Turns<'p>,
+    spent: &mut Spent,
+) -> Result<Went<'p>, Memory>
+    requires on_text { IsPlaceOf (T.lines lines.now) ways.old.here.way.at }
+    requires numbers { HasNumbers (shape_of turns.part.now) }
+    requires atom { shape_of turns.part.now ≡ one (atom_of test.now) }
+    requires allowed { is_spent turns.most ≡ false }
+    requires free { turns.least ≡ 0 }
+    requires greedy { turns.lazy ≡ false }
+    requires within { spent.old.cost ≤ spent.old.budget }
+    ensures { let x = context_in (T.lines lines.now) context.now in
+        IfOk result (IsStep x (height (shape_of turns.entry.part.now) + 1)
+        (marks_first x (Task.Count turns.entry) ways.old) ways.old ways.new spent.old spent.new) }
+{
+    let Some(looked) = fails_at_once(lines, context, ways, turns.part) else {
+        return count_atoms(lines, context, ways, test, turns, spent);
+    };
+    if spent.cost >= spent.budget {
+        return Ok(Went::TooCostly);
+    }
+    spent.tick(looked);
+    Ok(Went::GoesOn)
 }
 
 /// Makes the turns of a greedy count of an atom, with the stop behind each, as long as they go on:

@@ -4,7 +4,7 @@
 //! entries of two lists, each of which names the entry behind it. Entries are numbered from 1, and 0 is
 //! none. A way is a place and two such numbers. When a pending way is taken up, the entries that came
 //! after it are forgotten.
-ghost use Rattle.std.specs.Prelude.{◌≡◌, ◌≤◌, [], ◌∷◌, ◌++◌, List, drop, length, reverse, ◌+◌, ◌-◌, ◌<◌, ◌^◌, IfOk, OnOk, MatchOption, ℕ, IsTrue, IsFalse, Some};
+ghost use Rattle.std.specs.Prelude.{◌≡◌, ◌≤◌, [], ◌∷◌, ◌++◌, List, drop, length, reverse, ◌+◌, ◌-◌, ◌<◌, ◌^◌, IfOk, OnOk, MatchOption, ℕ, IsTrue, IsFalse, Some, true};
 ghost use Rattle.match_rules.specs.Ways.{way_from, with_capture, capture_of};
 ghost use Rattle.pattern_match.specs.Ways.{Thread, with_note, place_of, found_way, IsNumbered, entries_named, capture_in, with_earlier, with_earlier_capture, IsLast, NameLast, with_last, run_of, run_aside, IsNextCounted, ways_counted, last_of, shorter, kept_to};
 ghost use Rattle.pattern_match.specs.declared.ways.Pending.{Pending as AnyPending};
@@ -376,6 +376,13 @@ impl<T: Copy> Ways<T> {
             return None;
         }
         capture_in(self.notes[at - 1].note, number)
+    }
+
+    /// Whether the present way noted nothing.
+    pub(crate) fn has_no_notes(&self) -> bool
+        ensures { result ≡ true → self.now.here.way ≡ way_from self.now.here.way.at }
+    {
+        self.here.noted == 0
     }
 
     /// All that the present way noted.

@@ -1,7 +1,6 @@
-use Rattle.std.proofs.Common.{◌≡◌, ◌+◌, ◌-◌, ◌<◌, length, take, true, arith, rules, ap, ◌∙◌}
+use Rattle.std.proofs.Common.{◌≡◌, ◌+◌, ◌-◌, length, take, true, arith}
 use Rattle.std.specs.Prelude.{nat_lt}
 use Rattle.std.proofs.lemmas.Bool.Decides.{nat_tests}
-use Rattle.pattern_match.specs.Ways.{shorter}
 use Rattle.pattern_match.specs.declared.ways.Pending.{Pending}
 use Rattle.pattern_match.proofs.PendingLaws.{last_read, last_set}
 use Rattle.pattern_match.proofs.ways.take_next.Goals as goal

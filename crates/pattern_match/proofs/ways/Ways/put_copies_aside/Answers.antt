@@ -1,7 +1,6 @@
 use Rattle.std.proofs.Common.{◌≡◌, ℕ, zero, suc, ◌≤◌, ◌<◌, ◌+◌, length, ap, ◌∙◌, arith, rules}
-use Rattle.std.specs.Prelude.{◌^◌, ◌∷◌, ◌++◌, []}
+use Rattle.std.specs.Prelude.{◌^◌}
 use Rattle.pattern_match.specs.Ways.{Ways}
-use Rattle.pattern_match.specs.declared.ways.Pending.{Pending}
 use Rattle.pattern_match.proofs.WayLaws.{one_more_pending}
 use Rattle.pattern_match.proofs.ways.Ways.put_copies_aside.Goals as goal
 

@@ -1,6 +1,6 @@
 use Rattle.std.proofs.Common.{◌≡◌, take, map}
 use Rattle.match_rules.specs.Attempt.{external_of}
-use Rattle.pattern_match.proofs.programs.externals_of.Given as goal
+use Rattle.pattern_match.proofs.found.externals_of.Given as goal
 
 -- the texts of the groups so far
 abbrev pub invariant-loop-group : goal.invariant-loop-group
