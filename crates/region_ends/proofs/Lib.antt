@@ -1,5 +1,6 @@
 pub mod AttemptLaws
 pub mod KeptEndLaws
+pub mod LimitLaws
 pub mod LookedLaws
 pub mod PassingLaws
 pub mod SearchLaws

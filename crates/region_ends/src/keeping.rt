@@ -49,11 +49,16 @@ pub fn kept_end_over(items: &ItemSet, top: &Frame, below: &Stack) -> Option<Spot
     earlier_end(top.known_end, limit_on(items, below))
 }
 
-/// The end that the frames of a stack put to a frame above them.
+/// The end that the frames of a stack put to a frame above them. Mostly none of them has a known
+/// end, and then they aren't walked.
+#[tactic(auto, using(crate::proofs::LimitLaws::endless_limits))]
 fn limit_on(items: &ItemSet, stack: &Stack) -> Option<Spot>
     requires { Fits (length items.now) (reverse stack.now) }
     ensures { result ≡ limit_on items.now (reverse stack.now) }
 {
+    if stack.is_endless() {
+        return None;
+    }
     match stack.top_and_below() {
         None => None,
         Some((top, below)) => {

@@ -1,5 +1,6 @@
 -- what a reader must believe
 pub mod TopFirst
+pub mod KnownEnds
 -- what only code and proofs cite
 pub mod Frames
 pub mod Settled

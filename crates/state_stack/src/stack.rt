@@ -1,6 +1,7 @@
 //! Stacks of frames that share their tails.
 ghost use Rattle.std.specs.Prelude.{◌≡◌, ◌==◌, ◌<◌, ◌≤◌, ◌↔◌, ◌-◌, ◌&&◌, [], ◌∷◌, ◌++◌, map, length, take, reverse, slice_get, Some, IfOk, IsErrOf, IsTrue, MatchOption};
 ghost use Rattle.paint_rules.specs.States.{nearer_frame};
+ghost use Rattle.state_stack.specs.KnownEnds.{none_ends};
 ghost use Rattle.state_stack.specs.declared.stack.StackError.TheVariants as cause;
 
 use crate::Frame;
@@ -37,6 +38,8 @@ pub struct Stack {
     len: usize,
     // each frame is settled
     settled: bool,
+    // no frame has a known end
+    endless: bool,
     top: Link,
 }
 
@@ -62,11 +65,12 @@ impl Model for Stack {
 
     ghost use Rattle.state_stack.specs.Frames.{frames};
     ghost use Rattle.state_stack.specs.Settled.{all_settled};
+    ghost use Rattle.state_stack.specs.KnownEnds.{none_ends};
 
     ghost view = { λ a. frames a.top };
 
     ghost invariant = { λ a. (a.len ≡ length (frames a.top)) × (a.len ≤ 1000)
-        × (a.settled ≡ all_settled (frames a.top)) };
+        × (a.settled ≡ all_settled (frames a.top)) × (a.endless ≡ none_ends (frames a.top)) };
 
     ghost size = { length };
 
@@ -83,6 +87,7 @@ impl Stack {
         Stack {
             len: 0,
             settled: true,
+            endless: true,
             top: Link::Bottom,
         }
     }
@@ -93,6 +98,13 @@ impl Stack {
         ensures most { result ≤ 1000 }
     {
         self.len
+    }
+
+    /// Whether no frame has a known end.
+    pub fn is_endless(&self) -> bool
+        ensures { result ≡ none_ends self.now }
+    {
+        self.endless
     }
 
     /// The last frame.
@@ -128,10 +140,12 @@ impl Stack {
     {
         let len = below.len + 1;
         let settled = both(below.settled, frame.is_settled());
+        let endless = both(below.endless, frame.has_no_known_end());
         let node = Rc::new(alloc, Node { below, frame })?;
         Ok(Stack {
             len,
             settled,
+            endless,
             top: Link::On(node),
         })
     }
@@ -159,6 +173,7 @@ impl Stack {
                 Ok(Stack {
                     len: self.len,
                     settled: self.settled,
+                    endless: self.endless,
                     top: Link::On(node),
                 })
             }
