@@ -1,3 +1,4 @@
+pub mod AnswerLaws
 pub mod AttemptLaws
 pub mod KeptEndLaws
 pub mod LimitLaws

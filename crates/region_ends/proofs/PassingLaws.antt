@@ -1,6 +1,6 @@
 -- The search goes on behind columns where neither the skip nor an end can fit.
 use Rattle.std.proofs.Common.{◌≡◌, ◌∙◌, refl, sym, ap, subst, arith, ℕ, zero, suc, ◌+◌, ◌-◌, ◌<◌, ◌≤◌, Bool, true, false, List, [], ◌∷◌, length}
-use Rattle.std.specs.Prelude.{Option, Some, None, pos, nat_lt, not, ◌&&◌, ◌||◌, reverse}
+use Rattle.std.specs.Prelude.{Option, Some, None, pos, nat_eq, nat_lt, not, ◌&&◌, ◌||◌, reverse}
 use Rattle.std.specs.List.{list_all}
 use Rattle.std.specs.Option.{option_map}
 use Rattle.std.proofs.lemmas.Bool.Decides.{nat_tests}
@@ -12,7 +12,8 @@ use Rattle.match_rules.specs.Ways.{Text, line_at}
 use Rattle.pattern_match.specs.declared.answer.Attempt.TheVariants as tried
 use Rattle.pattern_match.specs.Answers.{match_of}
 use Rattle.pattern_screens.specs.Bounds.{failing_cost}
-use Rattle.pattern_screens.specs.Keys.{key_of}
+use Rattle.pattern_screens.specs.declared.key.Key.{Key}
+use Rattle.pattern_screens.specs.Keys.{key_numbered, key_of}
 use Rattle.pattern_screens.specs.Screens.{is_futile, verdict}
 use Rattle.pattern_screens.proofs.Screened.{futile}
 use Rattle.syntax_set.specs.declared.item.ItemKind.{ItemKind}
@@ -26,9 +27,11 @@ use Rattle.paint_rules.specs.Offsets.{offset_place}
 use Rattle.paint_rules.specs.declared.RegionEnd.{RegionEnd}
 use Rattle.paint_rules.specs.declared.Which.TheVariants.{Me}
 use Rattle.paint_rules.proofs.PaintedLaws.{goes_on}
+use Rattle.region_ends.specs.declared.key_answers.KeyAnswers.{KeyAnswers}
 use Rattle.region_ends.specs.declared.passing.Passing.{Passing}
 use Rattle.region_ends.specs.declared.searching.Searching.{Searching}
-use Rattle.region_ends.specs.Passing.{IsPassing, fails, is_vain, is_skip_vain, is_idle, is_cheap, is_skip_cheap}
+use Rattle.region_ends.specs.KeyAnswers.{AnswersStand}
+use Rattle.region_ends.specs.Passing.{IsOfRegion, IsPassedOver, IsPassing, are_cheap, are_shut, fails, is_shut, is_shut_at, is_skip_shut, is_vain, is_skip_vain, is_cheap, is_skip_cheap}
 use Rattle.region_ends.specs.Steps.{HoldsLine, search_in}
 use Rattle.region_ends.proofs.SearchLaws.{tried_at_is, end_absent, to_later}
 
@@ -110,17 +113,90 @@ module _ (a : Passing) (s : Searching) (text : Text) (skip : Option Pattern) (en
       let one = both (is_vain a c p) (is_cheap s.matcher.budget p) h.0 in
       end_absent (search_in s text) c k p ps k (vain_gives p one.0 one.1) ∙ ends_give ps h.1
 
-  pub column_passed : (kind : ItemKind) (last : ℕ) → skip ≡ skip_of kind → ends ≡ ends_of kind → c ≤ last → a.cheap ≡ true → is_idle a c ≡ true →
+  pub column_passed : (kind : ItemKind) (last : ℕ) → skip ≡ skip_of kind → ends ≡ ends_of kind → c ≤ last → IsPassedOver a c →
       looked_first (Some k) (end_from (search_in s text) kind (columns_from c last) c) ≡ looked_first (Some k) (end_from (search_in s text) kind (columns_from (suc c) last) (suc c))
-  column_passed kind last sk en less cheap idle =
-      let vain = both (is_skip_vain a c a.skip.now) (list_all (is_vain a c) a.ends.now) idle in
-      let few = both (is_skip_cheap s.matcher.budget skip) (list_all (is_cheap s.matcher.budget) ends) (of.cheap cheap) in
+  column_passed kind last sk en less passed =
+      let vain = both (is_skip_vain a c a.skip.now) (list_all (is_vain a c) a.ends.now) passed.idle in
+      let few = both (is_skip_cheap s.matcher.budget skip) (list_all (is_cheap s.matcher.budget) ends)
+      (sym (λ i. are_cheap (of.budget i) (of.skip i) (of.ends i)) ∙ passed.cheap) in
       let no_skip = skip_gives skip (subst (λ (o : Option Pattern). is_skip_vain a c o ≡ true) of.skip vain.0) few.0 in
       let all = all_both (is_vain a c) (is_cheap s.matcher.budget) ends (subst (λ (ps : List Pattern). list_all (is_vain a c) ps ≡ true) of.ends vain.1) few.1 in
       let found = ends_give (reverse ends) (all_reverse (λ p. is_vain a c p && is_cheap s.matcher.budget p) ends all) in
       to_later (search_in s text) kind c last k less k
       (subst (λ (o : Option Pattern). looked_first (Some k) (skip_at (search_in s text) o c) ≡ Done NoSkip (Some k)) sk no_skip) k
       (subst (λ (ps : List Pattern). looked_first (Some k) (first_found (end_at (search_in s text) c) (reverse ps)) ≡ Done None (Some k)) en found)
+
+-- ---- what is kept
+
+no_less : (n : ℕ) → nat_lt n 0 ≡ false
+no_less n = grind (arith, nat_tests)
+
+either : (a b : Bool) → b ≡ true → (a || b) ≡ true
+either true b e = refl
+either false b e = e
+
+module _ (a : Passing) (c : ℕ) (key : Key) (is : key ≡ key_of a.sets.now a.line.now c) where
+  shut_vain : (pattern : Pattern) → is_shut a.sets.now a.budget a.ignore key pattern ≡ true → is_vain a c pattern ≡ true
+  shut_vain pattern e =
+      let screen = is_futile (verdict a.sets.now a.ignore key pattern.tree) in
+      let h = both (nat_eq pattern.lc 0) (screen && is_cheap a.budget pattern) e in
+      let here : pattern.lc ≡ 0 = grind (arith, nat_tests, h.0) in
+      let shut = (both screen (is_cheap a.budget pattern) h.1).0 in
+      let at : c ≡ c - pattern.lc = omega (arith, here) in
+      either (nat_lt c pattern.lc) _ (subst (λ n. fails a (key_of a.sets.now a.line.now n) pattern ≡ true) at (subst (λ (k : Key). fails a k pattern ≡ true) is shut))
+
+  shut_cheap : (pattern : Pattern) → is_shut a.sets.now a.budget a.ignore key pattern ≡ true → is_cheap a.budget pattern ≡ true
+  shut_cheap pattern e =
+      let screen = is_futile (verdict a.sets.now a.ignore key pattern.tree) in
+      (both screen (is_cheap a.budget pattern) (both (nat_eq pattern.lc 0) (screen && is_cheap a.budget pattern) e).1).1
+
+  all_of : {A : Type 0} (f g : A → Bool) → ((x : A) → f x ≡ true → g x ≡ true) → (xs : List A) → list_all f xs ≡ true → list_all g xs ≡ true
+  all_of f g h [] e = refl
+  all_of f g h (x ∷ xs) e = both_pass (g x) (list_all g xs) (h x (both (f x) (list_all f xs) e).0) (all_of f g h xs (both (f x) (list_all f xs) e).1)
+
+  skip_shut_vain : (skip : Option Pattern) → is_skip_shut a.sets.now a.budget a.ignore key skip ≡ true → is_skip_vain a c skip ≡ true
+  skip_shut_vain None e = refl
+  skip_shut_vain (Some pattern) e = shut_vain pattern e
+
+  skip_shut_cheap : (skip : Option Pattern) → is_skip_shut a.sets.now a.budget a.ignore key skip ≡ true → is_skip_cheap a.budget skip ≡ true
+  skip_shut_cheap None e = refl
+  skip_shut_cheap (Some pattern) e = shut_cheap pattern e
+
+  -- a column whose key shuts out the skip and all ends is passed over
+  pub shut_passed : are_shut a.sets.now a.budget a.ignore key a.skip.now a.ends.now ≡ true → IsPassedOver a c
+  shut_passed e =
+      let f = is_shut a.sets.now a.budget a.ignore key in
+      let h = both (is_skip_shut a.sets.now a.budget a.ignore key a.skip.now) (list_all f a.ends.now) e in
+      record {
+        idle = both_pass (is_skip_vain a c a.skip.now) (list_all (is_vain a c) a.ends.now) (skip_shut_vain a.skip.now h.0) (all_of f (is_vain a c) shut_vain a.ends.now h.1);
+        cheap = both_pass (is_skip_cheap a.budget a.skip.now) (list_all (is_cheap a.budget) a.ends.now) (skip_shut_cheap a.skip.now h.0) (all_of f (is_cheap a.budget) shut_cheap a.ends.now h.1);
+      }
+
+-- what is kept of a region tells of the patterns that a search has
+shut_is : (a : Passing) → IsOfRegion a → (number : ℕ) (key : Key) → key_numbered number ≡ key →
+    is_shut_at a.items.now a.sets.now a.budget number a.region.0 ≡ are_shut a.sets.now a.budget a.ignore key a.skip.now a.ends.now
+shut_is a of number key is =
+    let other : key ≡ key_numbered number = sym is in
+    sym (λ i. are_shut a.sets.now a.budget (of.ignore i) (other i) (of.skip i) (of.ends i))
+
+pub shut_by : (a : Passing) → IsOfRegion a → (number : ℕ) (key : Key) → key_numbered number ≡ key →
+    is_shut_at a.items.now a.sets.now a.budget number a.region.0 ≡ true → are_shut a.sets.now a.budget a.ignore key a.skip.now a.ends.now ≡ true
+shut_by a of number key is e = sym (shut_is a of number key is) ∙ e
+
+pub shut_told : (a : Passing) → IsOfRegion a → (number : ℕ) (key : Key) → key_numbered number ≡ key →
+    are_shut a.sets.now a.budget a.ignore key a.skip.now a.ends.now ≡ true → is_shut_at a.items.now a.sets.now a.budget number a.region.0 ≡ true
+shut_told a of number key is e = shut_is a of number key is ∙ e
+
+-- the answers that a search has are those of what its columns are asked
+module _ (a : Passing) (s : Searching) (text : Text) (skip : Option Pattern) (ends : List Pattern) (of : IsPassing a s text skip ends) (answers : KeyAnswers) where
+  asked : is_shut_at a.items.now a.sets.now a.budget ≡ is_shut_at s.items.now s.matcher.sets.now s.matcher.budget
+  asked = λ i. is_shut_at (of.items i) (of.sets i) (of.budget i)
+
+  pub answers_of : AnswersStand (is_shut_at s.items.now s.matcher.sets.now s.matcher.budget) answers → AnswersStand (is_shut_at a.items.now a.sets.now a.budget) answers
+  answers_of = subst (λ (f : ℕ → ℕ → Bool). AnswersStand f answers) (sym asked)
+
+  pub answers_back : AnswersStand (is_shut_at a.items.now a.sets.now a.budget) answers → AnswersStand (is_shut_at s.items.now s.matcher.sets.now s.matcher.budget) answers
+  answers_back = subst (λ (f : ℕ → ℕ → Bool). AnswersStand f answers) asked
 
 -- ---- columns
 
@@ -129,12 +205,12 @@ module _ (a : Passing) (s : Searching) (text : Text) (skip : Option Pattern) (en
   abbrev left : ℕ → Painted Cause (Option RegionEnd)
   left c = looked_first (Some k) (end_from (search_in s text) kind (columns_from c last) c)
 
-  pass : (count c next : ℕ) → next ≡ c + count → next ≤ suc last → (c < next → a.cheap ≡ true) → ((j : ℕ) → c ≤ j → j < next → is_idle a j ≡ true) → left c ≡ left next
-  pass zero c next e within cheap idle = ap left (omega arith)
-  pass (suc count) c next e within cheap idle =
+  pass : (count c next : ℕ) → next ≡ c + count → next ≤ suc last → ((j : ℕ) → c ≤ j → j < next → IsPassedOver a j) → left c ≡ left next
+  pass zero c next e within passed = ap left (omega arith)
+  pass (suc count) c next e within passed =
       let less : c < next = omega arith in
-      column_passed a s text skip ends of k held c (omega arith) kind last sk en (omega arith) (cheap less) (idle c (omega arith) less)
-      ∙ pass count (suc c) next (omega arith) within (λ _. cheap less) (λ j from below. idle j (omega (arith, from)) below)
+      column_passed a s text skip ends of k held c (omega arith) kind last sk en (omega arith) (passed c (omega arith) less)
+      ∙ pass count (suc c) next (omega arith) within (λ j from below. passed j (omega (arith, from)) below)
 
-  pub columns_passed : (c next : ℕ) → c ≤ next → next ≤ suc last → (c < next → a.cheap ≡ true) → ((j : ℕ) → c ≤ j → j < next → is_idle a j ≡ true) → left c ≡ left next
-  columns_passed c next from within cheap idle = pass (next - c) c next (omega (arith, from)) within cheap idle
+  pub columns_passed : (c next : ℕ) → c ≤ next → next ≤ suc last → ((j : ℕ) → c ≤ j → j < next → IsPassedOver a j) → left c ≡ left next
+  columns_passed c next from within passed = pass (next - c) c next (omega (arith, from)) within passed

@@ -28,7 +28,7 @@ use Rattle.region_ends.specs.declared.searching.EndAnswer.TheVariants.{NotHere}
 use Rattle.region_ends.specs.declared.searching.Searched.{Searched}
 use Rattle.region_ends.specs.declared.searching.Searching.{Searching}
 use Rattle.region_ends.specs.EndMemo.{IsKept, KnownStands}
-use Rattle.region_ends.specs.Passing.{IsPassing, is_idle}
+use Rattle.region_ends.specs.Passing.{IsPassedOver, IsPassing}
 use Rattle.region_ends.specs.Searches.{search_of, IsEnd}
 use Rattle.region_ends.specs.Steps.{HoldsLine, search_in}
 use Rattle.region_ends.specs.Stretches.{answer_at, IsFirst, ReachesEnd, SameUpTo, TellsColumns, left_from}
@@ -214,14 +214,14 @@ module _ (s : Searching) (text : Text) (kind : ItemKind) where
   after k c = looked_first (Some k) (end_from (search_in s text) kind (columns_from c last) c)
 
   pub same_to : (a : Passing) (skip : Option Pattern) (ends : List Pattern) → IsPassing a s text skip ends → skip ≡ skip_of kind → ends ≡ ends_of kind → HoldsLine one s.from.line →
-      (first c busy : ℕ) → SameUpTo s text kind first c → c ≤ busy → busy ≤ suc last → (c < busy → a.cheap ≡ true) → ((j : ℕ) → c ≤ j → j < busy → is_idle a j ≡ true) → SameUpTo s text kind first busy
-  same_to a skip ends of sk en held first c busy same from within cheap idle d low high = elim (cases_lt d c) [
+      (first c busy : ℕ) → SameUpTo s text kind first c → c ≤ busy → busy ≤ suc last → ((j : ℕ) → c ≤ j → j < busy → IsPassedOver a j) → SameUpTo s text kind first busy
+  same_to a skip ends of sk en held first c busy same from within over d low high = elim (cases_lt d c) [
     | inl before ↦ same d low (omega (arith, before)) ∙ passed c (omega arith) from
     | inr behind ↦ passed d behind high
   ]
     where
       passed : (e : ℕ) → c ≤ e → e ≤ busy → left_from s text kind e ≡ left_from s text kind busy
-      passed e low high = columns_passed a s text skip ends of one held last refl kind sk en e busy high within (λ less. cheap (omega (arith, less, low))) (λ j from below. idle j (omega (arith, from, low)) below)
+      passed e low high = columns_passed a s text skip ends of one held last refl kind sk en e busy high within (λ j from below. over j (omega (arith, from, low)) below)
 
   pub same_after : (first busy next result : ℕ) (k m : Looked) → IsFirst result first busy next k m → m ≡ one → (k ≡ one → SameUpTo s text kind first busy) → after k busy ≡ after m next → SameUpTo s text kind result next
   same_after first busy next result k m (inl e) alone same step d low high =

@@ -3,6 +3,7 @@ pub mod Attempts
 pub mod Searches
 pub mod KeptEnd
 pub mod EndMemo
+pub mod KeyAnswers
 -- what only code and proofs cite
 pub mod Steps
 pub mod Stretches

@@ -1,13 +1,16 @@
 -- Columns at which a search finds nothing, by what stands there.
-use Rattle.std.specs.Prelude.{◌≡◌, ℕ, ◌-◌, Bool, true, nat_lt, ◌||◌, ◌&&◌, not, List, Option, Some, None}
+use Rattle.std.specs.Prelude.{◌≡◌, ℕ, ◌-◌, Bool, true, nat_eq, nat_lt, ◌||◌, ◌&&◌, not, List, Option, Some, None}
 use Rattle.std.specs.List.{list_all}
+use Rattle.char_class.specs.declared.sets.Sets.{Sets}
 use Rattle.match_rules.specs.Ways.{Text, line_at}
+use Rattle.syntax_set.specs.declared.added_item.AddedItem.{AddedItem}
 use Rattle.syntax_set.specs.declared.item.Pattern.{Pattern}
 use Rattle.pattern_screens.specs.declared.key.Key.{Key}
 use Rattle.pattern_screens.specs.Bounds.{failing_cost}
-use Rattle.pattern_screens.specs.Keys.{key_of}
+use Rattle.pattern_screens.specs.Keys.{key_numbered, key_of}
 use Rattle.pattern_screens.specs.Screens.{is_futile, verdict}
 use Rattle.paint_rules.specs.Rules.{item_of}
+use Rattle.paint_rules.specs.EndInLine.{ends_of, skip_of}
 use Rattle.region_ends.specs.declared.passing.Passing.{Passing}
 use Rattle.region_ends.specs.declared.searching.Searching.{Searching}
 
@@ -40,14 +43,51 @@ is_skip_cheap budget (Some pattern) = is_cheap budget pattern
 abbrev pub are_cheap : ℕ → Option Pattern → List Pattern → Bool
 are_cheap budget skip ends = is_skip_cheap budget skip && list_all (is_cheap budget) ends
 
+-- a column that is passed over
+pub record IsPassedOver (a : Passing) (c : ℕ) : Type 0 where
+  pub idle : is_idle a c ≡ true
+  pub cheap : are_cheap a.budget a.skip.now a.ends.now ≡ true
+
+-- ---- what is kept of a region
+
+-- a pattern without `lc` fails at the columns with a key, within the budget
+abbrev pub is_shut : Sets → ℕ → Bool → Key → Pattern → Bool
+is_shut sets budget ignore key pattern =
+    nat_eq pattern.lc 0
+    && (is_futile (verdict sets ignore key pattern.tree) && is_cheap budget pattern)
+
+abbrev pub is_skip_shut : Sets → ℕ → Bool → Key → Option Pattern → Bool
+is_skip_shut sets budget ignore key None = true
+is_skip_shut sets budget ignore key (Some pattern) = is_shut sets budget ignore key pattern
+
+abbrev pub are_shut : Sets → ℕ → Bool → Key → Option Pattern → List Pattern → Bool
+are_shut sets budget ignore key skip ends =
+    is_skip_shut sets budget ignore key skip && list_all (is_shut sets budget ignore key) ends
+
+-- the skip and all ends of a region, by the number of a key and that of the region
+abbrev pub is_shut_at : List AddedItem → Sets → ℕ → ℕ → ℕ → Bool
+is_shut_at items sets budget number region =
+    are_shut sets budget (item_of items (record { 0 = region })).ignore (key_numbered number)
+    (skip_of (item_of items (record { 0 = region })).kind)
+    (ends_of (item_of items (record { 0 = region })).kind)
+
 -- ---- what it is asked for
+
+-- the patterns are those of the region
+pub record IsOfRegion (a : Passing) : Type 0 where
+  pub ignore : a.ignore ≡ (item_of a.items.now a.region).ignore
+  pub skip : a.skip.now ≡ skip_of (item_of a.items.now a.region).kind
+  pub ends : a.ends.now ≡ ends_of (item_of a.items.now a.region).kind
+  pub cheap : a.cheap ≡ true → are_cheap a.budget a.skip.now a.ends.now ≡ true
 
 -- the line and the patterns are those of a search
 pub record IsPassing (a : Passing) (s : Searching) (text : Text) (asked_skip : Option Pattern)
     (asked_ends : List Pattern) : Type 0 where
+  pub items : a.items.now ≡ s.items.now
+  pub region : a.region ≡ s.region
+  pub budget : a.budget ≡ s.matcher.budget
   pub sets : a.sets.now ≡ s.matcher.sets.now
   pub ignore : a.ignore ≡ (item_of s.items.now s.region).ignore
   pub line : a.line.now ≡ line_at text s.from.line
   pub skip : a.skip.now ≡ asked_skip
   pub ends : a.ends.now ≡ asked_ends
-  pub cheap : a.cheap ≡ true → are_cheap s.matcher.budget asked_skip asked_ends ≡ true

@@ -10,8 +10,11 @@ ghost use Rattle.paint_rules.specs.EndInLine.{end_in_line};
 ghost use Rattle.region_ends.specs.Searches.{search_of, IsEnd};
 ghost use Rattle.region_ends.specs.Stretches.{answer_at};
 ghost use Rattle.region_ends.specs.EndMemo.{EndMemoStands, KnownStands, IsKept, TellsOf};
+ghost use Rattle.region_ends.specs.KeyAnswers.{AnswersStand};
+ghost use Rattle.region_ends.specs.Passing.{is_shut_at};
 
-use crate::searching::{EndAnswer, Searched, find_end, search_anew};
+use crate::key_answers::KeyAnswers;
+use crate::searching::{EndAnswer, Searched, search_anew};
 use char_class::Sets;
 use paint_rules::RegionEnd;
 use pattern_match::Programs;
@@ -215,10 +218,48 @@ pub fn find_end_with<T: Lines>(
     ensures memo { EndMemoStands items.now sets.now budget (T.lines lines.now) from.line
         memo.new }
 {
+    let mut shut = KeyAnswers::new(alloc);
+    find_end_by(
+        alloc, items, programs, sets, lines, region, externals, none, from, memo, &mut shut, budget,
+    )
+}
+
+/// The same, with what is known of the syntax, from line to line, at which columns no pattern of a
+/// region fits.
+pub fn find_end_by<T: Lines>(
+    alloc: Global,
+    items: &ItemSet,
+    programs: &Programs,
+    sets: &Sets,
+    lines: &T,
+    region: ItemId,
+    externals: &Externals,
+    none: &Externals,
+    from: Place,
+    memo: &mut EndMemo,
+    shut: &mut KeyAnswers,
+    budget: u64,
+) -> Result<EndAnswer, Memory>
+    requires sound { AreSound items.now programs.now }
+    requires item { region.0 < length items.now }
+    requires region { is_region (item_of items.now region).kind ≡ true }
+    requires present { from.line < length (T.lines lines.now) }
+    requires budget { 1 ≤ budget }
+    requires none { none.now ≡ no_externals }
+    requires memo { EndMemoStands items.now sets.now budget (T.lines lines.now) from.line
+        memo.old }
+    requires shut { AnswersStand (is_shut_at items.now sets.now budget) shut.old }
+    ensures end { IfOk result (λ a. IsEnd a region (end_in_line (search_of items.now sets.now budget
+        (T.lines lines.now) region externals.now from))) }
+    ensures memo { EndMemoStands items.now sets.now budget (T.lines lines.now) from.line
+        memo.new }
+    ensures shut { AnswersStand (is_shut_at items.now sets.now budget) shut.new }
+{
     if !externals.same(none) {
-        return find_end(
-            alloc, items, programs, sets, lines, region, externals, from, budget,
-        );
+        let searched = search_anew(
+            alloc, items, programs, sets, lines, region, externals, from, shut, budget,
+        )?;
+        return Ok(searched.answer);
     }
     // The proof needs the bounds that this call tells of the text.
     let _count = lines.len();
@@ -227,7 +268,7 @@ pub fn find_end_with<T: Lines>(
         None => {}
     }
     let searched = search_anew(
-        alloc, items, programs, sets, lines, region, externals, from, budget,
+        alloc, items, programs, sets, lines, region, externals, from, shut, budget,
     )?;
     match known_by(region, from.line, searched) {
         Some(known) => memo.keep(known)?,

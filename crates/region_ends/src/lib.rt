@@ -8,14 +8,16 @@
 
 mod end_memo;
 mod keeping;
+mod key_answers;
 mod matching;
 mod offsets;
 mod passing;
 mod searching;
 mod skips;
 
-pub use end_memo::{EndMemo, find_end_with};
+pub use end_memo::{EndMemo, find_end_by, find_end_with};
 pub use keeping::{earlier_end, item_of, kept_end, kept_end_over};
+pub use key_answers::KeyAnswers;
 pub use matching::Matcher;
 pub use offsets::{earlier_place, later_place, offset_place};
 pub use paint_rules::{RegionEnd, Which};

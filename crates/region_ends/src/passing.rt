@@ -2,23 +2,30 @@
 ghost use Rattle.std.specs.Prelude.{◌≡◌, ◌≤◌, ◌<◌, ℕ, suc, true, length, IsTrue};
 ghost use Rattle.std.specs.List.{list_all};
 ghost use Rattle.pattern_screens.specs.Keys.{key_of};
-ghost use Rattle.region_ends.specs.Passing.{are_cheap, fails, is_cheap, is_idle, is_skip_cheap, is_skip_vain, is_vain};
+ghost use Rattle.region_ends.specs.KeyAnswers.{AnswersStand};
+ghost use Rattle.region_ends.specs.Passing.{are_cheap, are_shut, fails, is_cheap, is_idle, is_shut, is_shut_at, is_skip_cheap, is_skip_shut, is_skip_vain, is_vain, IsOfRegion, IsPassedOver};
 
+use crate::key_answers::KeyAnswers;
 use char_class::Sets;
 use pattern_screens::{Key, failing_cost, screen};
-use syn_base::List;
-use syntax_set::Pattern;
+use syn_base::{ItemId, List, Memory};
+use syntax_set::{ItemSet, Pattern};
 
 /// What a search asks of the columns of its line.
 #[derive(Clone, Copy)]
 pub(crate) struct Passing<'a> {
+    pub(crate) items: &'a ItemSet,
+    pub(crate) region: ItemId,
+    /// The most that one attempt may cost.
+    pub(crate) budget: u64,
     pub(crate) sets: &'a Sets,
     /// Whether the region's item ignores case (`:syn-case`).
     pub(crate) ignore: bool,
     pub(crate) line: &'a [char],
     pub(crate) skip: &'a Option<Pattern>,
     pub(crate) ends: &'a List<Pattern>,
-    /// Whether attempts where screens fail are within the budget.
+    /// Whether some pattern begins before the column (`lc`), and attempts where screens fail are
+    /// within the budget.
     pub(crate) cheap: bool,
 }
 
@@ -78,20 +85,100 @@ impl Passing<'_> {
         self.is_skip_vain(c, key) && self.are_vain(self.ends.as_slice(), c, key)
     }
 
+    /// Whether a pattern can't fit at the columns with a key, whatever stands before them, and an
+    /// attempt there is within the budget.
+    fn is_shut(&self, pattern: &Pattern, key: Key) -> bool
+        ensures { IsTrue result → is_shut self.now.sets.now self.now.budget self.now.ignore key
+            pattern.now ≡ true }
+    {
+        pattern.lc == 0 && self.fails(pattern, key) && is_cheap(pattern, self.budget)
+    }
+
+    /// The same of the skip.
+    fn is_skip_shut(&self, key: Key) -> bool
+        ensures { IsTrue result → is_skip_shut self.now.sets.now self.now.budget self.now.ignore key
+            self.now.skip.now ≡ true }
+    {
+        match self.skip {
+            None => true,
+            Some(pattern) => self.is_shut(pattern, key),
+        }
+    }
+
+    /// The same of each of some patterns.
+    fn are_all_shut(&self, patterns: &[Pattern], key: Key) -> bool
+        ensures { IsTrue result → list_all (is_shut self.now.sets.now self.now.budget
+            self.now.ignore key) patterns.now ≡ true }
+    {
+        for pattern in patterns {
+            if !self.is_shut(pattern, key) {
+                return false;
+            }
+        }
+        true
+    }
+
+    /// The same of the skip and the ends.
+    fn are_shut(&self, key: Key) -> bool
+        ensures { IsTrue result → are_shut self.now.sets.now self.now.budget self.now.ignore key
+            self.now.skip.now self.now.ends.now ≡ true }
+    {
+        self.is_skip_shut(key) && self.are_all_shut(self.ends.as_slice(), key)
+    }
+
+    /// The same, by the answers that are kept. This one is kept too, if there is memory.
+    fn are_known_shut(&self, key: Key, answers: &mut KeyAnswers) -> bool
+        requires of { IsOfRegion self.now }
+        requires answers { AnswersStand (is_shut_at self.now.items.now self.now.sets.now
+            self.now.budget) answers.old }
+        ensures answers { AnswersStand (is_shut_at self.now.items.now self.now.sets.now
+            self.now.budget) answers.new }
+        ensures shut { IsTrue result → are_shut self.now.sets.now self.now.budget self.now.ignore
+            key self.now.skip.now self.now.ends.now ≡ true }
+    {
+        let number = key.number();
+        match answers.known(number, self.region) {
+            Some(shut) => return shut,
+            None => {}
+        }
+        let shut = self.are_shut(key);
+        match answers.keep(number, self.region, shut) {
+            Ok(()) | Err(Memory) => shut,
+        }
+    }
+
+    /// Whether a column is passed over.
+    fn passes(&self, c: usize, answers: &mut KeyAnswers) -> bool
+        requires column { c ≤ length self.now.line.now }
+        requires of { IsOfRegion self.now }
+        requires answers { AnswersStand (is_shut_at self.now.items.now self.now.sets.now
+            self.now.budget) answers.old }
+        ensures answers { AnswersStand (is_shut_at self.now.items.now self.now.sets.now
+            self.now.budget) answers.new }
+        ensures passed { IsTrue result → IsPassedOver self.now c }
+    {
+        let key = Key::of(self.sets, self.line, c);
+        if self.are_known_shut(key, answers) {
+            return true;
+        }
+        self.cheap && self.is_idle(c)
+    }
+
     /// The first column from one on that isn't passed over; where all are, that behind the line's
     /// end. Where attempts may be too costly none is.
-    pub(crate) fn idle_until(&self, c: usize) -> usize
-        requires { c ≤ length self.now.line.now }
+    pub(crate) fn idle_until(&self, c: usize, answers: &mut KeyAnswers) -> usize
+        requires column { c ≤ length self.now.line.now }
+        requires of { IsOfRegion self.now }
+        requires answers { AnswersStand (is_shut_at self.now.items.now self.now.sets.now
+            self.now.budget) answers.old }
+        ensures answers { AnswersStand (is_shut_at self.now.items.now self.now.sets.now
+            self.now.budget) answers.new }
         ensures from { c ≤ result }
         ensures within { result ≤ suc (length self.now.line.now) }
-        ensures cheap { c < result → self.now.cheap ≡ true }
-        ensures idle { (k : ℕ) → c ≤ k → k < result → is_idle self.now k ≡ true }
+        ensures idle { (k : ℕ) → c ≤ k → k < result → IsPassedOver self.now k }
     {
-        if !self.cheap {
-            return c;
-        }
         for col in c..=self.line.len() {
-            if !self.is_idle(col) {
+            if !self.passes(col, answers) {
                 return col;
             }
         }
@@ -129,6 +216,19 @@ fn are_all_cheap(patterns: &[Pattern], budget: u64) -> bool
         }
     }
     true
+}
+
+/// Whether a skip or one of some ends begins before the column at which it is tried (`lc`).
+pub(crate) fn looks_back(skip: &Option<Pattern>, ends: &List<Pattern>) -> bool {
+    let skips = match skip {
+        Some(pattern) => pattern.lc > 0,
+        None => false,
+    };
+    skips
+        || ends
+            .as_slice()
+            .iter()
+            .any(|pattern: &Pattern| -> bool { pattern.lc > 0 })
 }
 
 /// Whether attempts of a skip and of ends where their screens fail are within a budget.

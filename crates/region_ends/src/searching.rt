@@ -13,14 +13,16 @@ ghost use Rattle.paint_rules.specs.ItemMatch.{columns_from};
 ghost use Rattle.paint_rules.specs.EndInLine.{end_in_line, end_from, end_at, end_made, skip_at, skip_of, ends_of, tried_at};
 ghost use Rattle.region_ends.specs.Searches.{search_of, IsEnd};
 ghost use Rattle.region_ends.specs.declared.searching.EndAnswer.TheVariants as answer;
-ghost use Rattle.region_ends.specs.Passing.{IsPassing};
+ghost use Rattle.region_ends.specs.KeyAnswers.{AnswersStand};
+ghost use Rattle.region_ends.specs.Passing.{is_shut_at, IsOfRegion, IsPassing};
 ghost use Rattle.region_ends.specs.Stretches.{IsFirst, IsSearched, TellsColumns};
 ghost use Rattle.region_ends.specs.Steps.{search_in, IsReady, EndsBefore, seen, IsTried, IsSkip, IsStep, GoesFurther, HoldsLine, StepHolds};
 
 use crate::keeping::item_of;
+use crate::key_answers::KeyAnswers;
 use crate::matching::Matcher;
 use crate::offsets::{earlier_place, later_place, offset_place};
-use crate::passing::{Passing, are_cheap};
+use crate::passing::{Passing, are_cheap, looks_back};
 use crate::skips::{SkipAnswer, skip_by};
 use char_class::Sets;
 use paint_rules::{RegionEnd, Which};
@@ -267,16 +269,23 @@ impl Searching<'_> {
         skip: &'b Option<Pattern>,
         ends: &'b List<Pattern>,
     ) -> Passing<'b>
-        requires { IsReady self.now (T.lines lines.now) }
-        ensures { IsPassing result self.now (T.lines lines.now) skip.now ends.now }
+        requires ready { IsReady self.now (T.lines lines.now) }
+        requires skip { skip.now ≡ skip_of (item_of self.now.items.now self.now.region).kind }
+        requires ends { ends.now ≡ ends_of (item_of self.now.items.now self.now.region).kind }
+        ensures of { IsOfRegion result }
+        ensures is { IsPassing result self.now (T.lines lines.now) skip.now ends.now }
     {
+        let budget = self.matcher.budget;
         Passing {
+            items: self.items,
+            region: self.region,
+            budget,
             sets: self.matcher.sets,
             ignore: item_of(self.items, self.region).ignore,
             line: lines.line(self.from.line),
             skip,
             ends,
-            cheap: are_cheap(skip, ends, self.matcher.budget),
+            cheap: looks_back(skip, ends) && are_cheap(skip, ends, budget),
         }
     }
 
@@ -286,11 +295,18 @@ impl Searching<'_> {
         lines: &T,
         skip: &Option<Pattern>,
         ends: &List<Pattern>,
+        shut: &mut KeyAnswers,
     ) -> Result<Searched, Memory>
         requires ready { IsReady self.now (T.lines lines.now) }
+        requires skip { skip.now ≡ skip_of (item_of self.now.items.now self.now.region).kind }
+        requires ends { ends.now ≡ ends_of (item_of self.now.items.now self.now.region).kind }
         requires skip_added { ForSome skip.now (IsAdded self.now.matcher.programs.now) }
         requires ends_added { All (IsAdded self.now.matcher.programs.now) ends.now }
-        ensures { IfOk result (λ s. (kind : ItemKind) → skip.now ≡ skip_of kind →
+        requires shut { AnswersStand (is_shut_at self.now.items.now self.now.matcher.sets.now
+            self.now.matcher.budget) shut.old }
+        ensures shut { AnswersStand (is_shut_at self.now.items.now self.now.matcher.sets.now
+            self.now.matcher.budget) shut.new }
+        ensures searched { IfOk result (λ s. (kind : ItemKind) → skip.now ≡ skip_of kind →
             ends.now ≡ ends_of kind → IsSearched self.now (T.lines lines.now) kind s) }
     {
         let mut looked = Looked::one(self.from.line as i64);
@@ -299,7 +315,7 @@ impl Searching<'_> {
         let mut c = self.from.col;
         let mut first = c;
         'columns: while c <= last {
-            let busy = passing.idle_until(c);
+            let busy = passing.idle_until(c, shut);
             if busy > last {
                 return Ok(without_end(looked, first, busy));
             }
@@ -319,7 +335,8 @@ impl Searching<'_> {
     }
 }
 
-/// A search for the end of a region in the line of a place, from that place on.
+/// A search for the end of a region in the line of a place, from that place on. `shut` tells where no
+/// pattern of a region fits.
 pub(crate) fn search_anew<T: Lines>(
     alloc: Global,
     items: &ItemSet,
@@ -329,6 +346,7 @@ pub(crate) fn search_anew<T: Lines>(
     region: ItemId,
     externals: &Externals,
     from: Place,
+    shut: &mut KeyAnswers,
     budget: u64,
 ) -> Result<Searched, Memory>
     requires sound { AreSound items.now programs.now }
@@ -336,6 +354,8 @@ pub(crate) fn search_anew<T: Lines>(
     requires region { is_region (item_of items.now region).kind ≡ true }
     requires present { from.line < length (T.lines lines.now) }
     requires budget { 1 ≤ budget }
+    requires shut { AnswersStand (is_shut_at items.now sets.now budget) shut.old }
+    ensures shut { AnswersStand (is_shut_at items.now sets.now budget) shut.new }
     ensures answer { IfOk result (λ s. IsEnd s.answer region (end_in_line (search_of items.now
         sets.now budget (T.lines lines.now) region externals.now from))) }
     ensures columns { IfOk result (TellsColumns items.now sets.now budget (T.lines lines.now) region
@@ -360,7 +380,7 @@ pub(crate) fn search_anew<T: Lines>(
             starts: _,
             skip,
             ends,
-        } => searching.search(lines, skip, ends),
+        } => searching.search(lines, skip, ends, shut),
         ItemKind::Keyword | ItemKind::Match(_) => unreachable!(),
     }
 }
@@ -386,8 +406,9 @@ pub fn find_end<T: Lines>(
     ensures { IfOk result (λ a. IsEnd a region (end_in_line (search_of items.now sets.now budget
         (T.lines lines.now) region externals.now from))) }
 {
+    let mut shut = KeyAnswers::new(alloc);
     let searched = search_anew(
-        alloc, items, programs, sets, lines, region, externals, from, budget,
+        alloc, items, programs, sets, lines, region, externals, from, &mut shut, budget,
     )?;
     Ok(searched.answer)
 }

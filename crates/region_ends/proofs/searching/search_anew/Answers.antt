@@ -27,4 +27,4 @@ returns-clause-columns g c = IfOk-weaker c.search.result _ _ (λ s is found e d 
     let left : Painted Cause (Option RegionEnd) = looked_first (Some (one_line (pos from.line))) (end_from early kind (columns_from d (length (line_at text from.line))) d) in
     subst (λ (a : EndAnswer). IsEnd a c.args.region (end_in_line late)) (sym e)
     (from_later c.args.items.now c.args.sets.now c.args.budget text c.args.region c.args.externals.now from d (omega (arith, low, known.from)) found c.requires.present reached
-    (subst (λ (a : EndAnswer). IsEnd a c.args.region left) e (known.same found e d low high)))) c.search.ensures
+    (subst (λ (a : EndAnswer). IsEnd a c.args.region left) e (known.same found e d low high)))) c.search.ensures.searched

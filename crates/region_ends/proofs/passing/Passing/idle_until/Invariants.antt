@@ -1,7 +1,11 @@
-use Rattle.std.proofs.Common.{◌≡◌, ◌≤◌, ◌<◌, ℕ, true}
-use Rattle.region_ends.specs.Passing.{is_idle}
+use Rattle.std.proofs.Common.{◌≤◌, ◌<◌, ℕ}
+use Rattle.region_ends.specs.KeyAnswers.{AnswersStand}
+use Rattle.region_ends.specs.Passing.{is_shut_at, IsPassedOver}
 use Rattle.region_ends.proofs.passing.Passing.idle_until.Given as goal
 
 -- the columns before are passed over
 abbrev pub invariant-loop-col : goal.invariant-loop-col
-invariant-loop-col l = (k : ℕ) → l.c ≤ k → k < l.col → is_idle l.self k ≡ true
+invariant-loop-col l = record {
+  answers : AnswersStand (is_shut_at l.self.items.now l.self.sets.now l.self.budget) l.answers;
+  passed : (k : ℕ) → l.c ≤ k → k < l.col → IsPassedOver l.self k;
+}
