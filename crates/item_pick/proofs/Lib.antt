@@ -1,4 +1,5 @@
 pub mod FoundLaws
+pub mod KeptLaws
 pub mod ListLaws
 pub mod MatchLaws
 pub mod MemoLaws

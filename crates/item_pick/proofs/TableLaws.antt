@@ -37,7 +37,7 @@ use Rattle.item_pick.specs.Runs.{Covers, TellsOf}
 use Rattle.item_pick.specs.Screens.{HoldsLine, HoldsLines, IsIdle, IsLater, IsSettled}
 use Rattle.item_pick.specs.Standing.{first_pattern, has_one_start, IsFirst, IsPatternOf}
 use Rattle.item_pick.specs.Started.{admits, is_free}
-use Rattle.item_pick.specs.Tables.{fails, is_vain, passes, AnchorStands, EndsStand, IsAnchored, IsEnough, IsMissed, IsNextAt, IsNextIn, IsNumberAt, IsVainAt, Lacks, ListStands, MemoryStands, RisesTo, RunStands, StaysOut, TablesStand, VainStands}
+use Rattle.item_pick.specs.Tables.{fails, is_vain, passes, EndsStand, IsAnchored, IsEnough, IsMissed, IsNextAt, IsNextIn, IsNumberAt, IsVainAt, Lacks, ListStands, MemoryStands, RisesTo, RunStands, StaysOut, TablesStand}
 use Rattle.item_pick.proofs.MatchLaws.{no_start}
 use Rattle.item_pick.proofs.QuietLaws.{earlier}
 use Rattle.item_pick.proofs.ScreenLaws.{each_held, futile_idle}
@@ -230,13 +230,6 @@ nothing_known r t l i lines = record {
   settled = λ pattern first c from below within. absurd (omega (arith, below));
   enough = tt;
 }
-
--- what was answered of a first pattern is true of the item
-pub vain_stands : (r : Rules) (i : ItemId) (number : ℕ) (ignore : Bool) → ignore ≡ (item_of r.items i).ignore → (pattern : Pattern) → IsFirst r i pattern → (is : Bool) →
-    (is ≡ true → is_vain r.sets r.budget ignore number pattern ≡ true) → VainStands r (record { item = i; number = number; is = is })
-vain_stands r i number ignore same pattern first is told e other own =
-    subst (λ (q : Pattern). is_vain r.sets r.budget (item_of r.items i).ignore number q ≡ true) (one_first r i pattern other first own)
-    (subst (λ b. is_vain r.sets r.budget b number pattern ≡ true) same (told e))
 
 pub missed_ok : (r : Rules) (memory : PickMemory) (i : ItemId) (pattern : Pattern) → IsFirst r i pattern → (col number : ℕ) →
     ((t : Text) (l : ℕ) → MemoryStands r t l memory → IsNumberAt r (line_at t l) col number) → (result : Result Bool Memory) →

@@ -1,6 +1,6 @@
 -- Which items of a choice may start at a column, by the key of the column.
-use Rattle.std.specs.Prelude.{◌≡◌, ◌<◌, ◌≤◌, ◌+◌, ◌-◌, ◌⊎◌, ℕ, Bool, true, not, ◌&&◌, false, nat_lt, is_none, List, length, slice_index, IfSome}
-use Rattle.std.specs.List.{All}
+use Rattle.std.specs.Prelude.{◌≡◌, ◌<◌, ◌≤◌, ◌+◌, ◌-◌, ◌⊎◌, ℕ, Bool, true, not, ◌&&◌, false, nat_lt, is_none, List, length, slice_index, IfSome, Option, Some, None}
+use Rattle.std.specs.List.{All, list_all}
 use Rattle.std.specs.List.Sorted.{IsNonDecreasing}
 use Rattle.char_class.specs.declared.sets.Sets.{Sets}
 use Rattle.vim_pattern.specs.Tree.{PatternTree}
@@ -8,6 +8,8 @@ use Rattle.syn_base.specs.declared.looked.Looked.{Looked}
 use Rattle.syn_base.specs.declared.places.ItemId.{ItemId}
 use Rattle.syn_base.specs.declared.places.Place.{Place}
 use Rattle.match_rules.specs.Ways.{Text, line_at}
+use Rattle.syntax_set.specs.declared.item.ItemKind.{ItemKind}
+use Rattle.syntax_set.specs.declared.item.ItemKind.TheVariants.{Keyword, Match, Region}
 use Rattle.syntax_set.specs.declared.item.Pattern.{Pattern}
 use Rattle.paint_rules.specs.Rules.{Rules, item_of}
 use Rattle.pattern_screens.specs.Bounds.{failing_cost}
@@ -15,16 +17,16 @@ use Rattle.pattern_screens.specs.Keys.{AreNumbers, is_first, key_numbered, key_o
 use Rattle.pattern_screens.specs.Screens.{is_futile, verdict}
 use Rattle.pattern_screens.specs.declared.key.Key.{Key}
 use Rattle.region_ends.specs.EndMemo.{EndMemoStands}
+use Rattle.region_ends.specs.KeyAnswers.{AnswersStand}
 use Rattle.item_pick.specs.declared.anchors.Anchor.{Anchor}
 use Rattle.item_pick.specs.declared.choice.Choice.{Choice}
 use Rattle.item_pick.specs.declared.memory.PickMemory.{PickMemory}
 use Rattle.item_pick.specs.declared.runs.Run.{Run}
 use Rattle.item_pick.specs.declared.runs.Runs.{Runs}
-use Rattle.item_pick.specs.declared.vains.Vain.{Vain}
 use Rattle.item_pick.specs.declared.tables.Row.{Row}
 use Rattle.item_pick.specs.Quiet.{item_numbered, IsPassed}
 use Rattle.item_pick.specs.Screens.{IsSettled}
-use Rattle.item_pick.specs.Standing.{IsFirst, IsPatternOf}
+use Rattle.item_pick.specs.Standing.{first_pattern, IsFirst, IsPatternOf}
 use Rattle.item_pick.specs.Started.{admits}
 
 -- an attempt at a column with this key has no way, looks at its line alone, and is within the budget
@@ -48,6 +50,19 @@ abbrev pub StaysOut : Rules → ℕ → ItemId → Type 0
 StaysOut r number i =
     (pattern : Pattern) → IsPatternOf (item_of r.items i).kind pattern →
     is_screened r.sets r.budget (item_of r.items i).ignore number pattern ≡ true
+
+-- the same as a test, of an item of this kind, and of one by its number
+abbrev pub is_kind_screened : Sets → ℕ → Bool → ℕ → ItemKind → Bool
+is_kind_screened sets budget ignore number Keyword = true
+is_kind_screened sets budget ignore number (Match pattern) =
+    is_screened sets budget ignore number pattern
+is_kind_screened sets budget ignore number (Region starts skip ends) =
+    list_all (is_screened sets budget ignore number) starts
+
+abbrev pub stays_out : Rules → ℕ → ℕ → Bool
+stays_out r number item =
+    is_kind_screened r.sets r.budget (item_of r.items (item_numbered item)).ignore number
+    (item_of r.items (item_numbered item)).kind
 
 -- a list hasn't a number
 abbrev pub Lacks : List ℕ → ℕ → Type 0
@@ -92,8 +107,15 @@ IsVainAt r number i =
     (pattern : Pattern) → IsFirst r i pattern →
     is_vain r.sets r.budget (item_of r.items i).ignore number pattern ≡ true
 
-abbrev pub VainStands : Rules → Vain → Type 0
-VainStands r vain = vain.is ≡ true → IsVainAt r vain.number vain.item
+-- the same as a test, of a pattern, if there is one, and of the first one of an item, by its number
+abbrev pub is_some_vain : Sets → ℕ → Bool → ℕ → Option Pattern → Bool
+is_some_vain sets budget ignore number None = true
+is_some_vain sets budget ignore number (Some pattern) = is_vain sets budget ignore number pattern
+
+abbrev pub is_first_vain : Rules → ℕ → ℕ → Bool
+is_first_vain r number item =
+    is_some_vain r.sets r.budget (item_of r.items (item_numbered item)).ignore number
+    (first_pattern (item_of r.items (item_numbered item)).kind)
 
 -- they are in vain at each column that has one before it, whatever stands there
 abbrev pub IsAnchored : Rules → ItemId → Type 0
@@ -111,7 +133,8 @@ IsMissed r line i pattern c =
 -- what is kept is true of these rules
 pub record TablesStand (r : Rules) (memory : PickMemory) : Type 0 where
   pub rows : All (RowStands r) memory.rows.items
-  pub vains : All (VainStands r) memory.vains.list.items
+  pub outs : AnswersStand (stays_out r) memory.outs
+  pub vains : AnswersStand (is_first_vain r) memory.vains
   pub anchors : All (AnchorStands r) memory.anchors.list.items
 
 -- ---- what is known of the line

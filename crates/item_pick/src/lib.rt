@@ -26,7 +26,6 @@ mod syntax;
 mod tables;
 mod tried;
 mod tries;
-mod vains;
 mod words;
 
 pub use asking::{pick, pick_with};

@@ -1,5 +1,6 @@
 //! What is kept of a syntax: which items may start by what stands at a column.
 ghost use Rattle.std.specs.Prelude.{◌≡◌, ◌<◌, ◌≤◌, ◌+◌, ◌^◌, ℕ, List, length, reverse, get_or, nat_lt, IfOk, IfSome, IsTrue};
+ghost use Rattle.std.specs.List.{All};
 ghost use Rattle.std.specs.List.Sorted.{IsNonDecreasing};
 ghost use Rattle.match_rules.specs.Ways.{Text, line_at};
 ghost use Rattle.paint_rules.specs.Rules.{Rules, item_of, place_at};
@@ -22,9 +23,8 @@ use crate::picking::Picking;
 use crate::runs::{Run, Runs, Search, holds};
 use crate::syntax::Syntax;
 use crate::tables::{ANY, Row};
-use crate::vains::{Vain, Vains};
 use pattern_screens::number_line;
-use region_ends::{EndAnswer, item_of};
+use region_ends::{EndAnswer, KeyAnswers, item_of};
 use std::alloc::Global;
 use syn_base::{Externals, ItemId, Lines, Looked, Memory, Place};
 use syntax_set::Pattern;
@@ -48,7 +48,10 @@ pub struct PickMemory {
     starts: Vec<usize>,
     /// Where a row of a choice and a key would be.
     places: Vec<usize>,
-    vains: Vains,
+    /// Whether an item can't start.
+    outs: KeyAnswers,
+    /// Whether attempts by the first start pattern of an item are in vain.
+    vains: KeyAnswers,
     anchors: Anchors,
     numbers: Vec<u16>,
     pub(crate) runs: Runs,
@@ -64,7 +67,8 @@ impl PickMemory {
             rows: Vec::new(alloc),
             starts: Vec::new(alloc),
             places: Vec::new(alloc),
-            vains: Vains::new(alloc),
+            outs: KeyAnswers::new(alloc),
+            vains: KeyAnswers::new(alloc),
             anchors: Anchors::new(alloc),
             numbers: Vec::new(alloc),
             runs: Runs::new(alloc),
@@ -96,17 +100,13 @@ impl PickMemory {
         ensures stands { (r : Rules) → TablesStand r self.now →
             IfSome result (λ row. RowStands r row.now) }
     {
-        let row = self.rows.get(place)?;
-        if row.choice == choice && row.number == number {
-            Some(row)
-        } else {
-            None
-        }
+        row_at(self.rows.as_slice(), place, choice, number)
     }
 
     /// Notes where a row will be.
     fn note(&mut self, choice: Choice, number: u16) -> Result<(), Memory>
         ensures rows { self.new.rows ≡ self.old.rows }
+        ensures outs { self.new.outs ≡ self.old.outs }
         ensures vains { self.new.vains ≡ self.old.vains }
         ensures anchors { self.new.anchors ≡ self.old.anchors }
         ensures numbers { self.new.numbers ≡ self.old.numbers }
@@ -159,8 +159,8 @@ impl PickMemory {
         ensures runs { self.new.runs ≡ self.old.runs }
     {
         let place = self.whole(asked, choice)?;
-        let row = match self.row(place, choice, ANY) {
-            Some(all) => asked.row_of(self.alloc, all, number)?,
+        let row = match row_at(self.rows.as_slice(), place, choice, ANY) {
+            Some(all) => asked.row_of(self.alloc, all, number, &mut self.outs)?,
             None => return Ok(place),
         };
         self.keep(row)
@@ -290,17 +290,13 @@ impl PickMemory {
         ensures vain { IfOk result (λ vain. IsTrue vain →
             IsVainAt (rules_in asked.now.parts.now asked.now.budget) number id) }
     {
-        match self.vains.known(id, number) {
+        match self.vains.known(number, id) {
             Some(vain) => return Ok(vain),
             None => {}
         }
         let ignore = item_of(asked.parts.items, id).ignore;
         let is = asked.is_vain(ignore, pattern, number);
-        self.vains.keep(Vain {
-            item: id,
-            number,
-            is,
-        })?;
+        self.vains.keep(number, id, is)?;
         Ok(is)
     }
 
@@ -561,6 +557,21 @@ fn count_below(list: &[u32], bound: usize) -> usize
     )
 }
 
+/// A row, if it stands at a place of some rows.
+fn row_at(rows: &[Row], place: usize, choice: Choice, number: u16) -> Option<&Row>
+    ensures choice { IfSome result (λ row. row.now.choice ≡ choice) }
+    ensures number { IfSome result (λ row. row.now.number ≡ number) }
+    ensures stands { (r : Rules) → All (RowStands r) rows.now →
+        IfSome result (λ row. RowStands r row.now) }
+{
+    let row = rows.get(place)?;
+    if row.choice == choice && row.number == number {
+        Some(row)
+    } else {
+        None
+    }
+}
+
 /// The number of a choice.
 fn number_of(choice: Choice) -> usize
     ensures { result < 2 ^ 34 }
@@ -574,7 +585,7 @@ fn number_of(choice: Choice) -> usize
 }
 
 /// Puts a value at the end until a list is so long.
-pub(crate) fn grow(list: &mut Vec<usize>, to: usize, value: usize) -> Result<(), Memory> {
+fn grow(list: &mut Vec<usize>, to: usize, value: usize) -> Result<(), Memory> {
     for _ in list.len()..to {
         list.push(value)?;
     }

@@ -7,12 +7,13 @@ ghost use Rattle.item_pick.specs.PartsSeen.{rules_in};
 ghost use Rattle.item_pick.specs.Quiet.{item_numbered};
 ghost use Rattle.item_pick.specs.Standing.{ChoiceFits, IsItem};
 ghost use Rattle.item_pick.specs.Started.{admits};
-ghost use Rattle.item_pick.specs.Tables.{fails, is_screened, Lacks, ListStands, RisesTo, RowStands, StaysOut};
+ghost use Rattle.region_ends.specs.KeyAnswers.{AnswersStand};
+ghost use Rattle.item_pick.specs.Tables.{fails, is_screened, is_vain, Lacks, ListStands, RisesTo, RowStands, stays_out, StaysOut};
 
 use crate::asked::Asked;
 use crate::choice::{Choice, admits};
 use pattern_screens::{KEYS, Key, failing_cost, screen};
-use region_ends::item_of;
+use region_ends::{KeyAnswers, item_of};
 use std::alloc::Global;
 use syn_base::{ItemId, Memory};
 use syntax_set::{ItemKind, Pattern};
@@ -42,6 +43,14 @@ impl Asked<'_> {
             }
             None => false,
         }
+    }
+
+    /// Whether no attempt by a pattern has a way at a column whose key has a number.
+    pub(crate) fn is_vain(&self, ignore: bool, pattern: &Pattern, number: u16) -> bool
+        ensures { IsTrue result → is_vain self.now.parts.now.sets.now self.now.budget ignore number
+            pattern.now ≡ true }
+    {
+        number < KEYS && self.fails(ignore, &pattern.tree, Key::numbered(number))
     }
 
     /// Whether an item can't start by a pattern at a column whose key has a number.
@@ -123,15 +132,39 @@ impl Asked<'_> {
         Ok(())
     }
 
-    /// The same of an item that may not be there.
+    /// The same as `stays_out`. The answer is kept.
+    fn is_out(&self, id: ItemId, number: u16, outs: &mut KeyAnswers) -> Result<bool, Memory>
+        requires item { IsItem (rules_in self.now.parts.now self.now.budget) id }
+        requires outs { AnswersStand (stays_out (rules_in self.now.parts.now self.now.budget))
+            outs.old }
+        ensures outs { AnswersStand (stays_out (rules_in self.now.parts.now self.now.budget))
+            outs.new }
+        ensures out { IfOk result (λ out. IsTrue out →
+            StaysOut (rules_in self.now.parts.now self.now.budget) number id) }
+    {
+        match outs.known(number, id) {
+            Some(out) => return Ok(out),
+            None => {}
+        }
+        let out = self.stays_out(id, number);
+        outs.keep(number, id, out)?;
+        Ok(out)
+    }
+
+    /// Puts an item on a list, unless it isn't there or can't start, by the answers that are kept.
     fn put_known(
         &self,
         id: u32,
         number: u16,
         count: usize,
+        outs: &mut KeyAnswers,
         items: &mut Vec<u32>,
     ) -> Result<(), Memory>
-        requires { count ≡ length (rules_in self.now.parts.now self.now.budget).items }
+        requires count { count ≡ length (rules_in self.now.parts.now self.now.budget).items }
+        requires outs { AnswersStand (stays_out (rules_in self.now.parts.now self.now.budget))
+            outs.old }
+        ensures outs { AnswersStand (stays_out (rules_in self.now.parts.now self.now.budget))
+            outs.new }
         ensures kept { (j : ℕ) → Lacks items.new.items j → Lacks items.old.items j }
         ensures rises { RisesTo id items.old.items → RisesTo id items.new.items }
         ensures here { IfOk result (λ _.
@@ -139,8 +172,11 @@ impl Asked<'_> {
             Lacks items.new.items id →
             StaysOut (rules_in self.now.parts.now self.now.budget) number (item_numbered id)) }
     {
-        if (id as usize) < count {
-            self.put(id, number, items)?;
+        if id as usize >= count {
+            return Ok(());
+        }
+        if !self.is_out(ItemId(id), number, outs)? {
+            items.push(id)?;
         }
         Ok(())
     }
@@ -161,9 +197,19 @@ impl Asked<'_> {
     }
 
     /// Those of all items of a choice that may start at a column whose key has a number.
-    fn narrowed(&self, alloc: Global, all: &Row, number: u16) -> Result<Vec<u32>, Memory>
+    fn narrowed(
+        &self,
+        alloc: Global,
+        all: &Row,
+        number: u16,
+        outs: &mut KeyAnswers,
+    ) -> Result<Vec<u32>, Memory>
         requires number { all.now.number ≡ 777 }
         requires stands { RowStands (rules_in self.now.parts.now self.now.budget) all.now }
+        requires outs { AnswersStand (stays_out (rules_in self.now.parts.now self.now.budget))
+            outs.old }
+        ensures outs { AnswersStand (stays_out (rules_in self.now.parts.now self.now.budget))
+            outs.new }
         ensures lists { IfOk result
             (λ list. ListStands (rules_in self.now.parts.now self.now.budget)
             all.now.choice number list.items) }
@@ -172,7 +218,7 @@ impl Asked<'_> {
         let count = self.parts.items.added();
         let mut items = Vec::new(alloc);
         for id in all.items.as_slice() {
-            self.put_known(*id, number, count, &mut items)?;
+            self.put_known(*id, number, count, outs, &mut items)?;
         }
         Ok(items)
     }
@@ -191,12 +237,22 @@ impl Asked<'_> {
     }
 
     /// The row of a key, from that of all items of its choice.
-    pub(crate) fn row_of(&self, alloc: Global, all: &Row, number: u16) -> Result<Row, Memory>
+    pub(crate) fn row_of(
+        &self,
+        alloc: Global,
+        all: &Row,
+        number: u16,
+        outs: &mut KeyAnswers,
+    ) -> Result<Row, Memory>
         requires number { all.now.number ≡ 777 }
         requires stands { RowStands (rules_in self.now.parts.now self.now.budget) all.now }
-        ensures { IfOk result (RowStands (rules_in self.now.parts.now self.now.budget)) }
+        requires outs { AnswersStand (stays_out (rules_in self.now.parts.now self.now.budget))
+            outs.old }
+        ensures outs { AnswersStand (stays_out (rules_in self.now.parts.now self.now.budget))
+            outs.new }
+        ensures row { IfOk result (RowStands (rules_in self.now.parts.now self.now.budget)) }
     {
-        let items = self.narrowed(alloc, all, number)?;
+        let items = self.narrowed(alloc, all, number, outs)?;
         Ok(Row {
             choice: all.choice,
             number,

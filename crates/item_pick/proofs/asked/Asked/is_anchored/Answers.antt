@@ -1,4 +1,4 @@
-use Rattle.std.proofs.Common.{◌≡◌, ◌∙◌, ℕ, false, subst, true, arith, inl, inr}
+use Rattle.std.proofs.Common.{◌≡◌, ℕ, false, subst, true, arith, inl, inr}
 use Rattle.std.proofs.lemmas.Bool.{cases_lt}
 use Rattle.pattern_screens.specs.Keys.{is_first, key_numbered}
 use Rattle.item_pick.specs.Tables.{is_vain}

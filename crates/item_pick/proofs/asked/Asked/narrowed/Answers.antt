@@ -12,6 +12,7 @@ loop-id-preserved c =
     let all = c.args.all.now.items.items in
     let here = c.loop-id.id-index in
     record {
+      outs = c.put_known.ensures.outs;
       lists = below_more _ _ (λ k h within lacks. c.loop-id.invariant.lists k h within (kept _ lacks))
           (subst (λ (list : List ℕ). get_or list c.loop-id.id-index 0 < length r.items → Lacks c.put_known.new.items.items (get_or list c.loop-id.id-index 0) → StaysOut r c.args.number (item_numbered (get_or list c.loop-id.id-index 0)))
           c.as_slice-id-items.ensures.value c.in_ok-put_known.ensures.here);

@@ -14,6 +14,7 @@ returns-in_err-keep-clause-stands c =
     let r = rules_in c.args.asked.now.parts.now c.args.asked.now.budget in
     record {
       rows = c.requires.stands.rows;
+      outs = c.requires.stands.outs;
       vains = c.requires.stands.vains;
       anchors = c.keep.ensures r c.requires.stands.anchors
           (λ e. anchored_by r c.args.id c.item_of.result.now.ignore (ap (λ (x : Item). x.ignore) c.item_of.ensures) c.args.pattern.now c.requires.first (c.is_anchored-is.ensures e));
@@ -24,6 +25,7 @@ returns-clause-stands c =
     let r = rules_in c.args.asked.now.parts.now c.args.asked.now.budget in
     record {
       rows = c.requires.stands.rows;
+      outs = c.requires.stands.outs;
       vains = c.requires.stands.vains;
       anchors = c.keep.ensures r c.requires.stands.anchors
           (λ e. anchored_by r c.args.id c.item_of.result.now.ignore (ap (λ (x : Item). x.ignore) c.item_of.ensures) c.args.pattern.now c.requires.first (c.is_anchored-is.ensures e));

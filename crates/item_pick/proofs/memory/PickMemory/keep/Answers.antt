@@ -1,7 +1,8 @@
 use Rattle.std.proofs.Common.{sym, subst, [], ◌∷◌}
 use Rattle.std.specs.List.{All}
 use Rattle.std.proofs.lemmas.List.Elements.{All-append, All-cons, All-nil}
-use Rattle.item_pick.specs.Tables.{AnchorStands, RowStands, VainStands}
+use Rattle.region_ends.specs.KeyAnswers.{AnswersStand}
+use Rattle.item_pick.specs.Tables.{AnchorStands, is_first_vain, RowStands, stays_out}
 use Rattle.item_pick.proofs.memory.PickMemory.keep.Goals as goal
 
 pub returns-clause-stands : goal.returns-clause-stands
@@ -10,20 +11,23 @@ returns-clause-stands c r tables row = record {
       (All-append (RowStands r) c.note.new.self.rows.items (c.args.row ∷ [])
       (subst (λ rows. All (RowStands r) rows.items) (sym c.note.ensures.rows) tables.rows)
       (All-cons (RowStands r) c.args.row [] row (All-nil (RowStands r))));
-  vains = subst (λ vains. All (VainStands r) vains.list.items) (sym c.note.ensures.vains) tables.vains;
+  outs = subst (AnswersStand (stays_out r)) (sym c.note.ensures.outs) tables.outs;
+  vains = subst (AnswersStand (is_first_vain r)) (sym c.note.ensures.vains) tables.vains;
   anchors = subst (λ anchors. All (AnchorStands r) anchors.list.items) (sym c.note.ensures.anchors) tables.anchors;
 }
 
 pub returns-in_err-note-clause-stands : goal.returns-in_err-note-clause-stands
 returns-in_err-note-clause-stands c r tables row = record {
   rows = subst (λ rows. All (RowStands r) rows.items) (sym c.note.ensures.rows) tables.rows;
-  vains = subst (λ vains. All (VainStands r) vains.list.items) (sym c.note.ensures.vains) tables.vains;
+  outs = subst (AnswersStand (stays_out r)) (sym c.note.ensures.outs) tables.outs;
+  vains = subst (AnswersStand (is_first_vain r)) (sym c.note.ensures.vains) tables.vains;
   anchors = subst (λ anchors. All (AnchorStands r) anchors.list.items) (sym c.note.ensures.anchors) tables.anchors;
 }
 
 pub returns-in_err-push-clause-stands : goal.returns-in_err-push-clause-stands
 returns-in_err-push-clause-stands c r tables row = record {
   rows = subst (All (RowStands r)) (sym c.in_err-push.ensures.items) (subst (λ rows. All (RowStands r) rows.items) (sym c.note.ensures.rows) tables.rows);
-  vains = subst (λ vains. All (VainStands r) vains.list.items) (sym c.note.ensures.vains) tables.vains;
+  outs = subst (AnswersStand (stays_out r)) (sym c.note.ensures.outs) tables.outs;
+  vains = subst (AnswersStand (is_first_vain r)) (sym c.note.ensures.vains) tables.vains;
   anchors = subst (λ anchors. All (AnchorStands r) anchors.list.items) (sym c.note.ensures.anchors) tables.anchors;
 }

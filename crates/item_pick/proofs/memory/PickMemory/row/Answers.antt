@@ -3,8 +3,6 @@ use Rattle.std.specs.List.{All}
 use Rattle.item_pick.specs.Tables.{RowStands}
 use Rattle.item_pick.proofs.memory.PickMemory.row.Goals as goal
 
-pub returns-then-row-number-clause-stands : goal.returns-then-row-number-clause-stands
-returns-then-row-number-clause-stands c r tables =
-    let found = c.in_ok-row.ensures.lookup in
-    subst (RowStands r) (sym found.1)
-    (subst (All (RowStands r)) (sym c.deref.ensures.value) tables.rows c.args.place c.in_ok-row.row.now found.3.0)
+pub returns-clause-stands : goal.returns-clause-stands
+returns-clause-stands c r tables =
+    c.row_at.ensures.stands r (subst (All (RowStands r)) (sym c.as_slice.ensures.value) tables.rows)

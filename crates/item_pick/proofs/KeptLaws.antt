@@ -1,0 +1,56 @@
+-- What is kept of an item at the columns with a key, as a test and as what it says.
+use Rattle.std.proofs.Common.{◌≡◌, refl, sym, subst, ℕ, zero, suc, Bool, true, List, [], ◌∷◌}
+use Rattle.std.specs.Prelude.{Some, Option, slice_get}
+use Rattle.std.specs.List.{list_all}
+use Rattle.char_class.specs.declared.sets.Sets.{Sets}
+use Rattle.syn_base.specs.declared.places.ItemId.{ItemId}
+use Rattle.syntax_set.specs.declared.item.ItemKind.{ItemKind}
+use Rattle.syntax_set.specs.declared.item.ItemKind.TheVariants.{Keyword, Match, Region}
+use Rattle.syntax_set.specs.declared.item.Pattern.{Pattern}
+use Rattle.paint_rules.specs.Rules.{Rules, item_of}
+use Rattle.pattern_screens.proofs.Stands.{both_true}
+use Rattle.item_pick.specs.Standing.{IsFirst, IsPatternOf}
+use Rattle.item_pick.specs.Tables.{is_first_vain, is_kind_screened, is_screened, is_some_vain, is_vain, IsVainAt, stays_out, StaysOut}
+
+-- a test that all of a list pass
+all_pass : {A : Type 0} (f : A → Bool) (xs : List A) → ((n : ℕ) (x : A) → Some x ≡ slice_get xs n → f x ≡ true) → list_all f xs ≡ true
+all_pass f [] h = refl
+all_pass f (x ∷ xs) h = rw (h 0 x refl, all_pass f xs (λ n y e. h (suc n) y e)) refl
+
+one_passes : {A : Type 0} (f : A → Bool) (xs : List A) → list_all f xs ≡ true → (n : ℕ) (x : A) → Some x ≡ slice_get xs n → f x ≡ true
+one_passes f [] h n x e = absurd (cc)
+one_passes f (y ∷ ys) h zero x e =
+    let here : f y ≡ true = (both_true (f y) (list_all f ys) h).0 in
+    cc
+one_passes f (y ∷ ys) h (suc n) x e = one_passes f ys (both_true (f y) (list_all f ys) h).1 n x e
+
+module _ (sets : Sets) (budget : ℕ) (ignore : Bool) (number : ℕ) where
+  all_screened : (kind : ItemKind) → ((pattern : Pattern) → IsPatternOf kind pattern → is_screened sets budget ignore number pattern ≡ true) →
+      is_kind_screened sets budget ignore number kind ≡ true
+  all_screened Keyword h = refl
+  all_screened (Match pattern) h = h pattern refl
+  all_screened (Region starts skip ends) h = all_pass (is_screened sets budget ignore number) starts (λ n pattern e. h pattern (n, e))
+
+  one_screened : (kind : ItemKind) → is_kind_screened sets budget ignore number kind ≡ true →
+      (pattern : Pattern) → IsPatternOf kind pattern → is_screened sets budget ignore number pattern ≡ true
+  one_screened Keyword h pattern its = absurd its
+  one_screened (Match p) h pattern its = subst (λ (q : Pattern). is_screened sets budget ignore number q ≡ true) its h
+  one_screened (Region starts skip ends) h pattern its = one_passes (is_screened sets budget ignore number) starts h its.0 pattern its.1
+
+-- an item stays out just if it passes the test
+pub out_told : (r : Rules) (number : ℕ) (i : ItemId) → StaysOut r number i → stays_out r number i.0 ≡ true
+out_told r number i out = all_screened r.sets r.budget (item_of r.items i).ignore number (item_of r.items i).kind out
+
+pub out_by : (r : Rules) (number : ℕ) (i : ItemId) → stays_out r number i.0 ≡ true → StaysOut r number i
+out_by r number i told = one_screened r.sets r.budget (item_of r.items i).ignore number (item_of r.items i).kind told
+
+-- what was answered of a first pattern is true of the item
+pub vain_told : (r : Rules) (i : ItemId) (number : ℕ) (ignore : Bool) → ignore ≡ (item_of r.items i).ignore → (pattern : Pattern) → IsFirst r i pattern → (is : Bool) →
+    (is ≡ true → is_vain r.sets r.budget ignore number pattern ≡ true) → is ≡ true → is_first_vain r number i.0 ≡ true
+vain_told r i number ignore same pattern first is told e =
+    subst (λ (o : Option Pattern). is_some_vain r.sets r.budget (item_of r.items i).ignore number o ≡ true) (sym first)
+    (subst (λ b. is_vain r.sets r.budget b number pattern ≡ true) same (told e))
+
+pub vain_by : (r : Rules) (i : ItemId) (number : ℕ) → is_first_vain r number i.0 ≡ true → IsVainAt r number i
+vain_by r i number told pattern first =
+    subst (λ (o : Option Pattern). is_some_vain r.sets r.budget (item_of r.items i).ignore number o ≡ true) first told
