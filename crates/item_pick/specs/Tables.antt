@@ -18,6 +18,7 @@ use Rattle.pattern_screens.specs.Screens.{is_futile, verdict}
 use Rattle.pattern_screens.specs.declared.key.Key.{Key}
 use Rattle.region_ends.specs.EndMemo.{EndMemoStands}
 use Rattle.region_ends.specs.KeyAnswers.{AnswersStand}
+use Rattle.region_ends.specs.Passing.{is_shut_at}
 use Rattle.item_pick.specs.declared.anchors.Anchor.{Anchor}
 use Rattle.item_pick.specs.declared.choice.Choice.{Choice}
 use Rattle.item_pick.specs.declared.memory.PickMemory.{PickMemory}
@@ -135,6 +136,7 @@ pub record TablesStand (r : Rules) (memory : PickMemory) : Type 0 where
   pub rows : All (RowStands r) memory.rows.items
   pub outs : AnswersStand (stays_out r) memory.outs
   pub vains : AnswersStand (is_first_vain r) memory.vains
+  pub shut : AnswersStand (is_shut_at r.items r.sets r.budget) memory.shut
   pub anchors : All (AnchorStands r) memory.anchors.list.items
 
 -- ---- what is known of the line

@@ -10,7 +10,7 @@ ghost use Rattle.item_pick.specs.Tables.{MemoryStands};
 
 use crate::memory::PickMemory;
 use crate::parts::Parts;
-use region_ends::{EndAnswer, find_end_with};
+use region_ends::{EndAnswer, find_end_by};
 use std::alloc::Global;
 use syn_base::{Externals, ItemId, Lines, Memory, Place};
 
@@ -41,7 +41,7 @@ pub fn end_with<T: Lines>(
     ensures memory { MemoryStands (rules_in parts.now budget) (T.lines lines.now) from.line
         memory.new }
 {
-    find_end_with(
+    find_end_by(
         alloc,
         parts.items,
         parts.programs,
@@ -52,6 +52,7 @@ pub fn end_with<T: Lines>(
         none,
         from,
         &mut memory.runs.ends,
+        &mut memory.shut,
         budget,
     )
 }

@@ -52,6 +52,8 @@ pub struct PickMemory {
     outs: KeyAnswers,
     /// Whether attempts by the first start pattern of an item are in vain.
     vains: KeyAnswers,
+    /// Whether no skip or end of a region fits.
+    pub(crate) shut: KeyAnswers,
     anchors: Anchors,
     numbers: Vec<u16>,
     pub(crate) runs: Runs,
@@ -69,6 +71,7 @@ impl PickMemory {
             places: Vec::new(alloc),
             outs: KeyAnswers::new(alloc),
             vains: KeyAnswers::new(alloc),
+            shut: KeyAnswers::new(alloc),
             anchors: Anchors::new(alloc),
             numbers: Vec::new(alloc),
             runs: Runs::new(alloc),
@@ -108,6 +111,7 @@ impl PickMemory {
         ensures rows { self.new.rows ≡ self.old.rows }
         ensures outs { self.new.outs ≡ self.old.outs }
         ensures vains { self.new.vains ≡ self.old.vains }
+        ensures shut { self.new.shut ≡ self.old.shut }
         ensures anchors { self.new.anchors ≡ self.old.anchors }
         ensures numbers { self.new.numbers ≡ self.old.numbers }
         ensures runs { self.new.runs ≡ self.old.runs }

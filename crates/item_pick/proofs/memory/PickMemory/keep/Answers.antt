@@ -2,6 +2,7 @@ use Rattle.std.proofs.Common.{sym, subst, [], ◌∷◌}
 use Rattle.std.specs.List.{All}
 use Rattle.std.proofs.lemmas.List.Elements.{All-append, All-cons, All-nil}
 use Rattle.region_ends.specs.KeyAnswers.{AnswersStand}
+use Rattle.region_ends.specs.Passing.{is_shut_at}
 use Rattle.item_pick.specs.Tables.{AnchorStands, is_first_vain, RowStands, stays_out}
 use Rattle.item_pick.proofs.memory.PickMemory.keep.Goals as goal
 
@@ -13,6 +14,7 @@ returns-clause-stands c r tables row = record {
       (All-cons (RowStands r) c.args.row [] row (All-nil (RowStands r))));
   outs = subst (AnswersStand (stays_out r)) (sym c.note.ensures.outs) tables.outs;
   vains = subst (AnswersStand (is_first_vain r)) (sym c.note.ensures.vains) tables.vains;
+  shut = subst (AnswersStand (is_shut_at r.items r.sets r.budget)) (sym c.note.ensures.shut) tables.shut;
   anchors = subst (λ anchors. All (AnchorStands r) anchors.list.items) (sym c.note.ensures.anchors) tables.anchors;
 }
 
@@ -21,6 +23,7 @@ returns-in_err-note-clause-stands c r tables row = record {
   rows = subst (λ rows. All (RowStands r) rows.items) (sym c.note.ensures.rows) tables.rows;
   outs = subst (AnswersStand (stays_out r)) (sym c.note.ensures.outs) tables.outs;
   vains = subst (AnswersStand (is_first_vain r)) (sym c.note.ensures.vains) tables.vains;
+  shut = subst (AnswersStand (is_shut_at r.items r.sets r.budget)) (sym c.note.ensures.shut) tables.shut;
   anchors = subst (λ anchors. All (AnchorStands r) anchors.list.items) (sym c.note.ensures.anchors) tables.anchors;
 }
 
@@ -29,5 +32,6 @@ returns-in_err-push-clause-stands c r tables row = record {
   rows = subst (All (RowStands r)) (sym c.in_err-push.ensures.items) (subst (λ rows. All (RowStands r) rows.items) (sym c.note.ensures.rows) tables.rows);
   outs = subst (AnswersStand (stays_out r)) (sym c.note.ensures.outs) tables.outs;
   vains = subst (AnswersStand (is_first_vain r)) (sym c.note.ensures.vains) tables.vains;
+  shut = subst (AnswersStand (is_shut_at r.items r.sets r.budget)) (sym c.note.ensures.shut) tables.shut;
   anchors = subst (λ anchors. All (AnchorStands r) anchors.list.items) (sym c.note.ensures.anchors) tables.anchors;
 }
