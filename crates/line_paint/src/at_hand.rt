@@ -6,7 +6,7 @@ use syn_base::Lines;
 
 /// A text with one of its lines at hand: that line isn't looked up in the text each time that a
 /// character of it is asked for.
-#[derive_where(Clone, Copy)]
+#[derive(Drop)]
 pub(crate) struct AtHand<'a, T: Lines> {
     lines: &'a T,
     count: usize,
