@@ -9,5 +9,5 @@ returns-in_err-enter_line-clause-memory g c =
 
 pub painted_by-requires-clause-memory : goal.painted_by-requires-clause-memory
 painted_by-requires-clause-memory g c =
-    let t = g.T.Lines.lines c.args.lines.now in
+    let t = c.new-lines.result in
     c.in_ok-enter_line.ensures.entered c.args.budget t c.args.line (sym (line_is t c.args.line c.line.result.now c.line.ensures)) c.requires.memory
