@@ -3,10 +3,10 @@ ghost use Rattle.std.specs.Prelude.{◌≡◌, ◌<◌, length, reverse};
 ghost use Rattle.paint_rules.specs.KeptEnd.{earlier_end, is_before, limit_of, limit_on, kept_end_over};
 ghost use Rattle.paint_rules.specs.Rules.{item_of};
 ghost use Rattle.paint_rules.specs.States.{Fits};
-ghost use Rattle.region_ends.specs.KeptEnd.{kept_end};
+ghost use Rattle.region_ends.specs.KeptEnd.{keep_none, kept_end};
 
 use paint_rules::{Part, Spot};
-use state_stack::{Frame, Stack};
+use state_stack::{Enders, Frame, Stack};
 use syn_base::ItemId;
 use syntax_set::{Item, ItemSet};
 
@@ -49,14 +49,34 @@ pub fn kept_end_over(items: &ItemSet, top: &Frame, below: &Stack) -> Option<Spot
     earlier_end(top.known_end, limit_on(items, below))
 }
 
-/// The end that the frames of a stack put to a frame above them. Mostly none of them has a known
-/// end, and then they aren't walked.
-#[tactic(auto, using(crate::proofs::LimitLaws::endless_limits))]
+/// Whether an item has `keepend`; one that isn't there has none.
+fn keeps(items: &ItemSet, id: ItemId) -> bool
+    ensures { result ≡ (item_of items.now id).keepend }
+{
+    (id.0 as usize) < items.added() && item_of(items, id).keepend
+}
+
+/// Whether none of the items of the frames with a known end has `keepend`.
+fn keep_none(items: &ItemSet, enders: Enders) -> bool
+    ensures { result ≡ keep_none items.now enders }
+{
+    match enders {
+        Enders::Nothing => true,
+        Enders::One(a) => !keeps(items, a),
+        Enders::Two(a, b) => !keeps(items, a) && !keeps(items, b),
+        Enders::Three(a, b, c) => !keeps(items, a) && !keeps(items, b) && !keeps(items, c),
+        Enders::Many => false,
+    }
+}
+
+/// The end that the frames of a stack put to a frame above them. Mostly no item with `keepend` has a
+/// frame with a known end among them, and then they aren't walked.
+#[tactic(auto, using(crate::proofs::LimitLaws::unkept_limits))]
 fn limit_on(items: &ItemSet, stack: &Stack) -> Option<Spot>
     requires { Fits (length items.now) (reverse stack.now) }
     ensures { result ≡ limit_on items.now (reverse stack.now) }
 {
-    if stack.is_endless() {
+    if keep_none(items, stack.enders()) {
         return None;
     }
     match stack.top_and_below() {

@@ -1,5 +1,5 @@
 pub mod SettledLaws
-pub mod KnownEndsLaws
+pub mod EnderLaws
 pub mod MarksLaws
 pub mod StackLaws
 pub mod StateLaws

@@ -1,6 +1,6 @@
 -- what a reader must believe
 pub mod TopFirst
-pub mod KnownEnds
+pub mod Enders
 -- what only code and proofs cite
 pub mod Frames
 pub mod Settled

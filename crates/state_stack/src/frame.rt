@@ -2,7 +2,6 @@
 ghost use Rattle.std.specs.Prelude.{◌≡◌, ◌↔◌, IfOk, IsTrue};
 ghost use Rattle.paint_rules.specs.States.{nearer, nearer_frame};
 ghost use Rattle.std.specs.Option.{option_map};
-ghost use Rattle.state_stack.specs.KnownEnds.{has_no_known_end};
 ghost use Rattle.state_stack.specs.Settled.{is_past, is_past_end, is_settled};
 ghost use Rattle.state_stack.specs.Marks.{marks_of};
 
@@ -126,13 +125,6 @@ impl Frame {
             && is_past_end(self.high_to)
             && is_past_end(self.area_end)
             && is_past_end(self.area_high)
-    }
-
-    /// Whether it ends nowhere, as far as is known.
-    pub(crate) fn has_no_known_end(&self) -> bool
-        ensures { result ≡ has_no_known_end self.now }
-    {
-        self.known_end.is_none()
     }
 
     /// The frame as the next line sees it.

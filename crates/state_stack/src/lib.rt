@@ -7,10 +7,12 @@
 //! bottom part of such frames and remakes only what stands above it.
 #![tactic(auto)]
 
+mod enders;
 mod frame;
 mod stack;
 mod state;
 
+pub use enders::Enders;
 pub use frame::Frame;
 pub use paint_rules::{Part, Spot, Waiting};
 pub use stack::{MOST_FRAMES, Stack, StackError};

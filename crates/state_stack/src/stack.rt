@@ -1,10 +1,10 @@
 //! Stacks of frames that share their tails.
-ghost use Rattle.std.specs.Prelude.{◌≡◌, ◌==◌, ◌<◌, ◌≤◌, ◌↔◌, ◌-◌, ◌&&◌, [], ◌∷◌, ◌++◌, map, length, take, reverse, slice_get, Some, IfOk, IsErrOf, IsTrue, MatchOption};
+ghost use Rattle.std.specs.Prelude.{◌≡◌, ◌==◌, ◌<◌, ◌≤◌, ◌↔◌, ◌-◌, ◌&&◌, [], ◌∷◌, ◌++◌, map, length, take, reverse, slice_get, Some, IfOk, IsErrOf, IsTrue, MatchOption, true};
 ghost use Rattle.paint_rules.specs.States.{nearer_frame};
-ghost use Rattle.state_stack.specs.KnownEnds.{none_ends};
+ghost use Rattle.state_stack.specs.Enders.{have_enders};
 ghost use Rattle.state_stack.specs.declared.stack.StackError.TheVariants as cause;
 
-use crate::Frame;
+use crate::{Enders, Frame};
 use std::alloc::{AllocError, AllocFailed, Global};
 use std::marker::Model;
 use std::rc::Rc;
@@ -38,8 +38,7 @@ pub struct Stack {
     len: usize,
     // each frame is settled
     settled: bool,
-    // no frame has a known end
-    endless: bool,
+    enders: Enders,
     top: Link,
 }
 
@@ -58,19 +57,19 @@ struct Node {
 }
 
 impl Model for Stack {
-    ghost use Rattle.std.specs.Prelude.{◌≡◌, ◌≤◌, List, length};
+    ghost use Rattle.std.specs.Prelude.{◌≡◌, ◌≤◌, List, length, true};
     ghost use Rattle.paint_rules.specs.Frames.{Frame as FrameRules};
 
     ghost Value = { List FrameRules };
 
     ghost use Rattle.state_stack.specs.Frames.{frames};
     ghost use Rattle.state_stack.specs.Settled.{all_settled};
-    ghost use Rattle.state_stack.specs.KnownEnds.{none_ends};
+    ghost use Rattle.state_stack.specs.Enders.{have_enders};
 
     ghost view = { λ a. frames a.top };
 
     ghost invariant = { λ a. (a.len ≡ length (frames a.top)) × (a.len ≤ 1000)
-        × (a.settled ≡ all_settled (frames a.top)) × (a.endless ≡ none_ends (frames a.top)) };
+        × (a.settled ≡ all_settled (frames a.top)) × (have_enders a.enders (frames a.top) ≡ true) };
 
     ghost size = { length };
 
@@ -87,7 +86,7 @@ impl Stack {
         Stack {
             len: 0,
             settled: true,
-            endless: true,
+            enders: Enders::Nothing,
             top: Link::Bottom,
         }
     }
@@ -100,11 +99,11 @@ impl Stack {
         self.len
     }
 
-    /// Whether no frame has a known end.
-    pub fn is_endless(&self) -> bool
-        ensures { result ≡ none_ends self.now }
+    /// The items of the frames that have a known end, as far as the stack knows them.
+    pub fn enders(&self) -> Enders
+        ensures { have_enders result self.now ≡ true }
     {
-        self.endless
+        self.enders
     }
 
     /// The last frame.
@@ -140,12 +139,12 @@ impl Stack {
     {
         let len = below.len + 1;
         let settled = both(below.settled, frame.is_settled());
-        let endless = both(below.endless, frame.has_no_known_end());
+        let enders = below.enders.over(&frame);
         let node = Rc::new(alloc, Node { below, frame })?;
         Ok(Stack {
             len,
             settled,
-            endless,
+            enders,
             top: Link::On(node),
         })
     }
@@ -173,7 +172,7 @@ impl Stack {
                 Ok(Stack {
                     len: self.len,
                     settled: self.settled,
-                    endless: self.endless,
+                    enders: self.enders,
                     top: Link::On(node),
                 })
             }
