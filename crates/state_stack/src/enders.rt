@@ -5,13 +5,19 @@ ghost use Rattle.state_stack.specs.Enders.{ends_by, is_among};
 use crate::Frame;
 use syn_base::ItemId;
 
-/// The items of the frames that have a known end, if they are few; else any item may have such a frame.
+/// The items of the frames that have a known end, if they are few; else any item may have such a
+/// frame.
 #[derive(Clone, Copy)]
 pub enum Enders {
+    /// No frame has one.
     Nothing,
+    /// Frames of this item alone.
     One(ItemId),
+    /// Frames of these two.
     Two(ItemId, ItemId),
+    /// Frames of these three.
     Three(ItemId, ItemId, ItemId),
+    /// Of more items: of which isn't known.
     Many,
 }
 

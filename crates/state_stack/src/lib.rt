@@ -9,11 +9,13 @@
 
 mod enders;
 mod frame;
+mod kinds;
 mod stack;
 mod state;
 
 pub use enders::Enders;
 pub use frame::Frame;
+pub use kinds::{Kind, Kinds};
 pub use paint_rules::{Part, Spot, Waiting};
 pub use stack::{MOST_FRAMES, Stack, StackError};
 pub use state::State;

@@ -2,9 +2,10 @@
 ghost use Rattle.std.specs.Prelude.{◌≡◌, ◌==◌, ◌<◌, ◌≤◌, ◌↔◌, ◌-◌, ◌&&◌, [], ◌∷◌, ◌++◌, map, length, take, reverse, slice_get, Some, IfOk, IsErrOf, IsTrue, MatchOption, true};
 ghost use Rattle.paint_rules.specs.States.{nearer_frame};
 ghost use Rattle.state_stack.specs.Enders.{have_enders};
+ghost use Rattle.state_stack.specs.Kinds.{have_kinds};
 ghost use Rattle.state_stack.specs.declared.stack.StackError.TheVariants as cause;
 
-use crate::{Enders, Frame};
+use crate::{Enders, Frame, Kinds};
 use std::alloc::{AllocError, AllocFailed, Global};
 use std::marker::Model;
 use std::rc::Rc;
@@ -54,6 +55,8 @@ enum Link {
 struct Node {
     below: Stack,
     frame: Frame,
+    // of this frame and those below
+    kinds: Kinds,
 }
 
 impl Model for Stack {
@@ -62,14 +65,16 @@ impl Model for Stack {
 
     ghost Value = { List FrameRules };
 
-    ghost use Rattle.state_stack.specs.Frames.{frames};
+    ghost use Rattle.state_stack.specs.Frames.{frames, kinds};
     ghost use Rattle.state_stack.specs.Settled.{all_settled};
     ghost use Rattle.state_stack.specs.Enders.{have_enders};
+    ghost use Rattle.state_stack.specs.Kinds.{have_kinds};
 
     ghost view = { λ a. frames a.top };
 
     ghost invariant = { λ a. (a.len ≡ length (frames a.top)) × (a.len ≤ 1000)
-        × (a.settled ≡ all_settled (frames a.top)) × (have_enders a.enders (frames a.top) ≡ true) };
+        × (a.settled ≡ all_settled (frames a.top)) × (have_enders a.enders (frames a.top) ≡ true)
+        × (have_kinds (kinds a.top) (frames a.top) ≡ true) };
 
     ghost size = { length };
 
@@ -106,6 +111,16 @@ impl Stack {
         self.enders
     }
 
+    /// The kinds of the frames, if there are any.
+    pub fn kinds(&self) -> Option<&Kinds>
+        ensures { MatchOption result (self.now ≡ []) (λ k. have_kinds k.now self.now ≡ true) }
+    {
+        match &self.top {
+            Link::Bottom => None,
+            Link::On(node) => Some(&node.kinds),
+        }
+    }
+
     /// The last frame.
     pub fn top(&self) -> Option<&Frame>
         ensures { MatchOption result (self.now ≡ [])
@@ -140,7 +155,15 @@ impl Stack {
         let len = below.len + 1;
         let settled = both(below.settled, frame.is_settled());
         let enders = below.enders.over(&frame);
-        let node = Rc::new(alloc, Node { below, frame })?;
+        let kinds = kinds_over(alloc, &below, &frame)?;
+        let node = Rc::new(
+            alloc,
+            Node {
+                below,
+                frame,
+                kinds,
+            },
+        )?;
         Ok(Stack {
             len,
             settled,
@@ -256,6 +279,16 @@ impl Stack {
                 Stack::on(alloc, below, frame)
             }
         }
+    }
+}
+
+/// The kinds of the frames of a stack, and that of one more frame.
+fn kinds_over(alloc: Global, below: &Stack, frame: &Frame) -> Result<Kinds, Memory>
+    ensures { IfOk result (λ k. have_kinds k (below.now ++ frame.now ∷ []) ≡ true) }
+{
+    match below.kinds() {
+        None => Kinds::new().over(alloc, frame),
+        Some(kinds) => Ok(kinds.over(alloc, frame)?),
     }
 }
 

@@ -18,4 +18,5 @@ invariant_of-result c =
           ∙ (ap (λ b. b && c.is_settled.result) settled
           ∙ (ap (λ b. all_settled c.args.below && b) c.is_settled.ensures ∙ sym (all_settled_on c.args.below c.args.frame))),
       have_enders_on c.below.inside.enders c.over-enders.result c.over-enders.ensures.kept c.args.below c.args.frame ended c.over-enders.ensures.own,
+      c.in_ok-kinds.ensures,
     )
