@@ -1,4 +1,5 @@
 pub mod ComesLaws
+pub mod KindLaws
 pub mod LineStartLaws
 pub mod ClosingLaws
 pub mod StandingLaws

@@ -7,6 +7,7 @@ pub mod Answers
 pub mod Standing
 pub mod Frames
 pub mod Closing
+pub mod Kinds
 pub mod Leads
 pub mod Starting
 pub mod Turns

@@ -13,6 +13,7 @@ ghost use Rattle.line_paint.specs.Standing.{frames_or, items_of};
 
 use crate::ends::{is_region_body, searched_anew, searched_if};
 use crate::frames::remade;
+use crate::kinds::none_keeps;
 use crate::spots::{goes_beyond, is_reached};
 use crate::{Picker, Site, Stop};
 use paint_rules::{Part, Spot, Waiting};
@@ -289,6 +290,9 @@ pub(crate) fn frames_after<S: Site, M: Picker<S>>(
     if !site.item(popped.item).extend {
         return exposed_anew(alloc, site, memory, c, false, below, looked);
     }
+    if none_keeps(site, below) {
+        return exposed_anew(alloc, site, memory, c, false, below, looked);
+    }
     let Anew { frames, over } = anew_over_keepend(alloc, site, memory, c, below, looked)?;
     match frames {
         None => exposed_anew(alloc, site, memory, c, over, below, looked),
@@ -335,14 +339,27 @@ fn has_line_end(kind: &ItemKind) -> bool
     }
 }
 
-fn any_keepend<S: Site>(site: &S, stack: &Stack) -> bool
+/// Whether the item of some frame has `keepend`, as the frames say one by one.
+fn keepend_among<S: Site>(site: &S, stack: &Stack) -> bool
     requires { Fits (length (S.here site.now).rules.items) (reverse stack.now) }
     ensures { result ≡ list_any (has_keepend (S.here site.now).rules.items) (reverse stack.now) }
 {
     match stack.top_and_below() {
         None => false,
-        Some((top, below)) => site.item(top.item).keepend || any_keepend(site, below),
+        Some((top, below)) => site.item(top.item).keepend || keepend_among(site, below),
     }
+}
+
+/// Whether the item of some frame has `keepend`. No frame is walked where their kinds rule it out.
+#[tactic(auto, using(crate::proofs::KindLaws::unkept_none))]
+fn any_keepend<S: Site>(site: &S, stack: &Stack) -> bool
+    requires { Fits (length (S.here site.now).rules.items) (reverse stack.now) }
+    ensures { result ≡ list_any (has_keepend (S.here site.now).rules.items) (reverse stack.now) }
+{
+    if none_keeps(site, stack) {
+        return false;
+    }
+    keepend_among(site, stack)
 }
 
 fn is_region_body_on<S: Site>(site: &S, stack: &Stack) -> bool

@@ -11,6 +11,7 @@ mod at_hand;
 mod closing;
 mod ends;
 mod frames;
+mod kinds;
 mod line_start;
 mod new_frames;
 mod paint;

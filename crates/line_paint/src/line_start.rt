@@ -10,6 +10,7 @@ ghost use Rattle.line_paint.specs.Standing.{frames_or, items_of};
 
 use crate::ends::at_line_start;
 use crate::frames::remade;
+use crate::kinds::none_keeps;
 use crate::{Picker, Site, Stop};
 use state_stack::{Frame, Stack};
 use std::alloc::Global;
@@ -97,6 +98,9 @@ pub(crate) fn line_start<S: Site, M: Picker<S>>(
         None => Ok(None),
         Some((top, below)) => {
             if site.item(top.item).extend {
+                return top_searched(alloc, site, memory, top, below, None, true, looked);
+            }
+            if none_keeps(site, below) {
                 return top_searched(alloc, site, memory, top, below, None, true, looked);
             }
             let rest = below_at_line_start(alloc, site, memory, below, looked)?;

@@ -1,5 +1,5 @@
 //! The group that a character shows.
-ghost use Rattle.std.specs.Prelude.{◌≡◌, ◌<◌, ◌≤◌, ◌^◌, ◌-◌, ℕ, length, reverse};
+ghost use Rattle.std.specs.Prelude.{◌≡◌, ◌<◌, ◌≤◌, ◌^◌, ◌-◌, ℕ, None, length, reverse};
 ghost use Rattle.paint_rules.specs.declared.Spot.TheVariants.{At};
 ghost use Rattle.paint_rules.specs.Line.{is_clear, holds, shown};
 ghost use Rattle.paint_rules.specs.Close.{is_reached};
@@ -8,6 +8,7 @@ ghost use Rattle.paint_rules.specs.States.{Fits};
 ghost use Rattle.line_paint.specs.Stretches.{ShowsOver};
 
 use crate::Site;
+use crate::kinds::all_clear;
 use crate::spots::{is_before, is_reached};
 use paint_rules::{Part, Spot};
 use state_stack::{Frame, Stack};
@@ -33,8 +34,8 @@ fn holds(place: Spot, frame: &Frame) -> bool
 }
 
 /// The group of the first frame from the top down whose highlight holds a place and which isn't
-/// clear.
-pub(crate) fn shown<S: Site>(site: &S, place: Spot, stack: &Stack) -> Option<GroupId>
+/// clear, as the frames say one by one.
+fn shown_among<S: Site>(site: &S, place: Spot, stack: &Stack) -> Option<GroupId>
     requires { Fits (length (S.here site.now).rules.items) (reverse stack.now) }
     ensures { result ≡ shown (S.here site.now).rules place (reverse stack.now) }
 {
@@ -43,9 +44,21 @@ pub(crate) fn shown<S: Site>(site: &S, place: Spot, stack: &Stack) -> Option<Gro
         Some((top, below)) => if !is_clear(site, top) && holds(place, top) {
             Some(top.shows)
         } else {
-            shown(site, place, below)
+            shown_among(site, place, below)
         },
     }
+}
+
+/// The group that a character shows. No frame is walked where their kinds say that each is clear.
+#[tactic(auto, using(crate::proofs::KindLaws::clear_shows_none))]
+pub(crate) fn shown<S: Site>(site: &S, place: Spot, stack: &Stack) -> Option<GroupId>
+    requires { Fits (length (S.here site.now).rules.items) (reverse stack.now) }
+    ensures { result ≡ shown (S.here site.now).rules place (reverse stack.now) }
+{
+    if all_clear(site, stack) {
+        return None;
+    }
+    shown_among(site, place, stack)
 }
 
 /// What the characters of a stretch of columns show, from some column up to, and without, another.
@@ -92,8 +105,9 @@ fn held_until(c: usize, frame: &Frame) -> usize
     next_change(c, frame.high_from).min(next_end(c, frame.high_to))
 }
 
-/// What the characters from a column of the painted line on show, as far as it is the same.
-pub(crate) fn shown_from<S: Site>(site: &S, c: usize, stack: &Stack) -> Stretch
+/// What the characters from a column of the painted line on show, as far as it is the same and as
+/// the frames say one by one.
+fn stretch_among<S: Site>(site: &S, c: usize, stack: &Stack) -> Stretch
     requires column { c < 2 ^ 64 - 1 }
     requires fits { Fits (length (S.here site.now).rules.items) (reverse stack.now) }
     ensures behind { c < result.until }
@@ -101,13 +115,10 @@ pub(crate) fn shown_from<S: Site>(site: &S, c: usize, stack: &Stack) -> Stretch
 {
     let place = Spot::At { ahead: 0, col: c };
     match stack.top_and_below() {
-        None => Stretch {
-            group: None,
-            until: usize::MAX,
-        },
+        None => shows_none(),
         Some((top, below)) => {
             if is_clear(site, top) {
-                return shown_from(site, c, below);
+                return stretch_among(site, c, below);
             }
             let until = held_until(c, top);
             if holds(place, top) {
@@ -116,13 +127,37 @@ pub(crate) fn shown_from<S: Site>(site: &S, c: usize, stack: &Stack) -> Stretch
                     until,
                 };
             }
-            let rest = shown_from(site, c, below);
+            let rest = stretch_among(site, c, below);
             Stretch {
                 group: rest.group,
                 until: until.min(rest.until),
             }
         }
     }
+}
+
+/// Nothing is shown, from some column on.
+fn shows_none() -> Stretch
+    ensures { result ≡ record { group = None; until = 2 ^ 64 - 1 } }
+{
+    Stretch {
+        group: None,
+        until: usize::MAX,
+    }
+}
+
+/// What those characters show. No frame is walked where their kinds say that each is clear.
+#[tactic(auto, using(crate::proofs::KindLaws::clear_shows_none))]
+fn shown_from<S: Site>(site: &S, c: usize, stack: &Stack) -> Stretch
+    requires column { c < 2 ^ 64 - 1 }
+    requires fits { Fits (length (S.here site.now).rules.items) (reverse stack.now) }
+    ensures behind { c < result.until }
+    ensures shows { ShowsOver (S.here site.now).rules (reverse stack.now) c result }
+{
+    if all_clear(site, stack) {
+        return shows_none();
+    }
+    stretch_among(site, c, stack)
 }
 
 impl Stretch {
