@@ -1,14 +1,14 @@
 -- Steps of a count.
-use Rattle.std.proofs.Common.{◌≡◌, ◌≢◌, ℕ, ◌+◌, ◌-◌, ◌<◌, ◌≤◌, true, false, [], ◌∷◌, ◌++◌, refl, ap, ◌∙◌, arith, subst, append-nil}
-use Rattle.std.specs.Prelude.{Option}
+use Rattle.std.proofs.Common.{◌≡◌, ◌+◌, ◌<◌, ◌≤◌, true, false, [], ◌∷◌, ◌++◌, refl, ap, ◌∙◌, arith, subst, append-nil}
+use Rattle.std.specs.Prelude.{Some, None}
 use Rattle.syn_base.specs.declared.places.Place.{Place}
 use Rattle.vim_pattern.specs.GroupNumbers.{HasNumbers}
 use Rattle.match_rules.specs.Ways.{Context, IsPlaceOf, is_after}
 use Rattle.match_rules.specs.Marks.{Reach, followed}
-use Rattle.match_rules.specs.Counts.{after_turn, one_less, less_by, is_spent, in_order}
+use Rattle.match_rules.specs.Counts.{after_turn, is_spent, in_order}
 use Rattle.match_rules.specs.Visits.{visits}
 use Rattle.match_rules.proofs.MarkLaws.{followed-append}
-use Rattle.match_rules.proofs.TurnLaws.{turns-spent, turns-free, turns-forced, after_turn-took, after_turn-empty, after_turn-dropped}
+use Rattle.match_rules.proofs.TurnLaws.{turns-spent, turns-free, turns-forced, after_turn-dropped}
 use Rattle.match_rules.proofs.Kept.{visits-kept}
 use Rattle.pattern_match.specs.declared.task.Task.{Task}
 use Rattle.pattern_match.specs.declared.task.Task.TheVariants.{Count, Turn, AfterTurn}
@@ -17,6 +17,7 @@ use Rattle.pattern_match.specs.declared.task.Next.TheVariants as at_once
 use Rattle.pattern_match.specs.declared.task.Went.{Went}
 use Rattle.pattern_match.specs.declared.task.Went.TheVariants.{GoesOn, Does, Ends}
 use Rattle.pattern_match.specs.declared.spent.Spent.{Spent}
+use Rattle.pattern_match.specs.Glance.{AreTurnsLeft}
 use Rattle.pattern_match.specs.Steps.{shape_of}
 use Rattle.pattern_match.specs.Ways.{Ways}
 use Rattle.pattern_match.specs.Machine.{task_marks, marks_with}
@@ -25,18 +26,18 @@ use Rattle.pattern_match.specs.Search.{Leads, Goes, IsStep, marks_first}
 use Rattle.pattern_match.proofs.Leading.{silent, leads_on, leads_do, leads_two, leads_stop, leads_nowhere, step_before}
 
 module _ (x : Context) (t : Turns) (old : Ways Task) (numbers : HasNumbers (shape_of t.part.now)) where
-  -- behind a turn that began at a place
-  pub turn_took : (from : Place) (least : ℕ) (most : Option ℕ) → is_after old.here.way.at from ≡ true → least ≡ t.least - 1 → most ≡ one_less t.most →
-      Leads x (height (shape_of t.part.now) + 1) (marks_first x (AfterTurn t from) old) old old (Does (at_once.Count (record { part = t.part; least = least; most = most; lazy = t.lazy })))
-  turn_took from least most after l m =
-      rw (after_turn-took x.text (visits x (shape_of t.part.now)) t.lazy t.least t.most from old.here.way after, ← l, ← m)
-      (leads_do x (height (shape_of t.part.now) + 1) old (at_once.Count (record { part = t.part; least = least; most = most; lazy = t.lazy })) numbers (omega arith))
+  -- behind a turn that began at a place, where turns are left, and where none is
+  pub turns_left : (from : Place) (left : Turns) → AreTurnsLeft t from old.here.way.at (Some left) →
+      Leads x (height (shape_of t.part.now) + 1) (marks_first x (AfterTurn t from) old) old old (Does (at_once.Count left))
+  turns_left from left h =
+      let m : HasNumbers (shape_of left.part.now) = rw h.0 numbers in
+      let k : height (shape_of left.part.now) ≡ height (shape_of t.part.now) = rw h.0 refl in
+      rw (h.1 x old.here.way refl)
+      (leads_do x (height (shape_of t.part.now) + 1) old (at_once.Count left) m (omega (arith, k)))
 
-  pub turn_empty : (from : Place) (most : Option ℕ) → is_after old.here.way.at from ≡ false → t.least ≢ 0 → most ≡ less_by t.most t.least →
-      Leads x (height (shape_of t.part.now) + 1) (marks_first x (AfterTurn t from) old) old old (Does (at_once.Count (record { part = t.part; least = 0; most = most; lazy = t.lazy })))
-  turn_empty from most after l m =
-      rw (after_turn-empty x.text (visits x (shape_of t.part.now)) t.lazy t.least t.most from old.here.way after l, ← m)
-      (leads_do x (height (shape_of t.part.now) + 1) old (at_once.Count (record { part = t.part; least = 0; most = most; lazy = t.lazy })) numbers (omega arith))
+  pub turns_over : (from : Place) → AreTurnsLeft t from old.here.way.at None →
+      Leads x (height (shape_of t.part.now) + 1) (marks_first x (AfterTurn t from) old) old old Ends
+  turns_over from h = rw (h x old.here.way refl) (leads_nowhere x (height (shape_of t.part.now) + 1) old)
 
   pub turn_dropped : (from : Place) → is_after old.here.way.at from ≡ false → t.least ≡ 0 →
       Leads x (height (shape_of t.part.now) + 1) (marks_first x (AfterTurn t from) old) old old Ends

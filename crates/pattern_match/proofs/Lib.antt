@@ -29,3 +29,4 @@ pub mod FateLaws
 pub mod TakesLaws
 pub mod AlikeLaws
 pub mod Choosing
+mod GlanceLaws

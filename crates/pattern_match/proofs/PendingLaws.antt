@@ -1,10 +1,10 @@
 -- Laws of the pending ways: an entry stands for those at its column and at columns behind it.
-use Rattle.std.proofs.Common.{◌≡◌, ℕ, zero, suc, ◌+◌, ◌-◌, ◌<◌, ◌≤◌, Bool, true, false, List, [], ◌∷◌, ◌++◌, length, take, drop, get_or, refl, sym, ap, ◌∙◌, subst, arith, drop-cons, append-nil}
-use Rattle.std.specs.Prelude.{nat_lt, reverse, slice_set, ◌^◌}
+use Rattle.std.proofs.Common.{◌≡◌, ℕ, zero, suc, ◌+◌, ◌-◌, ◌<◌, ◌≤◌, Bool, true, false, List, [], ◌∷◌, ◌++◌, length, take, drop, get_or, refl, sym, ap, ◌∙◌, arith}
+use Rattle.std.specs.Prelude.{nat_lt, reverse, slice_set}
 use Rattle.std.proofs.Math.Seq.{drop-nil, drop-append-add, set-append_seam}
 use Rattle.std.proofs.Math.ListN.{drop_of_length-le}
 use Rattle.std.proofs.lemmas.Bool.Decides.{nat_tests}
-use Rattle.std.proofs.lemmas.List.{take-append-drop, length-append, length-reverse, length-take-le, reverse-append, drop-append-le, drop_more}
+use Rattle.std.proofs.lemmas.List.{take-append-drop, length-append, length-take-le, reverse-append, drop-append-le, drop_more}
 use Rattle.pattern_match.proofs.EntryLaws.{reverse-push}
 use Rattle.pattern_match.specs.Ways.{Thread, further, run_of, thread_of, threads_of, ways_counted, IsCounted, IsNextCounted, ArePending, last_of, shorter, kept_to}
 use Rattle.pattern_match.specs.declared.ways.Later.{Later}

@@ -1,6 +1,6 @@
 -- A greedy count of an atom makes the turns of a run.
-use Rattle.std.proofs.Common.{◌≡◌, ℕ, zero, suc, ◌+◌, ◌-◌, ◌<◌, ◌≤◌, true, false, List, [], ◌∷◌, ◌++◌, length, take, drop, get_or, refl, sym, ap, ◌∙◌, subst, arith}
-use Rattle.std.specs.Prelude.{Option, Some, None, IsTrue, All, nat_eq, nat_lt, ◌||◌, ◌&&◌, pos, slice_get, min}
+use Rattle.std.proofs.Common.{◌≡◌, ℕ, zero, suc, ◌+◌, ◌-◌, ◌<◌, ◌≤◌, true, false, List, [], ◌∷◌, length, take, drop, get_or, refl, sym, ap, ◌∙◌, subst, arith}
+use Rattle.std.specs.Prelude.{Option, Some, None, IsTrue, All, pos, min}
 use Rattle.std.proofs.lemmas.Bool.Decides.{nat_tests}
 use Rattle.std.proofs.lemmas.List.{length-drop, length-take, length-take-le, get_or-take, get_or-drop}
 use Rattle.std.proofs.lemmas.List.Elements.{All-get_or}
@@ -14,7 +14,7 @@ use Rattle.pattern_screens.proofs.FirstScreens.{fits-told}
 use Rattle.vim_pattern.specs.GroupNumbers.{HasNumbers}
 use Rattle.vim_pattern.specs.Shape.{one}
 use Rattle.match_rules.specs.Ways.{Context, Way, IsPlaceOf, is_after, line_at, place, behind_character}
-use Rattle.match_rules.specs.Atoms.{fits, lines_looked, way_behind, own_line, character_at, only_if}
+use Rattle.match_rules.specs.Atoms.{fits, lines_looked, way_behind, own_line, only_if}
 use Rattle.match_rules.specs.Counts.{one_less, less_by, is_spent}
 use Rattle.pattern_match.specs.declared.task.Task.{Task}
 use Rattle.pattern_match.specs.declared.task.Turns.{Turns}
@@ -23,7 +23,7 @@ use Rattle.pattern_match.specs.declared.task.Went.TheVariants.{GoesOn}
 use Rattle.pattern_match.specs.Steps.{shape_of}
 use Rattle.match_rules.specs.Marks.{Tick}
 use Rattle.pattern_match.specs.Spending.{spent_on, spent_times}
-use Rattle.pattern_match.specs.Ways.{Thread, Ways, columns_on, further, run_of, run_aside}
+use Rattle.pattern_match.specs.Ways.{Thread, Ways, columns_on, further, run_aside}
 use Rattle.pattern_match.specs.Runs.{IsRun, AreAllowed, HasRun}
 use Rattle.pattern_match.specs.Search.{IsTick}
 use Rattle.pattern_match.proofs.SpendingLaws.{times-cost, times-budget}

@@ -1,9 +1,9 @@
 -- Laws of ticks that looked at the same lines.
-use Rattle.std.proofs.Common.{◌≡◌, ℕ, zero, suc, ◌+◌, ◌<◌, ◌≤◌, refl, sym, ap, ◌∙◌, arith}
+use Rattle.std.proofs.Common.{◌≡◌, ℕ, zero, suc, ◌+◌, ◌<◌, refl, sym, ap, ◌∙◌, arith}
 use Rattle.std.specs.Prelude.{ℤ, Option, Some, None}
 use Rattle.std.proofs.lemmas.Int.{ints}
 use Rattle.syn_base.specs.declared.looked.Looked.{Looked}
-use Rattle.syn_base.specs.Looked.{hull_of, lesser, greater}
+use Rattle.syn_base.specs.Looked.{lesser, greater}
 use Rattle.match_rules.specs.Attempt.{joined}
 use Rattle.pattern_match.specs.declared.spent.Spent.{Spent}
 use Rattle.pattern_match.specs.Spending.{spent_times, looking_at_too}

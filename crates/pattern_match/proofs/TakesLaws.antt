@@ -1,7 +1,7 @@
 -- The ways of a node that takes something stand behind the place where it was tried, so an optional
 -- turn of it is a choice.
 use Rattle.std.proofs.Common.{◌≡◌, ℕ, zero, suc, Bool, true, false, List, [], ◌∷◌, ◌++◌, inl, inr, refl, sym, ap, ◌∙◌, arith, subst}
-use Rattle.std.specs.Prelude.{Option, Some, None, ◌&&◌, ◌||◌, not, nat_lt, if◌then◌else◌}
+use Rattle.std.specs.Prelude.{Option, Some, None, ◌&&◌, not, nat_lt, if◌then◌else◌}
 use Rattle.std.proofs.lemmas.Bool.{cases_Bool, and_parts}
 use Rattle.std.proofs.lemmas.Bool.Decides.{nat_tests}
 use Rattle.syn_base.specs.declared.looked.Looked.{Looked}
@@ -10,11 +10,11 @@ use Rattle.pattern_items.specs.declared.atom.Atom.{Atom}
 use Rattle.pattern_items.specs.declared.atom.Atom.TheVariants.{Char, Any, Is, Set, LineEnd, MatchStart, MatchStop}
 use Rattle.vim_pattern.specs.Shape.{Shape, empty, one, seq, or, and, group, external, repeat, ahead, before, whole}
 use Rattle.match_rules.specs.Ways.{Text, Context, Way, is_after, behind_character, behind_line_end}
-use Rattle.match_rules.specs.Atoms.{character_at, is_line_end, only_if, behind_if, behind_one, behind_one_or_end, fits, way_behind}
+use Rattle.match_rules.specs.Atoms.{character_at, is_line_end, only_if, behind_if, behind_one, behind_one_or_end, fits}
 use Rattle.match_rules.specs.Marks.{Mark, Tick, Reach, followed}
 use Rattle.match_rules.specs.Counts.{places_behind, free_turns, turns, unforced, one_less, less_by, is_spent}
 use Rattle.match_rules.specs.Looks.{look, tried_behind}
-use Rattle.match_rules.specs.Visits.{visits, tried, behind_fit, noted, noted_external}
+use Rattle.match_rules.specs.Visits.{visits, behind_fit, noted, noted_external}
 use Rattle.match_rules.proofs.Walks.{IsForwards}
 use Rattle.match_rules.proofs.Forwards.{stays, further_on, IsForwardsOrNone, fits-forwards}
 use Rattle.match_rules.proofs.MarkLaws.{AllWays, followed-same, followed-reach}

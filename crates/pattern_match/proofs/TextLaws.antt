@@ -1,6 +1,6 @@
 -- Where the characters of a text lead, where case isn't ignored: they are the first of what is left of
 -- the line.
-use Rattle.std.proofs.Common.{◌≡◌, ℕ, suc, ◌+◌, ◌-◌, ◌<◌, ◌≤◌, Bool, true, false, List, [], ◌∷◌, ◌++◌, ◌⊎◌, inl, inr, length, take, drop, get_or, refl, sym, ap, ◌∙◌, subst, arith}
+use Rattle.std.proofs.Common.{◌≡◌, ℕ, suc, ◌+◌, ◌-◌, ◌≤◌, Bool, true, false, List, [], ◌∷◌, ◌⊎◌, inl, inr, length, take, drop, refl, sym, ap, ◌∙◌, arith}
 use Rattle.std.specs.Prelude.{ℤ, Option, Some, None, ◌==◌, ◌&&◌, slice_get, IfSome, pos}
 use Rattle.std.specs.List.{starts_with}
 use Rattle.std.proofs.Math.ListN.{drop_of_length-le}
@@ -11,7 +11,7 @@ use Rattle.char_class.specs.Folds.{is_same}
 use Rattle.syn_base.specs.declared.places.Place.{Place}
 use Rattle.syn_base.specs.Looked.{one_line, hull_of, lesser, greater}
 use Rattle.match_rules.specs.Ways.{Text, Context, line_at, place, behind_character, IsPlaceOf}
-use Rattle.match_rules.specs.Atoms.{Piece, character, characters, behind_piece, behind_pieces, behind_if, last_line_of, only_if, lines_from}
+use Rattle.match_rules.specs.Atoms.{characters, behind_pieces, behind_if, last_line_of, only_if, lines_from}
 use Rattle.pattern_match.specs.declared.atoms.Tried.{Tried}
 use Rattle.pattern_match.specs.Tried.{IsTriedOver}
 use Rattle.pattern_match.specs.Ways.{columns_on}

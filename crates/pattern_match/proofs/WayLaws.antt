@@ -1,7 +1,7 @@
 -- Laws of the present way and the pending ones, kept as entries.
 use Rattle.std.proofs.Common.{◌≡◌, ℕ, ◌+◌, ◌-◌, ◌<◌, ◌≤◌, List, [], ◌∷◌, ◌++◌, length, take, drop, get_or, refl, sym, ap, ◌∙◌, subst, arith}
 use Rattle.std.specs.Prelude.{reverse, map, max, ◌^◌}
-use Rattle.std.proofs.lemmas.List.{take-append-drop, map-append, reverse-append, length-reverse, length-append, length-map, length-drop, length-take-le, take_all, drop_at}
+use Rattle.std.proofs.lemmas.List.{length-append, length-take-le, take_all}
 use Rattle.std.proofs.lemmas.List.Elements.{All-push, All-take}
 use Rattle.syn_base.specs.declared.places.Place.{Place}
 use Rattle.match_rules.specs.Ways.{Way}
@@ -14,7 +14,7 @@ use Rattle.pattern_match.specs.declared.ways.Noted.{Noted}
 use Rattle.pattern_match.specs.declared.ways.Here.{Here}
 use Rattle.pattern_match.specs.declared.ways.Pending.{Pending}
 use Rattle.pattern_match.proofs.EntryLaws.{entries_from-none, from-pushed, from-push, linked-push, from-take, linked-take, from-at, reverse-push}
-use Rattle.pattern_match.proofs.PendingLaws.{ArePending-more, length-threads, further-none, shorter-threads, shorter-pending, shorter-reverse, kept_to-pending, kept_to-threads}
+use Rattle.pattern_match.proofs.PendingLaws.{ArePending-more, length-threads, shorter-threads, shorter-pending, shorter-reverse, kept_to-pending, kept_to-threads}
 use Rattle.pattern_match.proofs.LastNoteLaws.{NameLast-push, NameLast-take}
 
 -- ---- what stays where entries come or go

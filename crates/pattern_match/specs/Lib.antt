@@ -22,5 +22,6 @@ pub mod Standing
 pub mod Walks
 pub mod Tried
 pub mod FirstAtom
+pub mod Glance
 pub mod Programs
 pub mod ReadyParts

@@ -1,12 +1,13 @@
 //! An atom at the place of the present way: where it leads, and which lines it looks at.
-ghost use Rattle.std.specs.Prelude.{◌≡◌, ◌==◌, ◌≤◌, ◌+◌, ◌-ℤ◌, ◌&&◌, IfSome, true, pos, nat_eq, length};
+ghost use Rattle.std.specs.Prelude.{◌≡◌, ◌==◌, ◌≤◌, ◌+◌, ◌-ℤ◌, ◌&&◌, IfSome, true, false, pos, nat_eq, length};
 ghost use Rattle.syn_base.specs.Looked.{hull_of, one_line};
 ghost use Rattle.pattern_items.specs.GroupNumbers.{HasNumber, IsOneToNine};
 ghost use Rattle.char_class.specs.Classes.{class_holds};
-ghost use Rattle.match_rules.specs.Ways.{IsPlaceOf, line_at};
+ghost use Rattle.match_rules.specs.Ways.{IsPlaceOf, Way, line_at};
 ghost use Rattle.match_rules.specs.Collections.{collection_holds};
 ghost use Rattle.match_rules.specs.Atoms.{behind_one_or_end, captured_text, characters, external_text, fits, line_behind, lines_from, lines_looked, only_if, turned_round};
 ghost use Rattle.pattern_match.specs.Contexts.{context_in};
+ghost use Rattle.pattern_match.specs.Glance.{asks_for_group};
 ghost use Rattle.pattern_match.specs.Steps.{atom_of};
 ghost use Rattle.pattern_match.specs.Tried.{IsTriedOver};
 
@@ -48,6 +49,25 @@ pub(crate) fn try_atom<T: Lines, I: Copy>(
 {
     let at = ways.place();
     match test {
+        Test::Ref(number) => behind_group(lines, context, ways.capture(*number), at),
+        Test::ExternalRef(number) => behind_external(lines, context, *number, at),
+        test => try_plain(lines, context, at, test),
+    }
+}
+
+/// Tries an atom that asks for no text of a group.
+#[inline(always)]
+pub(crate) fn try_plain<T: Lines>(lines: &T, context: &Context, at: Place, test: &Test) -> Tried
+    requires { IsPlaceOf (T.lines lines.now) at }
+    ensures place { (w : Way) → asks_for_group (atom_of test.now) ≡ false →
+        result.place ≡ fits (context_in (T.lines lines.now) context.now)
+        (record w { at = at }) (atom_of test.now) }
+    ensures looked { (w : Way) → asks_for_group (atom_of test.now) ≡ false →
+        result.looked ≡ lines_looked (context_in (T.lines lines.now) context.now)
+        (record w { at = at }) (atom_of test.now) }
+    ensures on_text { IfSome result.place (IsPlaceOf (T.lines lines.now)) }
+{
+    match test {
         Test::Char(c) => in_line(lines, at, behind_character(lines, at, *c, context.ignore)),
         Test::Any { line_end } => in_line(lines, at, behind_any(lines, at, *line_end)),
         Test::Is {
@@ -69,8 +89,7 @@ pub(crate) fn try_atom<T: Lines, I: Copy>(
         Test::FileStart => file_start(lines, at),
         Test::FileStop => file_stop(lines, at),
         Test::MatchStart | Test::MatchStop => in_line(lines, at, Some(at)),
-        Test::Ref(number) => behind_group(lines, context, ways.capture(*number), at),
-        Test::ExternalRef(number) => behind_external(lines, context, *number, at),
+        Test::Ref(_) | Test::ExternalRef(_) => in_line(lines, at, None),
     }
 }
 

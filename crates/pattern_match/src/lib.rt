@@ -14,6 +14,7 @@ mod collection;
 mod context;
 mod fate;
 mod found;
+mod glance;
 mod look;
 mod made;
 mod memo;

@@ -17,6 +17,7 @@ ghost use Rattle.pattern_match.specs.OnText.{AnswersStayOnText};
 use crate::answer::Attempt;
 use crate::context::Context;
 use crate::found::found_match;
+use crate::glance::is_in_vain;
 use crate::parts::fails_at_once;
 use crate::ready::ready;
 use crate::screens::some_first_fits;
@@ -242,11 +243,14 @@ fn attempt_of<'p, T: Lines>(
         IfOk result (λ told. told ≡ answered budget (T.lines lines.now) start
         (answer_of (visits x (shape_of step.now) (way_from start)))) }
 {
+    let mut spent = Spent::nothing(budget);
+    if is_in_vain(lines, context, step, start, None, &mut spent) {
+        return Ok(Attempt::Absent(looked_or_start(lines, spent.looked, start)));
+    }
     ways.begin(start);
     if let Some(looked) = fails_at_once(lines, context, ways, step) {
         return Ok(Attempt::Absent(looked));
     }
-    let mut spent = Spent::nothing(budget);
     let sought = search(lines, context, ways, step, None, &mut spent)?;
     let looked = looked_or_start(lines, spent.looked, start);
     Ok(match sought {

@@ -15,6 +15,7 @@ ghost use Rattle.pattern_match.specs.Search.{IsStep, marks_first, task_of, IsSea
 
 use crate::behind::Starts;
 use crate::context::Context;
+use crate::glance::is_in_vain;
 use crate::look::{Ending, Look};
 use crate::parts::{follow_both, follow_either, follow_optional};
 use crate::spent::Spent;
@@ -335,6 +336,9 @@ fn search_behind<'p, T: Lines>(
     ways.put_aside()?;
     let mut starts = Starts::new(at, limit);
     while let Some(start) = starts.next(lines) {
+        if is_in_vain(lines, context, part, start, Some(at), spent) {
+            continue;
+        }
         ways.move_to(start);
         match search(lines, context, ways, part, Some(at), spent)? {
             Sought::Absent => take_up_copy(ways)?,

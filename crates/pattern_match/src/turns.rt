@@ -6,6 +6,7 @@ ghost use Rattle.match_rules.specs.Ways.{Context as AnyContext, IsPlaceOf, is_af
 ghost use Rattle.match_rules.specs.Counts.{one_less, is_spent};
 ghost use Rattle.pattern_match.specs.Contexts.{context_in};
 ghost use Rattle.pattern_match.specs.Steps.{atom_of, shape_of};
+ghost use Rattle.pattern_match.specs.Glance.{AreTurnsLeft};
 ghost use Rattle.pattern_match.specs.Heights.{height};
 ghost use Rattle.pattern_match.specs.Search.{Leads, IsLed, IsStep, marks_first};
 
@@ -20,7 +21,7 @@ use crate::ways::Ways;
 use syn_base::{Lines, Memory, Place};
 
 /// Whether a place stands behind another.
-fn is_after(p: Place, q: Place) -> bool
+pub(crate) fn is_after(p: Place, q: Place) -> bool
     ensures { result ≡ is_after p q }
 {
     q.line < p.line || (q.line == p.line && q.col < p.col)
@@ -60,6 +61,28 @@ pub(crate) fn put_aside_with<'p>(ways: &mut Ways<Task<'p>>, item: Task<'p>) -> R
     Ok(())
 }
 
+/// The turns of a count that are left at a place, behind a turn that began at `from`; none where the
+/// way ends.
+pub(crate) fn next_turns<'p>(at: Place, turns: Turns<'p>, from: Place) -> Option<Turns<'p>>
+    ensures { AreTurnsLeft turns.entry from at result }
+{
+    if is_after(at, from) {
+        Some(Turns {
+            least: turns.least.saturating_sub(1),
+            most: one_less(turns.most),
+            ..turns
+        })
+    } else if turns.least == 0 {
+        None
+    } else {
+        Some(Turns {
+            least: 0,
+            most: less_by(turns.most, turns.least as usize),
+            ..turns
+        })
+    }
+}
+
 /// Goes on with a count, behind a turn that began at `from`.
 pub(crate) fn after_turn<'p>(ways: &Ways<Task<'p>>, turns: Turns<'p>, from: Place) -> Went<'p>
     requires { HasNumbers (shape_of turns.part.now) }
@@ -67,20 +90,9 @@ pub(crate) fn after_turn<'p>(ways: &Ways<Task<'p>>, turns: Turns<'p>, from: Plac
     ensures leads { (x : AnyContext) → Leads x (height (shape_of turns.entry.part.now) + 1)
         (marks_first x (Task.AfterTurn turns.entry from) ways.now) ways.now ways.now result }
 {
-    if is_after(ways.place(), from) {
-        Went::Does(Next::Count(Turns {
-            least: turns.least.saturating_sub(1),
-            most: one_less(turns.most),
-            ..turns
-        }))
-    } else if turns.least == 0 {
-        Went::Ends
-    } else {
-        Went::Does(Next::Count(Turns {
-            least: 0,
-            most: less_by(turns.most, turns.least as usize),
-            ..turns
-        }))
+    match next_turns(ways.place(), turns, from) {
+        None => Went::Ends,
+        Some(turns) => Went::Does(Next::Count(turns)),
     }
 }
 

@@ -1,6 +1,6 @@
-use Rattle.std.proofs.Common.{◌≡◌, ◌≢◌, ◌<◌, ◌+◌, length, true, false, [], ◌∷◌, ◌∙◌, refl, sym, ap}
+use Rattle.std.proofs.Common.{◌≡◌, ◌≢◌, ◌<◌, ◌+◌, length, true, false, [], ◌∷◌, ◌∙◌, refl, sym, ap, rules}
 use Rattle.std.specs.Prelude.{Some, None}
-use Rattle.match_rules.specs.Ways.{Context as AnyContext}
+use Rattle.match_rules.specs.Ways.{Context as AnyContext, Way}
 use Rattle.match_rules.specs.Looks.{ending_at}
 use Rattle.match_rules.specs.Visits.{visits}
 use Rattle.match_rules.specs.Attempt.{answer_from}
@@ -85,9 +85,10 @@ pub search_behind-returns-in-Found : goal.search_behind-returns-in-Found
 search_behind-returns-in-Found g t c =
     let x : AnyContext = context_in (g.T.Lines.lines c.args.lines.now) c.args.context.now in
     let part = shape_of c.args.part.now in
+    let u : c.is_in_vain.new.spent ≡ c.loop-start.spent = c.is_in_vain.ensures.unchanged (search rules) in
     let s : HasEnded (ending_at c.place-at.result (visits x part c.move_to.new.self.here.way))
     c.move_to.new.self c.search.new.ways c.loop-start.spent c.search.new.spent
-    (Some c.search.new.ways.here.way) = rw c.in-Found.is at c.in_ok-search.ensures in
+    (Some c.search.new.ways.here.way) = rw (c.in-Found.is, u) at c.in_ok-search.ensures in
     let places = rw c.in-Some.is at c.next.ensures.places in
     let m = start_marks x part c.args.ways.now c.loop-start.ways c.move_to.new.self c.in-Some.start
     c.place-at.result c.move_to.ensures c.loop-start.invariant.here c.place-at.ensures in
@@ -108,9 +109,10 @@ pub search_behind-returns-in-TooCostly : goal.search_behind-returns-in-TooCostly
 search_behind-returns-in-TooCostly g t c =
     let x : AnyContext = context_in (g.T.Lines.lines c.args.lines.now) c.args.context.now in
     let part = shape_of c.args.part.now in
+    let u : c.is_in_vain.new.spent ≡ c.loop-start.spent = c.is_in_vain.ensures.unchanged (search rules) in
     let s : c.loop-start.spent.budget < (answer_from c.loop-start.spent.cost
     c.loop-start.spent.looked (ending_at c.place-at.result
-    (visits x part c.move_to.new.self.here.way))).cost = rw c.in-TooCostly.is at
+    (visits x part c.move_to.new.self.here.way))).cost = rw (c.in-TooCostly.is, u) at
     c.in_ok-search.ensures in
     let places = rw c.in-Some.is at c.next.ensures.places in
     let m = start_marks x part c.args.ways.now c.loop-start.ways c.move_to.new.self c.in-Some.start
@@ -140,9 +142,10 @@ pub search_behind-loop-start-preserved : goal.search_behind-loop-start-preserved
 search_behind-loop-start-preserved g t c =
     let x : AnyContext = context_in (g.T.Lines.lines c.args.lines.now) c.args.context.now in
     let part = shape_of c.args.part.now in
+    let u : c.is_in_vain.new.spent ≡ c.loop-start.spent = c.is_in_vain.ensures.unchanged (search rules) in
     let s : HasEnded (ending_at c.place-at.result (visits x part c.move_to.new.self.here.way))
     c.move_to.new.self c.search.new.ways c.loop-start.spent c.search.new.spent None =
-    rw c.in-Absent.is at c.in_ok-search.ensures in
+    rw (c.in-Absent.is, u) at c.in_ok-search.ensures in
     let places = rw c.in-Some.is at c.next.ensures.places in
     let m = start_marks x part c.args.ways.now c.loop-start.ways c.move_to.new.self c.in-Some.start
     c.place-at.result c.move_to.ensures c.loop-start.invariant.here c.place-at.ensures in
@@ -154,6 +157,21 @@ search_behind-loop-start-preserved g t c =
     (sym (ap (answer_from c.loop-start.spent.cost c.loop-start.spent.looked) m) ∙ s.answer) s.budget
     s.within (c.in_ok-take_up_copy-in-Absent.ensures c.args.ways.now.here c.args.ways.now.pending p
     ∙ rw p refl) c.next.ensures.on_text
+
+pub search_behind-loop-start-preserved-then-is_in_vain : goal.search_behind-loop-start-preserved-then-is_in_vain
+search_behind-loop-start-preserved-then-is_in_vain g t c =
+    let x : AnyContext = context_in (g.T.Lines.lines c.args.lines.now) c.args.context.now in
+    let part = shape_of c.args.part.now in
+    let old : Ways Task = c.args.ways.now in
+    let places = rw c.in-Some.is at c.next.ensures.places in
+    let w : Way = record old.here.way { at = c.in-Some.start } in
+    let seen = rw c.place-at.ensures at c.is_in_vain.ensures.seen (search rules) w refl in
+    start_absent x part c.args.limit old c.args.spent.now c.loop-start.ways c.loop-start.spent
+    c.loop-start.starts c.loop-start.invariant c.in-Some.start c.next.new.self places.0
+    c.loop-start.ways c.is_in_vain.new.spent seen c.is_in_vain.ensures.budget
+    c.is_in_vain.ensures.within
+    (λ i. record { here = c.loop-start.invariant.here i; pending = c.loop-start.invariant.pending i })
+    c.next.ensures.on_text
 
 pub search-loop-preserved : goal.search-loop-preserved
 search-loop-preserved g t c =

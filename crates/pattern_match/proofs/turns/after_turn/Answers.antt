@@ -1,15 +1,12 @@
-use Rattle.std.proofs.Common.{rules}
-use Rattle.pattern_match.proofs.Counting.{turn_took, turn_empty, turn_dropped}
+use Rattle.pattern_match.proofs.Counting.{turns_left, turns_over}
 use Rattle.pattern_match.proofs.turns.after_turn.Goals as goal
 
-pub returns-then-is_after-clause-leads : goal.returns-then-is_after-clause-leads
-returns-then-is_after-clause-leads c x =
-    turn_took x c.args.turns c.args.ways.now c.requires c.args.from c.saturating_sub.result c.one_less.result (search rules) (search rules) (search rules)
+pub returns-in-Some-clause-leads : goal.returns-in-Some-clause-leads
+returns-in-Some-clause-leads c x =
+    turns_left x c.args.turns c.args.ways.now c.requires c.args.from c.in-Some.turns
+    (rw (c.in-Some.is, c.place.ensures) at c.next_turns.ensures)
 
-pub returns-then-turns-eq0-clause-leads : goal.returns-then-turns-eq0-clause-leads
-returns-then-turns-eq0-clause-leads c x =
-    turn_dropped x c.args.turns c.args.ways.now c.requires c.args.from (search rules) (search rules)
-
-pub returns-else-turns-eq0-clause-leads : goal.returns-else-turns-eq0-clause-leads
-returns-else-turns-eq0-clause-leads c x =
-    turn_empty x c.args.turns c.args.ways.now c.requires c.args.from c.less_by.result (search rules) (search rules) (search rules)
+pub returns-in-None-clause-leads : goal.returns-in-None-clause-leads
+returns-in-None-clause-leads c x =
+    turns_over x c.args.turns c.args.ways.now c.requires c.args.from
+    (rw (c.in-None.is, c.place.ensures) at c.next_turns.ensures)

@@ -1,0 +1,404 @@
+use Rattle.std.proofs.Common.{◌≡◌, [], ◌∷◌, refl, sym, ap, ◌∙◌, subst, rules, append-nil}
+use Rattle.std.specs.Prelude.{true, false, Some, None}
+use Rattle.vim_pattern.specs.Shape.{Shape, one, ahead}
+use Rattle.match_rules.specs.Ways.{Context as AnyContext, Way, with_capture}
+use Rattle.match_rules.specs.Attempt.{answer_from}
+use Rattle.match_rules.specs.Marks.{Reach, followed}
+use Rattle.match_rules.specs.Visits.{visits, noted, noted_external}
+use Rattle.match_rules.proofs.MarkLaws.{followed-reach}
+use Rattle.pattern_match.specs.Contexts.{context_in}
+use Rattle.pattern_match.specs.Steps.{shape_of, atom_of}
+use Rattle.pattern_match.specs.Glance.{IsSeen, marks_behind, turns_behind, turn_of}
+use Rattle.pattern_match.specs.declared.glance.Sight.{Sight}
+use Rattle.pattern_match.specs.declared.task.Turns.{Turns}
+use Rattle.pattern_match.specs.declared.glance.Saw.TheVariants.{Reached, InVain}
+use Rattle.pattern_match.proofs.GlanceLaws.{atom_then, atom_stops, vain_then, first_stops, seen_as, seen_behind, either_is, optional_is, both_is, group_is, external_is, spent_is, forced_is, lazy_is, greedy_is, turn_is, ahead_is}
+use Rattle.pattern_match.proofs.glance.+look.Goals as goal
+
+pub look_at-returns-in-Empty-clause-seen : goal.look_at-returns-in-Empty-clause-seen
+look_at-returns-in-Empty-clause-seen g t c =
+    let x : AnyContext = context_in (g.T.Lines.lines c.args.lines.now) c.args.context.now in
+    λ w e. rw (c.in-Empty.is, append-nil) (c.go_on.ensures.seen w e)
+
+pub look_at-returns-in-One-clause-seen : goal.look_at-returns-in-One-clause-seen
+look_at-returns-in-One-clause-seen g t c =
+    let x : AnyContext = context_in (g.T.Lines.lines c.args.lines.now) c.args.context.now in
+    λ w e. rw c.in-One.is (c.look_at_one.ensures.seen w e)
+
+pub look_at-returns-in-Seq-clause-seen : goal.look_at-returns-in-Seq-clause-seen
+look_at-returns-in-Seq-clause-seen g t c =
+    let x : AnyContext = context_in (g.T.Lines.lines c.args.lines.now) c.args.context.now in
+    λ w e. rw c.in-Seq.is (rw (c.deref-in-Seq.ensures, c.deref.ensures) at c.look_at_both.ensures.seen w e)
+
+pub look_at-returns-in-Or-clause-seen : goal.look_at-returns-in-Or-clause-seen
+look_at-returns-in-Or-clause-seen g t c =
+    let x : AnyContext = context_in (g.T.Lines.lines c.args.lines.now) c.args.context.now in
+    λ w e. rw c.in-Or.is (rw (c.deref-in-Or-2.ensures, c.deref-in-Or.ensures) at c.look_at_either.ensures.seen w e)
+
+pub look_at-returns-in-Optional-clause-seen : goal.look_at-returns-in-Optional-clause-seen
+look_at-returns-in-Optional-clause-seen g t c =
+    let x : AnyContext = context_in (g.T.Lines.lines c.args.lines.now) c.args.context.now in
+    λ w e. rw c.in-Optional.is (rw c.deref-in-Optional.ensures at c.look_at_optional.ensures.seen w e)
+
+pub look_at-returns-in-Group-clause-seen : goal.look_at-returns-in-Group-clause-seen
+look_at-returns-in-Group-clause-seen g t c =
+    let x : AnyContext = context_in (g.T.Lines.lines c.args.lines.now) c.args.context.now in
+    λ w e. rw c.in-Group.is (rw c.deref-in-Group.ensures at c.look_at_group.ensures.seen w e)
+
+pub look_at-returns-in-External-clause-seen : goal.look_at-returns-in-External-clause-seen
+look_at-returns-in-External-clause-seen g t c =
+    let x : AnyContext = context_in (g.T.Lines.lines c.args.lines.now) c.args.context.now in
+    λ w e. rw c.in-External.is (rw c.deref-in-External.ensures at c.look_at_external.ensures.seen w e)
+
+pub look_at-returns-in-Repeat-clause-seen : goal.look_at-returns-in-Repeat-clause-seen
+look_at-returns-in-Repeat-clause-seen g t c =
+    let x : AnyContext = context_in (g.T.Lines.lines c.args.lines.now) c.args.context.now in
+    λ w e. rw c.in-Repeat.is (rw c.deref-in-Repeat.ensures at c.look_at_repeat.ensures.seen w e)
+
+pub look_at-returns-in-Ahead-clause-seen : goal.look_at-returns-in-Ahead-clause-seen
+look_at-returns-in-Ahead-clause-seen g t c =
+    let x : AnyContext = context_in (g.T.Lines.lines c.args.lines.now) c.args.context.now in
+    λ w e. rw c.in-Ahead.is (rw c.deref-in-Ahead.ensures at c.look_ahead.ensures.seen w e)
+
+pub look_at_one-returns-in-Reached-clause-seen : goal.look_at_one-returns-in-Reached-clause-seen
+look_at_one-returns-in-Reached-clause-seen g t c =
+    let x : AnyContext = context_in (g.T.Lines.lines c.args.lines.now) c.args.context.now in
+    λ w e.
+    atom_then x (atom_of c.args.test.now) w (marks_behind x c.args.rest.now) c.args.sight.now
+    c.look_at_atom.new.sight c.go_on.new.sight c.go_on.result
+    (rw c.in-Reached.is at c.look_at_atom.ensures.seen w e) c.go_on.ensures.seen
+
+pub look_at_one-returns-in_default : goal.look_at_one-returns-in_default
+look_at_one-returns-in_default g t c =
+    let x : AnyContext = context_in (g.T.Lines.lines c.args.lines.now) c.args.context.now in
+    record {
+      seen = λ w e.
+          atom_stops x (atom_of c.args.test.now) w (marks_behind x c.args.rest.now) c.args.sight.now
+          c.look_at_atom.new.sight c.look_at_atom.result c.in_default.not-Reached
+          (c.look_at_atom.ensures.seen w e);
+      goes = c.look_at_atom.ensures.goes;
+    }
+
+pub look_at_both-returns-in-Reached-clause-seen : goal.look_at_both-returns-in-Reached-clause-seen
+look_at_both-returns-in-Reached-clause-seen g t c =
+    let x : AnyContext = context_in (g.T.Lines.lines c.args.lines.now) c.args.context.now in
+    let f = marks_behind x c.args.rest.now in
+    let b = shape_of c.args.second.now in
+    λ w e. rw c.in-One.is
+    (seen_as _ _ c.args.sight.now c.look_at.new.sight c.look_at.result
+    (both_is x (one (atom_of c.in-One.test)) b w f)
+    (atom_then x (atom_of c.in-One.test) w (λ v. followed (visits x b v) f) c.args.sight.now
+    c.look_at_atom.new.sight c.look_at.new.sight c.look_at.result
+    (rw c.in-Reached.is at c.look_at_atom.ensures.seen w e) c.look_at.ensures.seen))
+
+pub look_at_both-returns-in_default-look_at_atom : goal.look_at_both-returns-in_default-look_at_atom
+look_at_both-returns-in_default-look_at_atom g t c =
+    let x : AnyContext = context_in (g.T.Lines.lines c.args.lines.now) c.args.context.now in
+    let f = marks_behind x c.args.rest.now in
+    let b = shape_of c.args.second.now in
+    record {
+      seen = λ w e. rw c.in-One.is
+          (seen_as _ _ c.args.sight.now c.look_at_atom.new.sight c.look_at_atom.result
+          (both_is x (one (atom_of c.in-One.test)) b w f)
+          (atom_stops x (atom_of c.in-One.test) w (λ v. followed (visits x b v) f) c.args.sight.now
+          c.look_at_atom.new.sight c.look_at_atom.result c.in_default-look_at_atom.not-Reached
+          (c.look_at_atom.ensures.seen w e)));
+      goes = c.look_at_atom.ensures.goes;
+    }
+
+pub look_at_both-returns-in_default : goal.look_at_both-returns-in_default
+look_at_both-returns-in_default g t c =
+    let x : AnyContext = context_in (g.T.Lines.lines c.args.lines.now) c.args.context.now in
+    let f = marks_behind x c.args.rest.now in
+    record {
+      seen = λ w e. seen_as _ _ c.args.sight.now c.look_at-in_default.new.sight
+          c.look_at-in_default.result
+          (both_is x (shape_of c.args.first.now) (shape_of c.args.second.now) w f)
+          (c.look_at-in_default.ensures.seen w e);
+      goes = c.look_at-in_default.ensures.goes;
+    }
+
+pub look_at_either-returns-in-InVain-clause-seen : goal.look_at_either-returns-in-InVain-clause-seen
+look_at_either-returns-in-InVain-clause-seen g t c =
+    let x : AnyContext = context_in (g.T.Lines.lines c.args.lines.now) c.args.context.now in
+    let f = marks_behind x c.args.rest.now in
+    λ w e. seen_as _ _ c.args.sight.now c.look_at-in-InVain.new.sight c.look_at-in-InVain.result
+    (either_is x (shape_of c.args.first.now) (shape_of c.args.second.now) w f)
+    (vain_then (followed (visits x (shape_of c.args.first.now) w) f) (followed (visits x (shape_of c.args.second.now) w) f) c.args.sight.now c.look_at.new.sight
+    (record c.look_at.new.sight { at = c.args.sight.now.at }) c.look_at-in-InVain.new.sight
+    c.look_at-in-InVain.result refl (rw c.in-InVain.is at c.look_at.ensures.seen w e)
+    (c.look_at-in-InVain.ensures.seen w e))
+
+pub look_at_either-returns-in_default : goal.look_at_either-returns-in_default
+look_at_either-returns-in_default g t c =
+    let x : AnyContext = context_in (g.T.Lines.lines c.args.lines.now) c.args.context.now in
+    let f = marks_behind x c.args.rest.now in
+    record {
+      seen = λ w e. seen_as _ _ c.args.sight.now c.look_at.new.sight c.look_at.result
+          (either_is x (shape_of c.args.first.now) (shape_of c.args.second.now) w f)
+          (first_stops (followed (visits x (shape_of c.args.first.now) w) f) (followed (visits x (shape_of c.args.second.now) w) f) c.args.sight.now c.look_at.new.sight c.look_at.result
+          c.in_default.not-InVain (c.look_at.ensures.seen w e));
+      goes = c.look_at.ensures.goes;
+    }
+
+pub look_at_optional-returns-in-InVain-clause-seen : goal.look_at_optional-returns-in-InVain-clause-seen
+look_at_optional-returns-in-InVain-clause-seen g t c =
+    let x : AnyContext = context_in (g.T.Lines.lines c.args.lines.now) c.args.context.now in
+    let f = marks_behind x c.args.rest.now in
+    λ w e. seen_as _ _ c.args.sight.now c.go_on.new.sight c.go_on.result
+    (optional_is x (shape_of c.args.part.now) w f)
+    (vain_then (followed (visits x (shape_of c.args.part.now) w) f) (f w) c.args.sight.now c.look_at.new.sight
+    (record c.look_at.new.sight { at = c.args.sight.now.at }) c.go_on.new.sight
+    c.go_on.result refl (rw c.in-InVain.is at c.look_at.ensures.seen w e)
+    (c.go_on.ensures.seen w e))
+
+pub look_at_optional-returns-in_default : goal.look_at_optional-returns-in_default
+look_at_optional-returns-in_default g t c =
+    let x : AnyContext = context_in (g.T.Lines.lines c.args.lines.now) c.args.context.now in
+    let f = marks_behind x c.args.rest.now in
+    record {
+      seen = λ w e. seen_as _ _ c.args.sight.now c.look_at.new.sight c.look_at.result
+          (optional_is x (shape_of c.args.part.now) w f)
+          (first_stops (followed (visits x (shape_of c.args.part.now) w) f) (f w) c.args.sight.now c.look_at.new.sight c.look_at.result
+          c.in_default.not-InVain (c.look_at.ensures.seen w e));
+      goes = c.look_at.ensures.goes;
+    }
+
+pub go_on-returns-in-Then-clause-seen : goal.go_on-returns-in-Then-clause-seen
+go_on-returns-in-Then-clause-seen g t c =
+    let x : AnyContext = context_in (g.T.Lines.lines c.args.lines.now) c.args.context.now in
+    λ w e. rw c.in-Then.is (c.look_at.ensures.seen w e)
+
+pub go_on-returns-in-AfterTurn-clause-seen : goal.go_on-returns-in-AfterTurn-clause-seen
+go_on-returns-in-AfterTurn-clause-seen g t c =
+    let x : AnyContext = context_in (g.T.Lines.lines c.args.lines.now) c.args.context.now in
+    λ w e. rw c.in-AfterTurn.is (c.look_after_turn.ensures.seen w e)
+
+pub look_after_turn-returns-in-Some-clause-seen : goal.look_after_turn-returns-in-Some-clause-seen
+look_after_turn-returns-in-Some-clause-seen g t c =
+    let x : AnyContext = context_in (g.T.Lines.lines c.args.lines.now) c.args.context.now in
+    λ w e. seen_as _ _ c.args.sight.now c.look_at_count.new.sight c.look_at_count.result
+    (ap (λ m. followed m (marks_behind x c.args.rest.now)) ((rw c.in-Some.is at c.next_turns.ensures).1 x w e))
+    (c.look_at_count.ensures.seen w e)
+
+pub look_at_count-returns-then-is_spent-clause-seen : goal.look_at_count-returns-then-is_spent-clause-seen
+look_at_count-returns-then-is_spent-clause-seen g t c =
+    let x : AnyContext = context_in (g.T.Lines.lines c.args.lines.now) c.args.context.now in
+    λ w e. seen_as _ _ c.args.sight.now c.go_on.new.sight c.go_on.result
+    (spent_is x c.args.turns.now w (marks_behind x c.args.rest.now) (rw e c.requires.on_text) (search rules))
+    (c.go_on.ensures.seen w e)
+
+pub look_at_count-returns-then-turns-gt0-clause-seen : goal.look_at_count-returns-then-turns-gt0-clause-seen
+look_at_count-returns-then-turns-gt0-clause-seen g t c =
+    let x : AnyContext = context_in (g.T.Lines.lines c.args.lines.now) c.args.context.now in
+    λ w e. seen_as _ _ c.args.sight.now c.look_at_turn.new.sight c.look_at_turn.result
+    (forced_is x c.args.turns.now w (marks_behind x c.args.rest.now) (search rules) (search rules))
+    (c.look_at_turn.ensures.seen w e)
+
+pub look_at_count-returns-then-turns-clause-seen : goal.look_at_count-returns-then-turns-clause-seen
+look_at_count-returns-then-turns-clause-seen g t c =
+    let x : AnyContext = context_in (g.T.Lines.lines c.args.lines.now) c.args.context.now in
+    λ w e. seen_as _ _ c.args.sight.now c.look_at_lazy.new.sight c.look_at_lazy.result
+    (lazy_is x c.args.turns.now w (marks_behind x c.args.rest.now) (rw e c.requires.on_text) (search rules) (search rules) (search rules))
+    (c.look_at_lazy.ensures.seen w e)
+
+pub look_at_count-returns-else-turns-clause-seen : goal.look_at_count-returns-else-turns-clause-seen
+look_at_count-returns-else-turns-clause-seen g t c =
+    let x : AnyContext = context_in (g.T.Lines.lines c.args.lines.now) c.args.context.now in
+    λ w e. seen_as _ _ c.args.sight.now c.look_at_greedy.new.sight c.look_at_greedy.result
+    (greedy_is x c.args.turns.now w (marks_behind x c.args.rest.now) (rw e c.requires.on_text) (search rules) (search rules) (search rules))
+    (c.look_at_greedy.ensures.seen w e)
+
+pub look_at_greedy-returns-in-InVain-clause-seen : goal.look_at_greedy-returns-in-InVain-clause-seen
+look_at_greedy-returns-in-InVain-clause-seen g t c =
+    let x : AnyContext = context_in (g.T.Lines.lines c.args.lines.now) c.args.context.now in
+    let f = marks_behind x c.args.rest.now in
+    λ w e. vain_then (followed (turn_of x c.args.turns.now w) f) (f w) c.args.sight.now c.look_at_turn.new.sight
+    (record c.look_at_turn.new.sight { at = c.args.sight.now.at }) c.go_on.new.sight
+    c.go_on.result refl (rw c.in-InVain.is at c.look_at_turn.ensures.seen w e)
+    (c.go_on.ensures.seen w e)
+
+pub look_at_greedy-returns-in_default : goal.look_at_greedy-returns-in_default
+look_at_greedy-returns-in_default g t c =
+    let x : AnyContext = context_in (g.T.Lines.lines c.args.lines.now) c.args.context.now in
+    let f = marks_behind x c.args.rest.now in
+    record {
+      seen = λ w e. first_stops (followed (turn_of x c.args.turns.now w) f) (f w) c.args.sight.now c.look_at_turn.new.sight c.look_at_turn.result
+          c.in_default.not-InVain (c.look_at_turn.ensures.seen w e);
+      goes = c.look_at_turn.ensures.goes;
+    }
+
+pub look_at_lazy-returns-in-InVain-clause-seen : goal.look_at_lazy-returns-in-InVain-clause-seen
+look_at_lazy-returns-in-InVain-clause-seen g t c =
+    let x : AnyContext = context_in (g.T.Lines.lines c.args.lines.now) c.args.context.now in
+    let f = marks_behind x c.args.rest.now in
+    λ w e. vain_then (f w) (followed (turn_of x c.args.turns.now w) f) c.args.sight.now c.go_on.new.sight
+    (record c.go_on.new.sight { at = c.args.sight.now.at }) c.look_at_turn.new.sight
+    c.look_at_turn.result refl (rw c.in-InVain.is at c.go_on.ensures.seen w e)
+    (c.look_at_turn.ensures.seen w e)
+
+pub look_at_lazy-returns-in_default : goal.look_at_lazy-returns-in_default
+look_at_lazy-returns-in_default g t c =
+    let x : AnyContext = context_in (g.T.Lines.lines c.args.lines.now) c.args.context.now in
+    let f = marks_behind x c.args.rest.now in
+    record {
+      seen = λ w e. first_stops (f w) (followed (turn_of x c.args.turns.now w) f) c.args.sight.now c.go_on.new.sight c.go_on.result
+          c.in_default.not-InVain (c.go_on.ensures.seen w e);
+      goes = c.go_on.ensures.goes;
+    }
+
+pub look_at_repeat-returns-clause-seen : goal.look_at_repeat-returns-clause-seen
+look_at_repeat-returns-clause-seen g t c =
+    let x : AnyContext = context_in (g.T.Lines.lines c.args.lines.now) c.args.context.now in
+    λ w e. rw c.new-turns.ensures at c.look_at_count.ensures.seen w e
+
+pub go_on-returns-in-Close-clause-seen : goal.go_on-returns-in-Close-clause-seen
+go_on-returns-in-Close-clause-seen g t c =
+    let x : AnyContext = context_in (g.T.Lines.lines c.args.lines.now) c.args.context.now in
+    λ w e. rw (c.in-Close.is, append-nil)
+    (c.go_on.ensures.seen
+    (record w { captures = with_capture w.captures c.in-Close.field-0 c.in-Close.field-1 w.at }) e)
+
+pub go_on-returns-in-CloseExternal-clause-seen : goal.go_on-returns-in-CloseExternal-clause-seen
+go_on-returns-in-CloseExternal-clause-seen g t c =
+    let x : AnyContext = context_in (g.T.Lines.lines c.args.lines.now) c.args.context.now in
+    λ w e. rw (c.in-CloseExternal.is, append-nil)
+    (c.go_on-in-CloseExternal.ensures.seen
+    (record w { externals = with_capture w.externals c.in-CloseExternal.field-0 c.in-CloseExternal.field-1 w.at }) e)
+
+pub look_after_turn-returns-in-None-clause-seen : goal.look_after_turn-returns-in-None-clause-seen
+look_after_turn-returns-in-None-clause-seen g t c =
+    let x : AnyContext = context_in (g.T.Lines.lines c.args.lines.now) c.args.context.now in
+    λ w e.
+    ap (λ m. answer_from c.args.sight.now.spent.cost c.args.sight.now.spent.looked
+    (followed m (marks_behind x c.args.rest.now))) ((rw c.in-None.is at c.next_turns.ensures) x w e)
+
+pub look_at_group-returns-clause-seen : goal.look_at_group-returns-clause-seen
+look_at_group-returns-clause-seen g t c =
+    let x : AnyContext = context_in (g.T.Lines.lines c.args.lines.now) c.args.context.now in
+    let f = marks_behind x c.args.rest.now in
+    λ w e. seen_as _ _ c.args.sight.now c.look_at.new.sight c.look_at.result
+    (group_is x (shape_of c.args.part.now) c.args.number w f)
+    (subst (λ p. IsSeen (followed (visits x (shape_of c.args.part.now) w)
+    (λ v. followed (noted c.args.number p v) f)) c.args.sight.now c.look_at.new.sight c.look_at.result)
+    (sym e) (c.look_at.ensures.seen w e))
+
+pub look_at_external-returns-clause-seen : goal.look_at_external-returns-clause-seen
+look_at_external-returns-clause-seen g t c =
+    let x : AnyContext = context_in (g.T.Lines.lines c.args.lines.now) c.args.context.now in
+    let f = marks_behind x c.args.rest.now in
+    λ w e. seen_as _ _ c.args.sight.now c.look_at.new.sight c.look_at.result
+    (external_is x (shape_of c.args.part.now) c.args.number w f)
+    (subst (λ p. IsSeen (followed (visits x (shape_of c.args.part.now) w)
+    (λ v. followed (noted_external c.args.number p v) f)) c.args.sight.now c.look_at.new.sight c.look_at.result)
+    (sym e) (c.look_at.ensures.seen w e))
+
+pub look_at_turn-returns-in_default : goal.look_at_turn-returns-in_default
+look_at_turn-returns-in_default g t c =
+    let x : AnyContext = context_in (g.T.Lines.lines c.args.lines.now) c.args.context.now in
+    let f = marks_behind x c.args.rest.now in
+    let t : Turns = c.args.turns.now in
+    record {
+      seen = λ w e. seen_as _ _ c.args.sight.now c.look_at.new.sight c.look_at.result
+          (turn_is x t w f)
+          (subst (λ p. IsSeen (followed (visits x (shape_of t.part.now) w)
+          (λ v. followed (turns_behind x t p v) f)) c.args.sight.now c.look_at.new.sight
+          c.look_at.result) (sym e) (c.look_at.ensures.seen w e));
+      goes = c.look_at.ensures.goes;
+    }
+
+pub look_ahead-returns-then-not-clause-seen : goal.look_ahead-returns-then-not-clause-seen
+look_ahead-returns-then-not-clause-seen g t c =
+    let x : AnyContext = context_in (g.T.Lines.lines c.args.lines.now) c.args.context.now in
+    let f = marks_behind x c.args.rest.now in
+    let s : Shape = shape_of c.args.part.now in
+    let old : Sight = c.args.sight.now in
+    let mid : Sight = c.look_at.new.sight in
+    λ w e.
+    let h = seen_as (visits x s w) (followed (visits x s w) (λ v. Reach v ∷ [])) old mid Reached
+    (sym (followed-reach (visits x s w))) (rw c.in-Reached.is at c.look_at.ensures.seen w e) in
+    let k : c.args.not ≡ true = search rules in
+    rw k (ahead_is x s true w f old mid (Some h.0) h.1.0)
+
+pub look_ahead-returns-else-not-2-clause-seen : goal.look_ahead-returns-else-not-2-clause-seen
+look_ahead-returns-else-not-2-clause-seen g t c =
+    let x : AnyContext = context_in (g.T.Lines.lines c.args.lines.now) c.args.context.now in
+    let f = marks_behind x c.args.rest.now in
+    let s : Shape = shape_of c.args.part.now in
+    let old : Sight = c.args.sight.now in
+    let mid : Sight = c.look_at.new.sight in
+    λ w e.
+    let h = seen_as (visits x s w) (followed (visits x s w) (λ v. Reach v ∷ [])) old mid InVain
+    (sym (followed-reach (visits x s w))) (rw c.in-InVain.is at c.look_at.ensures.seen w e) in
+    let k : c.args.not ≡ false = search rules in
+    rw k (ahead_is x s false w f old mid None h)
+
+pub look_ahead-returns-else-not-clause-seen : goal.look_ahead-returns-else-not-clause-seen
+look_ahead-returns-else-not-clause-seen g t c =
+    let x : AnyContext = context_in (g.T.Lines.lines c.args.lines.now) c.args.context.now in
+    let f = marks_behind x c.args.rest.now in
+    let s : Shape = shape_of c.args.part.now in
+    let old : Sight = c.args.sight.now in
+    let mid : Sight = c.look_at.new.sight in
+    λ w e.
+    let h = seen_as (visits x s w) (followed (visits x s w) (λ v. Reach v ∷ [])) old mid Reached
+    (sym (followed-reach (visits x s w))) (rw c.in-Reached.is at c.look_at.ensures.seen w e) in
+    let k : c.args.not ≡ false = search rules in
+    let v : Way = record h.0 { at = w.at } in
+    rw k
+    (seen_behind (followed (visits x (ahead s false) w) f) (f v) old mid (record mid { at = old.at }) c.go_on.new.sight c.go_on.result refl
+    (ahead_is x s false w f old mid (Some h.0) h.1.0
+    ∙ ap (answer_from mid.spent.cost mid.spent.looked) (append-nil (f v)))
+    (c.go_on.ensures.seen v e))
+
+pub look_ahead-returns-then-not-2-clause-seen : goal.look_ahead-returns-then-not-2-clause-seen
+look_ahead-returns-then-not-2-clause-seen g t c =
+    let x : AnyContext = context_in (g.T.Lines.lines c.args.lines.now) c.args.context.now in
+    let f = marks_behind x c.args.rest.now in
+    let s : Shape = shape_of c.args.part.now in
+    let old : Sight = c.args.sight.now in
+    let mid : Sight = c.look_at.new.sight in
+    λ w e.
+    let h = seen_as (visits x s w) (followed (visits x s w) (λ v. Reach v ∷ [])) old mid InVain
+    (sym (followed-reach (visits x s w))) (rw c.in-InVain.is at c.look_at.ensures.seen w e) in
+    let k : c.args.not ≡ true = search rules in
+    rw k
+    (seen_behind (followed (visits x (ahead s true) w) f) (f w) old mid (record mid { at = old.at }) c.go_on-then-not-2.new.sight
+    c.go_on-then-not-2.result refl
+    (ahead_is x s true w f old mid None h
+    ∙ ap (answer_from mid.spent.cost mid.spent.looked) (append-nil (f w)))
+    (c.go_on-then-not-2.ensures.seen w e))
+
+pub look_at_turn-returns-in-Reached-clause-seen : goal.look_at_turn-returns-in-Reached-clause-seen
+look_at_turn-returns-in-Reached-clause-seen g t c =
+    let x : AnyContext = context_in (g.T.Lines.lines c.args.lines.now) c.args.context.now in
+    let f = marks_behind x c.args.rest.now in
+    let t : Turns = c.args.turns.now in
+    let k : shape_of t.part.now ≡ one (atom_of c.in-One.test) = rw c.in-One.is refl in
+    λ w e. seen_as _ _ c.args.sight.now c.look_after_turn.new.sight c.look_after_turn.result
+    (turn_is x t w f)
+    (subst (λ s. IsSeen (followed (visits x s w) (λ v. followed (turns_behind x t w.at v) f))
+    c.args.sight.now c.look_after_turn.new.sight c.look_after_turn.result) (sym k)
+    (atom_then x (atom_of c.in-One.test) w (λ v. followed (turns_behind x t w.at v) f)
+    c.args.sight.now c.look_at_atom.new.sight c.look_after_turn.new.sight c.look_after_turn.result
+    (rw c.in-Reached.is at c.look_at_atom.ensures.seen w e)
+    (λ v h. subst (λ p. IsSeen (followed (turns_behind x t p v) f) c.look_at_atom.new.sight
+    c.look_after_turn.new.sight c.look_after_turn.result) (sym e)
+    (c.look_after_turn.ensures.seen v h))))
+
+pub look_at_turn-returns-in_default-look_at_atom : goal.look_at_turn-returns-in_default-look_at_atom
+look_at_turn-returns-in_default-look_at_atom g t c =
+    let x : AnyContext = context_in (g.T.Lines.lines c.args.lines.now) c.args.context.now in
+    let f = marks_behind x c.args.rest.now in
+    let t : Turns = c.args.turns.now in
+    let k : shape_of t.part.now ≡ one (atom_of c.in-One.test) = rw c.in-One.is refl in
+    record {
+      seen = λ w e. seen_as _ _ c.args.sight.now c.look_at_atom.new.sight c.look_at_atom.result
+          (turn_is x t w f)
+          (subst (λ s. IsSeen (followed (visits x s w) (λ v. followed (turns_behind x t w.at v) f))
+          c.args.sight.now c.look_at_atom.new.sight c.look_at_atom.result) (sym k)
+          (atom_stops x (atom_of c.in-One.test) w (λ v. followed (turns_behind x t w.at v) f)
+          c.args.sight.now c.look_at_atom.new.sight c.look_at_atom.result
+          c.in_default-look_at_atom.not-Reached (c.look_at_atom.ensures.seen w e)));
+      goes = c.look_at_atom.ensures.goes;
+    }

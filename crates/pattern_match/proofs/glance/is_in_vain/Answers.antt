@@ -1,0 +1,26 @@
+use Rattle.std.proofs.Common.{List, sym, ap, ◌∙◌}
+use Rattle.match_rules.specs.Ways.{Context as AnyContext}
+use Rattle.match_rules.specs.Attempt.{answer_from}
+use Rattle.match_rules.specs.Marks.{Mark}
+use Rattle.match_rules.specs.Visits.{visits}
+use Rattle.match_rules.proofs.MarkLaws.{followed-reach}
+use Rattle.pattern_match.specs.Contexts.{context_in}
+use Rattle.pattern_match.specs.Steps.{shape_of}
+use Rattle.pattern_match.proofs.GlanceLaws.{followed-wanted}
+use Rattle.pattern_match.proofs.glance.is_in_vain.Goals as goal
+use Rattle.pattern_match.proofs.glance.is_in_vain.Goals.{in-None, in-Some}
+
+pub returns-in-InVain-clause-seen : goal.returns-in-InVain-clause-seen
+returns-in-InVain-clause-seen g c = λ yes w e.
+    let x : AnyContext = context_in (g.T.Lines.lines c.args.lines.now) c.args.context.now in
+    let marks : List Mark = visits x (shape_of c.args.step.now) w in
+    let h = rw c.in-InVain.is at c.look_at.ensures.seen w e in
+    elim c.match-wanted.branch [
+      | in-None b ↦ rw b.in-None.is
+          (ap (answer_from c.args.spent.now.cost c.args.spent.now.looked) (sym (followed-reach marks))
+          ∙ (rw b.rest-is at h))
+      | in-Some b ↦ rw b.in-Some.is
+          (ap (answer_from c.args.spent.now.cost c.args.spent.now.looked)
+          (sym (followed-wanted b.in-Some.place marks))
+          ∙ (rw b.rest-is at h))
+    ]

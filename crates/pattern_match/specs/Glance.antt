@@ -1,0 +1,87 @@
+-- A short look: what a node and what follows it come to, told up to the first way.
+use Rattle.std.specs.Prelude.{◌≡◌, ◌≤◌, Bool, true, false, List, [], ◌∷◌, Option, Some, None}
+use Rattle.syn_base.specs.declared.places.Place.{Place}
+use Rattle.match_rules.specs.Ways.{Context, Text, Way, IsPlaceOf}
+use Rattle.pattern_items.specs.declared.atom.Atom.{Atom}
+use Rattle.pattern_items.specs.declared.atom.Atom.TheVariants.{Ref, ExternalRef}
+use Rattle.match_rules.specs.Atoms.{fits, lines_looked}
+use Rattle.match_rules.specs.Marks.{Mark, Tick, Reach, followed}
+use Rattle.match_rules.specs.Counts.{after_turn, turns}
+use Rattle.match_rules.specs.Looks.{ending_at}
+use Rattle.match_rules.specs.Attempt.{answer_from}
+use Rattle.match_rules.specs.Visits.{visits, noted, noted_external}
+use Rattle.pattern_match.specs.declared.glance.Rest.{Rest}
+use Rattle.pattern_match.specs.declared.glance.Rest.TheVariants as rest
+use Rattle.pattern_match.specs.declared.glance.Saw.{Saw}
+use Rattle.pattern_match.specs.declared.glance.Saw.TheVariants.{Reached, InVain, TooFar}
+use Rattle.pattern_match.specs.declared.glance.Sight.{Sight}
+use Rattle.pattern_match.specs.declared.task.Turns.{Turns}
+use Rattle.pattern_match.specs.Spending.{spent_on}
+use Rattle.pattern_match.specs.Steps.{shape_of}
+
+-- the turns of a count that are left, and those behind one that began at a place
+abbrev pub turns_of : Context → Turns → Way → List Mark
+turns_of x t w = turns x.text (visits x (shape_of t.part.now)) t.lazy t.least t.most w
+
+abbrev pub turns_behind : Context → Turns → Place → Way → List Mark
+turns_behind x t from w =
+    after_turn x.text (visits x (shape_of t.part.now)) t.lazy t.least t.most from w
+
+-- the next turn of a count, and those that are left behind it
+abbrev pub turn_of : Context → Turns → Way → List Mark
+turn_of x t w = followed (visits x (shape_of t.part.now) w) (turns_behind x t w.at)
+
+-- the turns that are left at a place behind one that began at another, if the way goes on
+abbrev pub AreTurnsLeft : Turns → Place → Place → Option Turns → Type 0
+AreTurnsLeft t from at None =
+    (x : Context) (w : Way) → w.at ≡ at → turns_behind x t from w ≡ []
+AreTurnsLeft t from at (Some u) = (u.part ≡ t.part) ×
+    ((x : Context) (w : Way) → w.at ≡ at → turns_behind x t from w ≡ turns_of x u w)
+
+-- what a way still tries and reaches
+abbrev pub marks_behind : Context → Rest → Way → List Mark
+marks_behind x rest.End w = Reach w ∷ []
+marks_behind x (rest.EndAt p) w = ending_at p (Reach w ∷ [])
+marks_behind x (rest.Then' s p r) w = followed (visits x (shape_of s.now) w) (marks_behind x r)
+marks_behind x (rest.AfterTurn' t from p r) w =
+    followed (turns_behind x t.now from w) (marks_behind x r)
+marks_behind x (rest.Close' number from p r) w =
+    followed (noted number from w) (marks_behind x r)
+marks_behind x (rest.CloseExternal' number from p r) w =
+    followed (noted_external number from w) (marks_behind x r)
+
+-- what these marks come to was seen, if it was: their first way, which stands at the place, or none
+abbrev pub IsSeen : List Mark → Sight → Sight → Saw → Type 0
+IsSeen marks old new Reached = (v : Way) × ((answer_from old.spent.cost old.spent.looked marks
+    ≡ record { way = Some v; cost = new.spent.cost; looked = new.spent.looked }) × (v.at ≡ new.at))
+IsSeen marks old new InVain = answer_from old.spent.cost old.spent.looked marks
+    ≡ record { way = None; cost = new.spent.cost; looked = new.spent.looked }
+IsSeen marks old new TooFar = Unit {0}
+
+-- an atom that asks for the text of a group
+abbrev pub asks_for_group : Atom → Bool
+asks_for_group (Ref number) = true
+asks_for_group (ExternalRef number) = true
+asks_for_group _ = false
+
+-- an atom was tried, and leads to this place, if to one
+pub record IsTried (x : Context) (a : Atom) (w : Way) (old new : Sight) (place : Option Place)
+    : Type 0 where
+  pub place_is : fits x w a ≡ place
+  pub spent : new.spent ≡ spent_on old.spent (Tick (lines_looked x w a) ∷ [])
+
+abbrev pub IsAtomSeen : Context → Atom → Way → Sight → Sight → Saw → Type 0
+IsAtomSeen x a w old new Reached = IsTried x a w old new (Some new.at)
+IsAtomSeen x a w old new InVain = IsTried x a w old new None
+IsAtomSeen x a w old new TooFar = Unit {0}
+
+-- a short look stands on the text, within its budget
+pub record Stands (text : Text) (s : Sight) : Type 0 where
+  pub on_text : IsPlaceOf text s.at
+  pub within : s.spent.cost ≤ s.spent.budget
+
+-- it goes on with no more nodes left, and the same budget
+pub record GoesOn (text : Text) (old new : Sight) : Type 0 where
+  pub stands : Stands text new
+  pub left : new.left ≤ old.left
+  pub budget : new.spent.budget ≡ old.spent.budget

@@ -1,0 +1,548 @@
+//! A short look from a place: where a node and what follows it lead is told with no list of ways, as
+//! long as few nodes are visited.
+ghost use Rattle.std.specs.Prelude.{◌≡◌, ◌≤◌, ◌++◌, None, IsTrue, IsFalse};
+ghost use Rattle.match_rules.specs.Attempt.{answer_from};
+ghost use Rattle.match_rules.specs.Marks.{followed};
+ghost use Rattle.match_rules.specs.Visits.{visits};
+ghost use Rattle.match_rules.specs.Ways.{IsPlaceOf, Way};
+ghost use Rattle.pattern_match.specs.Contexts.{context_in};
+ghost use Rattle.pattern_match.specs.Glance.{GoesOn, IsAtomSeen, IsSeen, Stands, asks_for_group, marks_behind, turn_of, turns_behind, turns_of};
+ghost use Rattle.pattern_match.specs.Search.{wanted_marks};
+ghost use Rattle.pattern_match.specs.Steps.{atom_of, shape_of};
+ghost use Rattle.vim_pattern.specs.Shape.{ahead, empty, external, group, one, or, repeat, seq};
+
+use crate::atoms::try_plain;
+use crate::context::Context;
+use crate::spent::Spent;
+use crate::step::{Step, Test};
+use crate::task::Turns;
+use crate::turns::{is_spent, next_turns};
+use syn_base::{Lines, Place};
+
+/// How many nodes a short look visits.
+const NODES: u32 = 1000;
+
+/// What a short look has told of a node and what follows it.
+#[derive(Clone, Copy, PartialEq, Eq)]
+pub(crate) enum Saw {
+    /// There is a way, and the look stands where the first one does.
+    Reached,
+    /// There is none.
+    InVain,
+    /// Nothing: that is too far, or can't be seen so.
+    TooFar,
+}
+
+/// What follows a node.
+#[derive(Clone, Copy)]
+pub(crate) enum Rest<'a> {
+    /// Nothing: here is a way.
+    End,
+    /// Nothing, but a way that ends at another place isn't wanted.
+    EndAt(Place),
+    /// A node.
+    Then(&'a Step, &'a Rest<'a>),
+    /// The turns of a count that are left behind one that began at a place.
+    AfterTurn(&'a Turns<'a>, Place, &'a Rest<'a>),
+    /// The note where a counted group matched.
+    Close(u8, Place, &'a Rest<'a>),
+    /// The note where an external group matched.
+    CloseExternal(u8, Place, &'a Rest<'a>),
+}
+
+/// Where a short look stands, what it has spent, and how many nodes it may still visit.
+#[derive(Clone, Copy)]
+pub(crate) struct Sight {
+    at: Place,
+    left: u32,
+    spent: Spent,
+}
+
+/// Whether a short look tells that a node has no way from a place that ends where one is wanted, if at
+/// one place. Then its ticks are spent.
+pub(crate) fn is_in_vain<T: Lines>(
+    lines: &T,
+    context: &Context<'_>,
+    step: &Step,
+    start: Place,
+    wanted: Option<Place>,
+    spent: &mut Spent,
+) -> bool
+    requires on_text { IsPlaceOf (T.lines lines.now) start }
+    requires within { spent.old.cost ≤ spent.old.budget }
+    ensures seen { IsTrue result → (w : Way) → w.at ≡ start →
+        let x = context_in (T.lines lines.now) context.now in
+        answer_from spent.old.cost spent.old.looked
+        (wanted_marks wanted (visits x (shape_of step.now) w))
+        ≡ record { way = None; cost = spent.new.cost; looked = spent.new.looked } }
+    ensures budget { spent.new.budget ≡ spent.old.budget }
+    ensures within { spent.new.cost ≤ spent.new.budget }
+    ensures unchanged { IsFalse result → spent.new ≡ spent.old }
+{
+    let mut sight = Sight {
+        at: start,
+        left: NODES,
+        spent: *spent,
+    };
+    let rest = match wanted {
+        None => Rest::End,
+        Some(place) => Rest::EndAt(place),
+    };
+    match look_at(lines, context, step, &rest, &mut sight) {
+        Saw::InVain => {
+            *spent = sight.spent;
+            true
+        }
+        _ => false,
+    }
+}
+
+/// Whether an atom asks for the text of a group.
+fn asks_for_group(test: &Test) -> bool
+    ensures { result ≡ asks_for_group (atom_of test.now) }
+{
+    match test {
+        Test::Ref(_) | Test::ExternalRef(_) => true,
+        _ => false,
+    }
+}
+
+/// A short look at an atom.
+fn look_at_atom<T: Lines>(lines: &T, context: &Context<'_>, test: &Test, sight: &mut Sight) -> Saw
+    requires { Stands (T.lines lines.now) sight.old }
+    ensures seen { (w : Way) → w.at ≡ sight.old.at →
+        IsAtomSeen (context_in (T.lines lines.now) context.now) (atom_of test.now) w sight.old
+        sight.new result }
+    ensures goes { GoesOn (T.lines lines.now) sight.old sight.new }
+{
+    if asks_for_group(test) || sight.spent.cost >= sight.spent.budget {
+        return Saw::TooFar;
+    }
+    let tried = try_plain(lines, context, sight.at, test);
+    sight.spent.tick(tried.looked);
+    match tried.place {
+        None => Saw::InVain,
+        Some(place) => {
+            sight.at = place;
+            Saw::Reached
+        }
+    }
+}
+
+/// A short look at a node and what follows it.
+#[cycle(look)]
+fn look_at<T: Lines>(
+    lines: &T,
+    context: &Context<'_>,
+    step: &Step,
+    rest: &Rest<'_>,
+    sight: &mut Sight,
+) -> Saw
+    requires { Stands (T.lines lines.now) sight.old }
+    ensures seen { (w : Way) → w.at ≡ sight.old.at →
+        let x = context_in (T.lines lines.now) context.now in
+        IsSeen (followed (visits x (shape_of step.now) w) (marks_behind x rest.now))
+        sight.old sight.new result }
+    ensures goes { GoesOn (T.lines lines.now) sight.old sight.new }
+{
+    if sight.left == 0 {
+        return Saw::TooFar;
+    }
+    sight.left -= 1;
+    match step {
+        Step::Empty => go_on(lines, context, &*rest, sight),
+        Step::Never => Saw::InVain,
+        Step::One(test) => look_at_one(lines, context, test, &*rest, sight),
+        Step::Seq(first, second) => look_at_both(lines, context, first, second, &*rest, sight),
+        Step::Or(first, second) => look_at_either(lines, context, first, second, &*rest, sight),
+        Step::Optional(part) => look_at_optional(lines, context, part, &*rest, sight),
+        Step::Group(part, number) => look_at_group(lines, context, part, *number, &*rest, sight),
+        Step::External(part, number) => {
+            look_at_external(lines, context, part, *number, &*rest, sight)
+        }
+        Step::Repeat {
+            part,
+            least,
+            most,
+            lazy,
+        } => look_at_repeat(lines, context, part, *least, *most, *lazy, &*rest, sight),
+        Step::Ahead { part, not } => look_ahead(lines, context, part, *not, &*rest, sight),
+        _ => Saw::TooFar,
+    }
+}
+
+/// A short look at an atom and what follows it.
+#[cycle(look)]
+fn look_at_one<T: Lines>(
+    lines: &T,
+    context: &Context<'_>,
+    test: &Test,
+    rest: &Rest<'_>,
+    sight: &mut Sight,
+) -> Saw
+    requires { Stands (T.lines lines.now) sight.old }
+    ensures seen { (w : Way) → w.at ≡ sight.old.at →
+        let x = context_in (T.lines lines.now) context.now in
+        IsSeen (followed (visits x (one (atom_of test.now)) w) (marks_behind x rest.now))
+        sight.old sight.new result }
+    ensures goes { GoesOn (T.lines lines.now) sight.old sight.new }
+{
+    match look_at_atom(lines, context, test, sight) {
+        Saw::Reached => go_on(lines, context, &*rest, sight),
+        saw => saw,
+    }
+}
+
+/// A short look at two parts, the one behind the other.
+#[cycle(look)]
+fn look_at_both<T: Lines>(
+    lines: &T,
+    context: &Context<'_>,
+    first: &Step,
+    second: &Step,
+    rest: &Rest<'_>,
+    sight: &mut Sight,
+) -> Saw
+    requires { Stands (T.lines lines.now) sight.old }
+    ensures seen { (w : Way) → w.at ≡ sight.old.at →
+        let x = context_in (T.lines lines.now) context.now in
+        IsSeen (followed (visits x (seq (shape_of first.now) (shape_of second.now)) w)
+        (marks_behind x rest.now))
+        sight.old sight.new result }
+    ensures goes { GoesOn (T.lines lines.now) sight.old sight.new }
+{
+    match first {
+        Step::One(test) => match look_at_atom(lines, context, test, sight) {
+            Saw::Reached => look_at(lines, context, second, &*rest, sight),
+            saw => saw,
+        },
+        first => {
+            let rest = Rest::Then(&*second, &*rest);
+            look_at(lines, context, first, &rest, sight)
+        }
+    }
+}
+
+/// A short look at one part or the other.
+#[cycle(look)]
+fn look_at_either<T: Lines>(
+    lines: &T,
+    context: &Context<'_>,
+    first: &Step,
+    second: &Step,
+    rest: &Rest<'_>,
+    sight: &mut Sight,
+) -> Saw
+    requires { Stands (T.lines lines.now) sight.old }
+    ensures seen { (w : Way) → w.at ≡ sight.old.at →
+        let x = context_in (T.lines lines.now) context.now in
+        IsSeen (followed (visits x (or (shape_of first.now) (shape_of second.now)) w)
+        (marks_behind x rest.now))
+        sight.old sight.new result }
+    ensures goes { GoesOn (T.lines lines.now) sight.old sight.new }
+{
+    let from = sight.at;
+    match look_at(lines, context, first, &*rest, sight) {
+        Saw::InVain => {
+            sight.at = from;
+            look_at(lines, context, second, &*rest, sight)
+        }
+        saw => saw,
+    }
+}
+
+/// A short look at a part or nothing.
+#[cycle(look)]
+fn look_at_optional<T: Lines>(
+    lines: &T,
+    context: &Context<'_>,
+    part: &Step,
+    rest: &Rest<'_>,
+    sight: &mut Sight,
+) -> Saw
+    requires { Stands (T.lines lines.now) sight.old }
+    ensures seen { (w : Way) → w.at ≡ sight.old.at →
+        let x = context_in (T.lines lines.now) context.now in
+        IsSeen (followed (visits x (or (shape_of part.now) empty) w) (marks_behind x rest.now))
+        sight.old sight.new result }
+    ensures goes { GoesOn (T.lines lines.now) sight.old sight.new }
+{
+    let from = sight.at;
+    match look_at(lines, context, part, &*rest, sight) {
+        Saw::InVain => {
+            sight.at = from;
+            go_on(lines, context, &*rest, sight)
+        }
+        saw => saw,
+    }
+}
+
+/// A short look at a counted group.
+#[cycle(look)]
+fn look_at_group<T: Lines>(
+    lines: &T,
+    context: &Context<'_>,
+    part: &Step,
+    number: u8,
+    rest: &Rest<'_>,
+    sight: &mut Sight,
+) -> Saw
+    requires { Stands (T.lines lines.now) sight.old }
+    ensures seen { (w : Way) → w.at ≡ sight.old.at →
+        let x = context_in (T.lines lines.now) context.now in
+        IsSeen (followed (visits x (group (shape_of part.now) number) w) (marks_behind x rest.now))
+        sight.old sight.new result }
+    ensures goes { GoesOn (T.lines lines.now) sight.old sight.new }
+{
+    let rest = Rest::Close(number, sight.at, &*rest);
+    look_at(lines, context, part, &rest, sight)
+}
+
+/// A short look at an external group.
+#[cycle(look)]
+fn look_at_external<T: Lines>(
+    lines: &T,
+    context: &Context<'_>,
+    part: &Step,
+    number: u8,
+    rest: &Rest<'_>,
+    sight: &mut Sight,
+) -> Saw
+    requires { Stands (T.lines lines.now) sight.old }
+    ensures seen { (w : Way) → w.at ≡ sight.old.at →
+        let x = context_in (T.lines lines.now) context.now in
+        IsSeen (followed (visits x (external (shape_of part.now) number) w) (marks_behind x rest.now))
+        sight.old sight.new result }
+    ensures goes { GoesOn (T.lines lines.now) sight.old sight.new }
+{
+    let rest = Rest::CloseExternal(number, sight.at, &*rest);
+    look_at(lines, context, part, &rest, sight)
+}
+
+/// A short look at a count.
+#[cycle(look)]
+fn look_at_repeat<T: Lines>(
+    lines: &T,
+    context: &Context<'_>,
+    part: &Step,
+    least: u32,
+    most: Option<u32>,
+    lazy: bool,
+    rest: &Rest<'_>,
+    sight: &mut Sight,
+) -> Saw
+    requires { Stands (T.lines lines.now) sight.old }
+    ensures seen { (w : Way) → w.at ≡ sight.old.at →
+        let x = context_in (T.lines lines.now) context.now in
+        IsSeen (followed (visits x (repeat (shape_of part.now) least most lazy) w)
+        (marks_behind x rest.now))
+        sight.old sight.new result }
+    ensures goes { GoesOn (T.lines lines.now) sight.old sight.new }
+{
+    let turns = Turns::new(part, least, most, lazy);
+    look_at_count(lines, context, &turns, &*rest, sight)
+}
+
+/// Goes on with what follows.
+#[cycle(look)]
+fn go_on<T: Lines>(lines: &T, context: &Context<'_>, rest: &Rest<'_>, sight: &mut Sight) -> Saw
+    requires { Stands (T.lines lines.now) sight.old }
+    ensures seen { (w : Way) → w.at ≡ sight.old.at →
+        let x = context_in (T.lines lines.now) context.now in
+        IsSeen (marks_behind x rest.now w)
+        sight.old sight.new result }
+    ensures goes { GoesOn (T.lines lines.now) sight.old sight.new }
+{
+    if sight.left == 0 {
+        return Saw::TooFar;
+    }
+    sight.left -= 1;
+    match rest {
+        Rest::End => Saw::Reached,
+        Rest::EndAt(place) => if sight.at == *place {
+            Saw::Reached
+        } else {
+            Saw::InVain
+        },
+        Rest::Then(step, others) => look_at(lines, context, &**step, &**others, sight),
+        Rest::AfterTurn(turns, from, others) => {
+            look_after_turn(lines, context, &**turns, *from, &**others, sight)
+        }
+        Rest::Close(_, _, others) => go_on(lines, context, &**others, sight),
+        Rest::CloseExternal(_, _, others) => go_on(lines, context, &**others, sight),
+    }
+}
+
+/// A short look at the turns of a count that are left behind one that began at a place.
+#[cycle(look)]
+fn look_after_turn<T: Lines>(
+    lines: &T,
+    context: &Context<'_>,
+    turns: &Turns<'_>,
+    from: Place,
+    rest: &Rest<'_>,
+    sight: &mut Sight,
+) -> Saw
+    requires { Stands (T.lines lines.now) sight.old }
+    ensures seen { (w : Way) → w.at ≡ sight.old.at →
+        let x = context_in (T.lines lines.now) context.now in
+        IsSeen (followed (turns_behind x turns.now from w) (marks_behind x rest.now))
+        sight.old sight.new result }
+    ensures goes { GoesOn (T.lines lines.now) sight.old sight.new }
+{
+    if sight.left == 0 {
+        return Saw::TooFar;
+    }
+    sight.left -= 1;
+    match next_turns(sight.at, *turns, from) {
+        None => Saw::InVain,
+        Some(turns) => look_at_count(lines, context, &turns, &*rest, sight),
+    }
+}
+
+/// A short look at the turns of a count that are left.
+#[cycle(look)]
+fn look_at_count<T: Lines>(
+    lines: &T,
+    context: &Context<'_>,
+    turns: &Turns<'_>,
+    rest: &Rest<'_>,
+    sight: &mut Sight,
+) -> Saw
+    requires { Stands (T.lines lines.now) sight.old }
+    ensures seen { (w : Way) → w.at ≡ sight.old.at →
+        let x = context_in (T.lines lines.now) context.now in
+        IsSeen (followed (turns_of x turns.now w) (marks_behind x rest.now))
+        sight.old sight.new result }
+    ensures goes { GoesOn (T.lines lines.now) sight.old sight.new }
+{
+    if is_spent(turns.most) {
+        return go_on(lines, context, &*rest, sight);
+    }
+    if turns.least > 0 {
+        return look_at_turn(lines, context, &*turns, &*rest, sight);
+    }
+    if turns.lazy {
+        look_at_lazy(lines, context, &*turns, &*rest, sight)
+    } else {
+        look_at_greedy(lines, context, &*turns, &*rest, sight)
+    }
+}
+
+/// A short look at the turns of a greedy count that need not be taken: another one, or the stop.
+#[cycle(look)]
+fn look_at_greedy<T: Lines>(
+    lines: &T,
+    context: &Context<'_>,
+    turns: &Turns<'_>,
+    rest: &Rest<'_>,
+    sight: &mut Sight,
+) -> Saw
+    requires { Stands (T.lines lines.now) sight.old }
+    ensures seen { (w : Way) → w.at ≡ sight.old.at →
+        let x = context_in (T.lines lines.now) context.now in
+        IsSeen (followed (turn_of x turns.now w) (marks_behind x rest.now) ++ marks_behind x rest.now w)
+        sight.old sight.new result }
+    ensures goes { GoesOn (T.lines lines.now) sight.old sight.new }
+{
+    let from = sight.at;
+    match look_at_turn(lines, context, &*turns, &*rest, sight) {
+        Saw::InVain => {
+            sight.at = from;
+            go_on(lines, context, &*rest, sight)
+        }
+        saw => saw,
+    }
+}
+
+/// A short look at those of a lazy count: the stop, or another one.
+#[cycle(look)]
+fn look_at_lazy<T: Lines>(
+    lines: &T,
+    context: &Context<'_>,
+    turns: &Turns<'_>,
+    rest: &Rest<'_>,
+    sight: &mut Sight,
+) -> Saw
+    requires { Stands (T.lines lines.now) sight.old }
+    ensures seen { (w : Way) → w.at ≡ sight.old.at →
+        let x = context_in (T.lines lines.now) context.now in
+        IsSeen (marks_behind x rest.now w ++ followed (turn_of x turns.now w) (marks_behind x rest.now))
+        sight.old sight.new result }
+    ensures goes { GoesOn (T.lines lines.now) sight.old sight.new }
+{
+    let from = sight.at;
+    match go_on(lines, context, &*rest, sight) {
+        Saw::InVain => {
+            sight.at = from;
+            look_at_turn(lines, context, &*turns, &*rest, sight)
+        }
+        saw => saw,
+    }
+}
+
+/// A short look at the next turn of a count, and those that are left behind it.
+#[cycle(look)]
+fn look_at_turn<T: Lines>(
+    lines: &T,
+    context: &Context<'_>,
+    turns: &Turns<'_>,
+    rest: &Rest<'_>,
+    sight: &mut Sight,
+) -> Saw
+    requires { Stands (T.lines lines.now) sight.old }
+    ensures seen { (w : Way) → w.at ≡ sight.old.at →
+        let x = context_in (T.lines lines.now) context.now in
+        IsSeen (followed (turn_of x turns.now w) (marks_behind x rest.now))
+        sight.old sight.new result }
+    ensures goes { GoesOn (T.lines lines.now) sight.old sight.new }
+{
+    match turns.part {
+        Step::One(test) => {
+            let from = sight.at;
+            match look_at_atom(lines, context, test, sight) {
+                Saw::Reached => look_after_turn(lines, context, &*turns, from, &*rest, sight),
+                saw => saw,
+            }
+        }
+        part => {
+            let rest = Rest::AfterTurn(&*turns, sight.at, &*rest);
+            look_at(lines, context, part, &rest, sight)
+        }
+    }
+}
+
+/// A short look at a look ahead.
+#[cycle(look)]
+fn look_ahead<T: Lines>(
+    lines: &T,
+    context: &Context<'_>,
+    part: &Step,
+    not: bool,
+    rest: &Rest<'_>,
+    sight: &mut Sight,
+) -> Saw
+    requires { Stands (T.lines lines.now) sight.old }
+    ensures seen { (w : Way) → w.at ≡ sight.old.at →
+        let x = context_in (T.lines lines.now) context.now in
+        IsSeen (followed (visits x (ahead (shape_of part.now) not) w) (marks_behind x rest.now))
+        sight.old sight.new result }
+    ensures goes { GoesOn (T.lines lines.now) sight.old sight.new }
+{
+    let from = sight.at;
+    match look_at(lines, context, part, &Rest::End, sight) {
+        Saw::Reached => if not {
+            Saw::InVain
+        } else {
+            sight.at = from;
+            go_on(lines, context, &*rest, sight)
+        },
+        Saw::InVain => if not {
+            sight.at = from;
+            go_on(lines, context, &*rest, sight)
+        } else {
+            Saw::InVain
+        },
+        Saw::TooFar => Saw::TooFar,
+    }
+}
