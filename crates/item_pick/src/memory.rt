@@ -5,15 +5,17 @@ ghost use Rattle.std.specs.List.Sorted.{IsNonDecreasing};
 ghost use Rattle.match_rules.specs.Ways.{Text, line_at};
 ghost use Rattle.paint_rules.specs.Rules.{Rules, item_of, place_at};
 ghost use Rattle.pattern_screens.specs.Keys.{AreNumbers};
+ghost use Rattle.item_pick.specs.Behind.{FailsBehindAt};
 ghost use Rattle.item_pick.specs.PartsSeen.{rules_in};
 ghost use Rattle.item_pick.specs.Quiet.{IsPassed, IsQuiet, item_numbered};
 ghost use Rattle.item_pick.specs.Runs.{TellsOf};
-ghost use Rattle.item_pick.specs.Screens.{HoldsLine};
-ghost use Rattle.item_pick.specs.Standing.{ChoiceFits, IsFirst, IsItem, IsOwn};
+ghost use Rattle.item_pick.specs.Screens.{HoldsLine, IsLater};
+ghost use Rattle.item_pick.specs.Standing.{ChoiceFits, IsFirst, IsItem, IsOwn, IsPlace};
 ghost use Rattle.item_pick.specs.Tables.{IsAnchored, IsMissed, IsNextAt, IsNextIn, IsNumberAt, IsVainAt, MemoryStands, RowStands, RunStands, TablesStand};
 
 use crate::anchors::{Anchor, Anchors};
 use crate::asked::Asked;
+use crate::behind::{are_short, two_lines};
 use crate::choice::Choice;
 use crate::columns::Columns;
 use crate::ends::end_with;
@@ -52,6 +54,8 @@ pub struct PickMemory {
     outs: KeyAnswers,
     /// Whether attempts by the first start pattern of an item are in vain.
     vains: KeyAnswers,
+    /// Whether they are in vain in short lines, but see the line before.
+    behinds: KeyAnswers,
     /// Whether no skip or end of a region fits.
     pub(crate) shut: KeyAnswers,
     anchors: Anchors,
@@ -71,6 +75,7 @@ impl PickMemory {
             places: Vec::new(alloc),
             outs: KeyAnswers::new(alloc),
             vains: KeyAnswers::new(alloc),
+            behinds: KeyAnswers::new(alloc),
             shut: KeyAnswers::new(alloc),
             anchors: Anchors::new(alloc),
             numbers: Vec::new(alloc),
@@ -111,6 +116,7 @@ impl PickMemory {
         ensures rows { self.new.rows ≡ self.old.rows }
         ensures outs { self.new.outs ≡ self.old.outs }
         ensures vains { self.new.vains ≡ self.old.vains }
+        ensures behinds { self.new.behinds ≡ self.old.behinds }
         ensures shut { self.new.shut ≡ self.old.shut }
         ensures anchors { self.new.anchors ≡ self.old.anchors }
         ensures numbers { self.new.numbers ≡ self.old.numbers }
@@ -430,6 +436,77 @@ impl PickMemory {
     }
 }
 
+impl PickMemory {
+    /// Whether attempts by the first start pattern of an item are in vain in short lines, but see the
+    /// line before, at a column whose key has a number. The answer is kept.
+    fn is_vain_seeing_before(
+        &mut self,
+        asked: &Asked,
+        id: ItemId,
+        pattern: &Pattern,
+        number: u16,
+    ) -> Result<bool, Memory>
+        requires item { IsItem (rules_in asked.now.parts.now asked.now.budget) id }
+        requires first { IsFirst (rules_in asked.now.parts.now asked.now.budget) id pattern.now }
+        requires stands { TablesStand (rules_in asked.now.parts.now asked.now.budget) self.old }
+        ensures stands { TablesStand (rules_in asked.now.parts.now asked.now.budget) self.new }
+        ensures numbers { self.new.numbers ≡ self.old.numbers }
+        ensures runs { self.new.runs ≡ self.old.runs }
+        ensures vain { IfOk result (λ vain. IsTrue vain →
+            FailsBehindAt (rules_in asked.now.parts.now asked.now.budget) number id) }
+    {
+        match self.behinds.known(number, id) {
+            Some(vain) => return Ok(vain),
+            None => {}
+        }
+        let ignore = item_of(asked.parts.items, id).ignore;
+        let is = asked.fails_behind(self.alloc, ignore, pattern, number)?;
+        self.behinds.keep(number, id, is)?;
+        Ok(is)
+    }
+
+    /// The column behind one from which an item isn't matched by its first start pattern, as the line
+    /// before was looked at; else the column itself.
+    fn next_behind<T: Lines>(
+        &mut self,
+        picking: &Picking<'_, T, Asked<'_>>,
+        id: ItemId,
+        pattern: &Pattern,
+        col: usize,
+        looked: Looked,
+    ) -> Result<usize, Memory>
+        requires item { IsItem (rules_in picking.now.syntax.now.parts.now
+            picking.now.syntax.now.budget) id }
+        requires first { IsFirst (rules_in picking.now.syntax.now.parts.now
+            picking.now.syntax.now.budget) id pattern.now }
+        requires place { IsPlace (T.lines picking.now.lines.now) picking.now.at }
+        requires stands { MemoryStands (rules_in picking.now.syntax.now.parts.now
+            picking.now.syntax.now.budget) (T.lines picking.now.lines.now) picking.now.at.line
+            self.old }
+        ensures stands { MemoryStands (rules_in picking.now.syntax.now.parts.now
+            picking.now.syntax.now.budget) (T.lines picking.now.lines.now) picking.now.at.line
+            self.new }
+        ensures next { IfOk result (IsLater (rules_in picking.now.syntax.now.parts.now
+            picking.now.syntax.now.budget) (T.lines picking.now.lines.now) id pattern.now
+            picking.now.at looked col) }
+    {
+        let line = picking.at.line;
+        if !holds(looked, two_lines(line)) || !are_short(picking.lines, line) {
+            return Ok(col);
+        }
+        match self.number_at(col) {
+            Some(number) => {
+                if self.is_vain_seeing_before(picking.syntax, id, pattern, number)? {
+                    Ok(col + 1)
+                } else {
+                    Ok(col)
+                }
+            }
+            None => Ok(col),
+        }
+    }
+}
+
 impl Memo<Asked<'_>> for PickMemory {
     ghost stands = { λ memory a t l. MemoryStands (rules_in a.parts.now a.budget) t l memory };
 
@@ -442,8 +519,11 @@ impl Memo<Asked<'_>> for PickMemory {
         col: usize,
         looked: Looked,
     ) -> Result<usize, Memory> {
-        if start != 0 || !wanders(pattern) {
+        if start != 0 {
             return Ok(col);
+        }
+        if !wanders(pattern) {
+            return self.next_behind(picking, id, pattern, col, looked);
         }
         let _last = picking.last();
         let run = self.run_at(picking.syntax, id, pattern, col, picking.at);
