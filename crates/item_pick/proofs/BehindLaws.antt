@@ -6,6 +6,7 @@ use Rattle.std.proofs.lemmas.Bool.Decides.{nat_tests}
 use Rattle.std.proofs.lemmas.Option.{same_Some, none-some}
 use Rattle.char_class.specs.declared.sets.Sets.{Sets}
 use Rattle.syn_base.specs.declared.looked.Looked.{Looked}
+use Rattle.syn_base.specs.Looked.{hull_of}
 use Rattle.syn_base.specs.declared.places.Place.{Place}
 use Rattle.syn_base.specs.declared.places.ItemId.{ItemId}
 use Rattle.pattern_items.specs.declared.item.Behind.{Behind}
@@ -16,8 +17,6 @@ use Rattle.match_rules.specs.Looks.{look, tried_behind}
 use Rattle.match_rules.specs.Visits.{visits}
 use Rattle.match_rules.specs.Ways.{Context, Text, line_at, place, way_from}
 use Rattle.syntax_set.specs.declared.item.Pattern.{Pattern}
-use Rattle.paint_rules.specs.ItemMatch.{match_from}
-use Rattle.paint_rules.specs.Painted.{Done, looked_first}
 use Rattle.paint_rules.specs.Rules.{Rules, item_of, no_externals, place_at, within_budget}
 use Rattle.paint_rules.specs.Syntax.{attempt_by, context_of}
 use Rattle.pattern_match.specs.Answers.{match_of}
@@ -31,15 +30,14 @@ use Rattle.pattern_screens.specs.declared.verdict.Verdict.TheVariants.{Passes, F
 use Rattle.pattern_screens.proofs.Screened.{in-vain, stills}
 use Rattle.pattern_screens.proofs.Stands.{both_true, then-stands}
 use Rattle.pattern_screens.proofs.StillAtoms.{column-key}
-use Rattle.item_pick.specs.Behind.{AreShort, FailsBehindAt, IsFutileBy, behind_cost, fails_behind, first_fails_behind, from_starts, is_within, limit_cost, rest_tree, second_of, some_fails_behind}
+use Rattle.item_pick.specs.Behind.{AreShort, FailsBehindAt, IsFutileBy, IsVainFrom, behind_cost, fails_behind, first_fails_behind, from_starts, is_within, limit_cost, rest_tree, second_of, some_fails_behind}
 use Rattle.item_pick.specs.Columns.{may_start_at}
 use Rattle.item_pick.specs.Rooms.{room_of}
-use Rattle.item_pick.specs.Screens.{HoldsLines, IsIdle, IsLater}
 use Rattle.item_pick.specs.Standing.{IsFirst}
 use Rattle.item_pick.specs.Tables.{IsNumberAt}
 use Rattle.item_pick.specs.declared.rooms.Room.{Room}
 use Rattle.item_pick.proofs.BehindParts.{behind-stands}
-use Rattle.item_pick.proofs.MatchLaws.{match_absent, no_start}
+use Rattle.item_pick.proofs.MatchLaws.{match_absent}
 
 futile-if : (reaches sees sure : Bool) → is_futile (if reaches then Passes else (if not sees then Fails else (if sure then FailsSeeingBefore else Passes))) ≡ true → reaches ≡ false
 futile-if true sees sure e = absurd (cc)
@@ -132,20 +130,13 @@ behind-futile sets budget t ignore l c number pattern inside short same e =
 
 -- ---- what that means for an item
 
-module _ (r : Rules) (t : Text) (i : ItemId) (pattern : Pattern) (p : Place) (c : ℕ) (k lines : Looked) (held : HoldsLines k lines)
-    (futile : IsFutileBy (r.attempt t pattern.tree (item_of r.items i).ignore no_externals (place_at p.line c)) r.budget lines) where
-  told : looked_first (Some k) (within_budget i r.budget (r.attempt t pattern.tree (item_of r.items i).ignore no_externals (place_at p.line c))) ≡ Done None (Some k)
-  told =
-      let a = r.attempt t pattern.tree (item_of r.items i).ignore no_externals (place_at p.line c) in
-      let e : nat_lt r.budget a.cost ≡ false = grind (arith, nat_tests, futile.1) in
-      rw (within_budget, e, futile.0, futile.2) (ap (λ (x : Looked). Done None (Some x)) held)
-
-  by-start : (b : Bool) → b ≡ may_start_at pattern (length (line_at t p.line)) p.col c → IsIdle (match_from r t i pattern p) k c
-  by-start false e = ap (looked_first (Some k)) (no_start r t i pattern p c (sym e))
-  by-start true e = match_absent r t i pattern p c k k (sym e) told
-
-  futile-by-idle : IsIdle (match_from r t i pattern p) k c
-  futile-by-idle = by-start (may_start_at pattern (length (line_at t p.line)) p.col c) refl
+-- an attempt that finds nothing gives nothing, and its lines are looked at
+futile-vain : (r : Rules) (t : Text) (i : ItemId) (pattern : Pattern) (p : Place) (c : ℕ) (lines : Looked) → may_start_at pattern (length (line_at t p.line)) p.col c ≡ true →
+    IsFutileBy (r.attempt t pattern.tree (item_of r.items i).ignore no_externals (place_at p.line c)) r.budget lines → IsVainFrom r t p i pattern lines c
+futile-vain r t i pattern p c lines may futile k =
+    let a = r.attempt t pattern.tree (item_of r.items i).ignore no_externals (place_at p.line c) in
+    let e : nat_lt r.budget a.cost ≡ false = grind (arith, nat_tests, futile.1) in
+    match_absent r t i pattern p c k (hull_of k lines) may (rw (within_budget, e, futile.0, futile.2) refl)
 
 -- the law of looks behind
 abbrev pub IsBehindLaw : Rules → Type 0
@@ -153,22 +144,10 @@ IsBehindLaw r =
     (t : Text) (ignore : Bool) (l c number : ℕ) (pattern : Pattern) → c ≤ length (line_at t l) → AreShort t l → key_numbered number ≡ key_of r.sets (line_at t l) c →
     fails_behind r.sets r.budget ignore number pattern ≡ true → IsFutileBy (r.attempt t pattern.tree ignore no_externals (place_at l c)) r.budget (two_lines l)
 
--- one column is passed over
-pub passed-behind : (r : Rules) → IsBehindLaw r → (t : Text) (i : ItemId) (pattern : Pattern) (p : Place) (k : Looked) (col number : ℕ) → IsFirst r i pattern → HoldsLines k (two_lines p.line) → AreShort t p.line → IsNumberAt r (line_at t p.line) col number → FailsBehindAt r number i →
-    IsLater r t i pattern p k col (col + 1)
-passed-behind r law t i pattern p k col number first held short key fails = record {
-  ahead = omega arith;
-  idle = λ c a b within.
-      let same : col ≡ c = omega (arith, a, b) in
-      subst (λ n. IsIdle (match_from r t i pattern p) k n) same
-      (futile-by-idle r t i pattern p col k (two_lines p.line) held (law t (item_of r.items i).ignore p.line col number pattern key.0 short key.1 (fails pattern first)));
-}
-
-pub stays : (r : Rules) (t : Text) (i : ItemId) (pattern : Pattern) (p : Place) (k : Looked) (col : ℕ) → IsLater r t i pattern p k col col
-stays r t i pattern p k col = record {
-  ahead = omega arith;
-  idle = λ c a b within. absurd (omega (arith, a, b));
-}
+pub vain-behind : (r : Rules) → IsBehindLaw r → (t : Text) (i : ItemId) (pattern : Pattern) (p : Place) (col number : ℕ) → may_start_at pattern (length (line_at t p.line)) p.col col ≡ true → IsFirst r i pattern → AreShort t p.line → IsNumberAt r (line_at t p.line) col number → FailsBehindAt r number i →
+    IsVainFrom r t p i pattern (two_lines p.line) col
+vain-behind r law t i pattern p col number may first short key fails =
+    futile-vain r t i pattern p col (two_lines p.line) may (law t (item_of r.items i).ignore p.line col number pattern key.0 short key.1 (fails pattern first))
 
 -- what was answered of a first pattern is true of the item
 pub behind-told : (r : Rules) (i : ItemId) (number : ℕ) (ignore : Bool) → ignore ≡ (item_of r.items i).ignore → (pattern : Pattern) → IsFirst r i pattern → (is : Bool) →

@@ -3,6 +3,8 @@
 use Rattle.std.specs.Prelude.{◌≡◌, ◌≤◌, ◌+◌, ◌*◌, ◌-◌, ℕ, Bool, true, false, not, ◌&&◌, nat_lt, length, Option, Some, None, if◌then◌else◌}
 use Rattle.char_class.specs.declared.sets.Sets.{Sets}
 use Rattle.syn_base.specs.declared.looked.Looked.{Looked}
+use Rattle.syn_base.specs.declared.places.Place.{Place}
+use Rattle.syn_base.specs.Looked.{hull_of}
 use Rattle.syn_base.specs.declared.places.ItemId.{ItemId}
 use Rattle.pattern_items.specs.declared.item.Behind.{Behind}
 use Rattle.pattern_items.specs.declared.item.Behind.TheVariants.{Any, Most}
@@ -10,6 +12,8 @@ use Rattle.vim_pattern.specs.Shape.{Shape, seq, before}
 use Rattle.vim_pattern.specs.Tree.{PatternTree}
 use Rattle.match_rules.specs.Ways.{Text, line_at}
 use Rattle.syntax_set.specs.declared.item.Pattern.{Pattern}
+use Rattle.paint_rules.specs.ItemMatch.{match_from}
+use Rattle.paint_rules.specs.Painted.{Done, looked_first}
 use Rattle.paint_rules.specs.Rules.{Attempt, Rules, item_of}
 use Rattle.pattern_screens.specs.Bounds.{failing_cost}
 use Rattle.pattern_screens.specs.Keys.{key_numbered}
@@ -80,3 +84,9 @@ abbrev pub FailsBehindAt : Rules → ℕ → ItemId → Type 0
 FailsBehindAt r number i =
     (pattern : Pattern) → IsFirst r i pattern →
     fails_behind r.sets r.budget (item_of r.items i).ignore number pattern ≡ true
+
+-- an attempt from this column finds nothing with its item start at the place, and looks at these lines
+abbrev pub IsVainFrom : Rules → Text → Place → ItemId → Pattern → Looked → ℕ → Type 0
+IsVainFrom r t p i pattern lines c =
+    (k : Looked) →
+    looked_first (Some k) (match_from r t i pattern p c) ≡ Done None (Some (hull_of k lines))

@@ -34,6 +34,19 @@ pub(crate) fn are_short<T: Lines>(lines: &T, line: usize) -> bool
     lines.line(line).len() <= 200 && lines.line(line.saturating_sub(1)).len() <= 200
 }
 
+/// Whether a pattern begins with a look behind.
+pub(crate) fn begins_behind(tree: &Tree) -> bool {
+    match &tree.node {
+        Node::Seq(first, _) => is_behind(first),
+        _ => false,
+    }
+}
+
+/// Whether a piece is one.
+fn is_behind(piece: &Node) -> bool {
+    matches!(piece, Node::Before { .. })
+}
+
 /// What a look behind without a limit costs at most.
 fn limit_cost(limit: Behind, part: &Node) -> Option<u64>
     ensures { IfSome result (λ cost. limit_cost limit (bare part.now) ≡ Some cost) }

@@ -9,15 +9,15 @@ ghost use Rattle.item_pick.specs.Behind.{FailsBehindAt};
 ghost use Rattle.item_pick.specs.PartsSeen.{rules_in};
 ghost use Rattle.item_pick.specs.Quiet.{IsPassed, IsQuiet, item_numbered};
 ghost use Rattle.item_pick.specs.Runs.{TellsOf};
-ghost use Rattle.item_pick.specs.Screens.{HoldsLine, IsLater};
-ghost use Rattle.item_pick.specs.Standing.{ChoiceFits, IsFirst, IsItem, IsOwn, IsPlace};
+ghost use Rattle.item_pick.specs.Screens.{HoldsLine};
+ghost use Rattle.item_pick.specs.Standing.{ChoiceFits, IsFirst, IsItem, IsOwn};
 ghost use Rattle.item_pick.specs.Tables.{IsAnchored, IsMissed, IsNextAt, IsNextIn, IsNumberAt, IsVainAt, MemoryStands, RowStands, RunStands, TablesStand};
 
 use crate::anchors::{Anchor, Anchors};
 use crate::asked::Asked;
-use crate::behind::{are_short, two_lines};
+use crate::behind::{are_short, begins_behind, two_lines};
 use crate::choice::Choice;
-use crate::columns::Columns;
+use crate::columns::{Columns, may_start};
 use crate::ends::end_with;
 use crate::memo::Memo;
 use crate::parts::Parts;
@@ -464,47 +464,6 @@ impl PickMemory {
         self.behinds.keep(number, id, is)?;
         Ok(is)
     }
-
-    /// The column behind one from which an item isn't matched by its first start pattern, as the line
-    /// before was looked at; else the column itself.
-    fn next_behind<T: Lines>(
-        &mut self,
-        picking: &Picking<'_, T, Asked<'_>>,
-        id: ItemId,
-        pattern: &Pattern,
-        col: usize,
-        looked: Looked,
-    ) -> Result<usize, Memory>
-        requires item { IsItem (rules_in picking.now.syntax.now.parts.now
-            picking.now.syntax.now.budget) id }
-        requires first { IsFirst (rules_in picking.now.syntax.now.parts.now
-            picking.now.syntax.now.budget) id pattern.now }
-        requires place { IsPlace (T.lines picking.now.lines.now) picking.now.at }
-        requires stands { MemoryStands (rules_in picking.now.syntax.now.parts.now
-            picking.now.syntax.now.budget) (T.lines picking.now.lines.now) picking.now.at.line
-            self.old }
-        ensures stands { MemoryStands (rules_in picking.now.syntax.now.parts.now
-            picking.now.syntax.now.budget) (T.lines picking.now.lines.now) picking.now.at.line
-            self.new }
-        ensures next { IfOk result (IsLater (rules_in picking.now.syntax.now.parts.now
-            picking.now.syntax.now.budget) (T.lines picking.now.lines.now) id pattern.now
-            picking.now.at looked col) }
-    {
-        let line = picking.at.line;
-        if !holds(looked, two_lines(line)) || !are_short(picking.lines, line) {
-            return Ok(col);
-        }
-        match self.number_at(col) {
-            Some(number) => {
-                if self.is_vain_seeing_before(picking.syntax, id, pattern, number)? {
-                    Ok(col + 1)
-                } else {
-                    Ok(col)
-                }
-            }
-            None => Ok(col),
-        }
-    }
 }
 
 impl Memo<Asked<'_>> for PickMemory {
@@ -519,11 +478,8 @@ impl Memo<Asked<'_>> for PickMemory {
         col: usize,
         looked: Looked,
     ) -> Result<usize, Memory> {
-        if start != 0 {
+        if start != 0 || !wanders(pattern) {
             return Ok(col);
-        }
-        if !wanders(pattern) {
-            return self.next_behind(picking, id, pattern, col, looked);
         }
         let _last = picking.last();
         let run = self.run_at(picking.syntax, id, pattern, col, picking.at);
@@ -533,6 +489,35 @@ impl Memo<Asked<'_>> for PickMemory {
         let to = self.first_open(picking.syntax, id, pattern, run.to)?;
         self.runs.keep(Run { to, ..run })?;
         Ok(to)
+    }
+
+    fn vain<T: Lines>(
+        &mut self,
+        picking: &Picking<'_, T, Asked<'_>>,
+        id: ItemId,
+        start: usize,
+        pattern: &Pattern,
+        col: usize,
+    ) -> Result<Option<Looked>, Memory> {
+        if start != 0 || !begins_behind(&pattern.tree) || wanders(pattern) {
+            return Ok(None);
+        }
+        let line = picking.at.line;
+        if !may_start(pattern, col, picking.at.col, picking.last())
+            || !are_short(picking.lines, line)
+        {
+            return Ok(None);
+        }
+        match self.number_at(col) {
+            Some(number) => {
+                if self.is_vain_seeing_before(picking.syntax, id, pattern, number)? {
+                    Ok(Some(two_lines(line)))
+                } else {
+                    Ok(None)
+                }
+            }
+            None => Ok(None),
+        }
     }
 
     fn note<T: Lines>(
