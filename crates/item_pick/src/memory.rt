@@ -619,6 +619,14 @@ fn count_below(list: &[u32], bound: usize) -> usize
     ensures rest { IsNonDecreasing list.now → (k : ℕ) → result ≤ k → k < length list.now →
         bound ≤ get_or list.now k 0 }
 {
+    match list.last() {
+        Some(last) => {
+            if (*last as usize) < bound {
+                return list.len();
+            }
+        }
+        None => return 0,
+    }
     list.partition_point(
         |number: &u32| -> bool
             ensures { result ≡ nat_lt number.now bound }
