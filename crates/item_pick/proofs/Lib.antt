@@ -1,3 +1,5 @@
+pub mod BehindLaws
+pub mod BehindParts
 pub mod FoundLaws
 pub mod KeptLaws
 pub mod ListLaws
@@ -7,6 +9,7 @@ pub mod OwnLaws
 pub mod PickLaws
 pub mod QuietLaws
 pub mod QuietPlaceLaws
+pub mod RoomParts
 pub mod ScreenLaws
 pub mod StackLaws
 pub mod TableLaws

@@ -5,6 +5,7 @@ pub mod Picks
 pub mod QuietUntil
 -- what the code and proofs alone cite
 pub mod Attempts
+pub mod Behind
 pub mod Columns
 pub mod Screens
 pub mod Marks
@@ -15,6 +16,7 @@ pub mod Tries
 pub mod Tables
 pub mod Screened
 pub mod Quiet
+pub mod Rooms
 pub mod Runs
 pub mod QuietPlaces
 pub mod Valid

@@ -25,6 +25,7 @@ use Rattle.item_pick.specs.declared.memory.PickMemory.{PickMemory}
 use Rattle.item_pick.specs.declared.runs.Run.{Run}
 use Rattle.item_pick.specs.declared.runs.Runs.{Runs}
 use Rattle.item_pick.specs.declared.tables.Row.{Row}
+use Rattle.item_pick.specs.Behind.{first_fails_behind}
 use Rattle.item_pick.specs.Quiet.{item_numbered, IsPassed}
 use Rattle.item_pick.specs.Screens.{IsSettled}
 use Rattle.item_pick.specs.Standing.{first_pattern, IsFirst, IsPatternOf}
@@ -136,6 +137,7 @@ pub record TablesStand (r : Rules) (memory : PickMemory) : Type 0 where
   pub rows : All (RowStands r) memory.rows.items
   pub outs : AnswersStand (stays_out r) memory.outs
   pub vains : AnswersStand (is_first_vain r) memory.vains
+  pub behinds : AnswersStand (first_fails_behind r) memory.behinds
   pub shut : AnswersStand (is_shut_at r.items r.sets r.budget) memory.shut
   pub anchors : All (AnchorStands r) memory.anchors.list.items
 

@@ -81,6 +81,17 @@ impl Memo<Asked<'_>> for LineMemo {
         }
     }
 
+    fn vain<T: Lines>(
+        &mut self,
+        _picking: &Picking<'_, T, Asked<'_>>,
+        _id: ItemId,
+        _start: usize,
+        _pattern: &Pattern,
+        _col: usize,
+    ) -> Result<Option<Looked>, Memory> {
+        Ok(None)
+    }
+
     fn note<T: Lines>(
         &mut self,
         _picking: &Picking<'_, T, Asked<'_>>,

@@ -1,6 +1,7 @@
 //! What is remembered of a line: from which columns no item is matched, and where regions end.
-ghost use Rattle.std.specs.Prelude.{◌≡◌, ◌<◌, ◌≤◌, ℕ, length, reverse, true, IfOk};
+ghost use Rattle.std.specs.Prelude.{◌≡◌, ◌<◌, ◌≤◌, ℕ, length, reverse, true, IfOk, IfSome};
 ghost use Rattle.match_rules.specs.Ways.{Text, line_at};
+ghost use Rattle.item_pick.specs.Behind.{IsVainFrom};
 ghost use Rattle.paint_rules.specs.Rules.{item_of};
 ghost use Rattle.paint_rules.specs.Close.{is_region};
 ghost use Rattle.paint_rules.specs.EndInLine.{end_in_line, for_ends};
@@ -44,6 +45,29 @@ pub(crate) trait Memo<S: Syntax> {
             picking.now.at.line }
         ensures next { IfOk result (IsLater (S.rules picking.now.syntax.now)
             (T.lines picking.now.lines.now) id pattern.now picking.now.at looked col) };
+
+    /// The lines that an attempt from a column looks at by the start pattern of that number, where it is
+    /// known to find nothing.
+    fn vain<T: Lines>(
+        &mut self,
+        picking: &Picking<'_, T, S>,
+        id: ItemId,
+        start: usize,
+        pattern: &Pattern,
+        col: usize,
+    ) -> Result<Option<Looked>, Memory>
+        requires own { IsOwn (S.rules picking.now.syntax.now) id pattern.now }
+        requires first { start ≡ 0 → IsFirst (S.rules picking.now.syntax.now) id pattern.now }
+        requires place { IsPlace (T.lines picking.now.lines.now) picking.now.at }
+        requires column { col
+            ≤ length (line_at (T.lines picking.now.lines.now) picking.now.at.line) }
+        requires stands { stands self.old picking.now.syntax.now (T.lines picking.now.lines.now)
+            picking.now.at.line }
+        ensures stands { stands self.new picking.now.syntax.now (T.lines picking.now.lines.now)
+            picking.now.at.line }
+        ensures vain { IfOk result (λ found. IfSome found (λ lines. IsVainFrom
+            (S.rules picking.now.syntax.now) (T.lines picking.now.lines.now) picking.now.at id
+            pattern.now lines col)) };
 
     /// Remembers that a match from a column has its item start at none of some places of the line, and
     /// which lines tell so.

@@ -5,6 +5,7 @@ ghost use Rattle.std.specs.List.Sorted.{IsNonDecreasing};
 ghost use Rattle.match_rules.specs.Ways.{Text, line_at};
 ghost use Rattle.paint_rules.specs.Rules.{Rules, item_of, place_at};
 ghost use Rattle.pattern_screens.specs.Keys.{AreNumbers};
+ghost use Rattle.item_pick.specs.Behind.{FailsBehindAt};
 ghost use Rattle.item_pick.specs.PartsSeen.{rules_in};
 ghost use Rattle.item_pick.specs.Quiet.{IsPassed, IsQuiet, item_numbered};
 ghost use Rattle.item_pick.specs.Runs.{TellsOf};
@@ -14,8 +15,9 @@ ghost use Rattle.item_pick.specs.Tables.{IsAnchored, IsMissed, IsNextAt, IsNextI
 
 use crate::anchors::{Anchor, Anchors};
 use crate::asked::Asked;
+use crate::behind::{are_short, begins_behind, two_lines};
 use crate::choice::Choice;
-use crate::columns::Columns;
+use crate::columns::{Columns, may_start};
 use crate::ends::end_with;
 use crate::memo::Memo;
 use crate::parts::Parts;
@@ -52,6 +54,8 @@ pub struct PickMemory {
     outs: KeyAnswers,
     /// Whether attempts by the first start pattern of an item are in vain.
     vains: KeyAnswers,
+    /// Whether they are in vain in short lines, but see the line before.
+    behinds: KeyAnswers,
     /// Whether no skip or end of a region fits.
     pub(crate) shut: KeyAnswers,
     anchors: Anchors,
@@ -71,6 +75,7 @@ impl PickMemory {
             places: Vec::new(alloc),
             outs: KeyAnswers::new(alloc),
             vains: KeyAnswers::new(alloc),
+            behinds: KeyAnswers::new(alloc),
             shut: KeyAnswers::new(alloc),
             anchors: Anchors::new(alloc),
             numbers: Vec::new(alloc),
@@ -111,6 +116,7 @@ impl PickMemory {
         ensures rows { self.new.rows ≡ self.old.rows }
         ensures outs { self.new.outs ≡ self.old.outs }
         ensures vains { self.new.vains ≡ self.old.vains }
+        ensures behinds { self.new.behinds ≡ self.old.behinds }
         ensures shut { self.new.shut ≡ self.old.shut }
         ensures anchors { self.new.anchors ≡ self.old.anchors }
         ensures numbers { self.new.numbers ≡ self.old.numbers }
@@ -430,6 +436,36 @@ impl PickMemory {
     }
 }
 
+impl PickMemory {
+    /// Whether attempts by the first start pattern of an item are in vain in short lines, but see the
+    /// line before, at a column whose key has a number. The answer is kept.
+    fn is_vain_seeing_before(
+        &mut self,
+        asked: &Asked,
+        id: ItemId,
+        pattern: &Pattern,
+        number: u16,
+    ) -> Result<bool, Memory>
+        requires item { IsItem (rules_in asked.now.parts.now asked.now.budget) id }
+        requires first { IsFirst (rules_in asked.now.parts.now asked.now.budget) id pattern.now }
+        requires stands { TablesStand (rules_in asked.now.parts.now asked.now.budget) self.old }
+        ensures stands { TablesStand (rules_in asked.now.parts.now asked.now.budget) self.new }
+        ensures numbers { self.new.numbers ≡ self.old.numbers }
+        ensures runs { self.new.runs ≡ self.old.runs }
+        ensures vain { IfOk result (λ vain. IsTrue vain →
+            FailsBehindAt (rules_in asked.now.parts.now asked.now.budget) number id) }
+    {
+        match self.behinds.known(number, id) {
+            Some(vain) => return Ok(vain),
+            None => {}
+        }
+        let ignore = item_of(asked.parts.items, id).ignore;
+        let is = asked.fails_behind(self.alloc, ignore, pattern, number)?;
+        self.behinds.keep(number, id, is)?;
+        Ok(is)
+    }
+}
+
 impl Memo<Asked<'_>> for PickMemory {
     ghost stands = { λ memory a t l. MemoryStands (rules_in a.parts.now a.budget) t l memory };
 
@@ -453,6 +489,35 @@ impl Memo<Asked<'_>> for PickMemory {
         let to = self.first_open(picking.syntax, id, pattern, run.to)?;
         self.runs.keep(Run { to, ..run })?;
         Ok(to)
+    }
+
+    fn vain<T: Lines>(
+        &mut self,
+        picking: &Picking<'_, T, Asked<'_>>,
+        id: ItemId,
+        start: usize,
+        pattern: &Pattern,
+        col: usize,
+    ) -> Result<Option<Looked>, Memory> {
+        if start != 0 || !begins_behind(&pattern.tree) || wanders(pattern) {
+            return Ok(None);
+        }
+        let line = picking.at.line;
+        if !may_start(pattern, col, picking.at.col, picking.last())
+            || !are_short(picking.lines, line)
+        {
+            return Ok(None);
+        }
+        match self.number_at(col) {
+            Some(number) => {
+                if self.is_vain_seeing_before(picking.syntax, id, pattern, number)? {
+                    Ok(Some(two_lines(line)))
+                } else {
+                    Ok(None)
+                }
+            }
+            None => Ok(None),
+        }
     }
 
     fn note<T: Lines>(
@@ -554,6 +619,14 @@ fn count_below(list: &[u32], bound: usize) -> usize
     ensures rest { IsNonDecreasing list.now → (k : ℕ) → result ≤ k → k < length list.now →
         bound ≤ get_or list.now k 0 }
 {
+    match list.last() {
+        Some(last) => {
+            if (*last as usize) < bound {
+                return list.len();
+            }
+        }
+        None => return 0,
+    }
     list.partition_point(
         |number: &u32| -> bool
             ensures { result ≡ nat_lt number.now bound }

@@ -1,13 +1,13 @@
 //! What is known of the line that is painted: from which columns an item isn't matched, and where
 //! regions end.
-ghost use Rattle.std.specs.Prelude.{◌≡◌, ◌<◌, ◌≤◌, ◌-◌, ◌^◌, ℕ, [], IfSome, IsTrue};
+ghost use Rattle.std.specs.Prelude.{◌≡◌, ◌<◌, ◌≤◌, ◌-◌, ◌+◌, ◌^◌, ℕ, [], length, IfSome, IsTrue};
 ghost use Rattle.std.specs.List.{All};
 ghost use Rattle.match_rules.specs.Ways.{Text};
 ghost use Rattle.paint_rules.specs.Rules.{Rules, item_of};
 ghost use Rattle.item_pick.specs.PartsSeen.{rules_in};
 ghost use Rattle.item_pick.specs.Standing.{has_one_start, IsFirst, IsItem};
 ghost use Rattle.item_pick.specs.Tables.{EndsStand, IsEnough, RunStands};
-ghost use Rattle.item_pick.specs.Runs.{Covers, TellsOf};
+ghost use Rattle.item_pick.specs.Runs.{Covers, SayNothing, TellsOf};
 ghost use Rattle.item_pick.specs.Screens.{HoldsLines};
 
 use crate::asked::Asked;
@@ -60,7 +60,28 @@ pub(crate) struct Runs {
     pub(crate) ends: EndMemo,
 }
 
+/// What says nothing.
+fn nothing() -> Run
+    ensures { (r : Rules) (t : Text) (l : ℕ) → RunStands r t l result }
+{
+    Run {
+        item: ItemId(0),
+        from: 0,
+        to: 0,
+        places: Columns { first: 0, end: 0 },
+        looked: Looked::one(0),
+        least: None,
+    }
+}
+
 impl Run {
+    /// Whether it has no column, and names no floor.
+    fn says_nothing(&self) -> bool
+        ensures { IsTrue result → (r : Rules) (t : Text) (l : ℕ) → RunStands r t l self.now }
+    {
+        self.from == self.to && self.least.is_none()
+    }
+
     /// Whether an item isn't matched where it is sought from any column before an end, and the lines
     /// that tell so were looked at.
     pub(crate) fn covers(&self, item: ItemId, search: &Search<'_>, end: usize) -> bool
@@ -154,13 +175,27 @@ impl Runs {
         }
     }
 
-    /// Forgets what was known.
+    /// Forgets what was known. The places stay, so that they needn't be made again.
     pub(crate) fn clear(&mut self)
-        ensures list { self.new.list.items ≡ [] }
+        ensures list { (r : Rules) (t : Text) (l : ℕ) → All (RunStands r t l) self.new.list.items }
         ensures ends { (r : Rules) (t : Text) (l : ℕ) → EndsStand r t l self.new }
     {
-        self.list.clear();
+        for place in 0..self.list.len() {
+            self.forget(place);
+        }
         self.ends.clear();
+    }
+
+    /// Forgets what stands at a place, where those before say nothing.
+    fn forget(&mut self, place: usize)
+        requires { place < length self.old.list.items }
+        ensures many { length self.new.list.items ≡ length self.old.list.items }
+        ensures before { SayNothing self.old.list.items place →
+            SayNothing self.new.list.items (place + 1) }
+    {
+        if !self.list[place].says_nothing() {
+            self.list[place] = nothing();
+        }
     }
 
     /// The run of an item that holds a column or ends there, and tells of a place.
@@ -228,14 +263,7 @@ impl Runs {
         ensures list { (r : Rules) (t : Text) (l : ℕ) → All (RunStands r t l) self.old.list.items →
             All (RunStands r t l) self.new.list.items }
     {
-        self.put(Run {
-            item: ItemId(0),
-            from: 0,
-            to: 0,
-            places: Columns { first: 0, end: 0 },
-            looked: Looked::one(0),
-            least: None,
-        })
+        self.put(nothing())
     }
 
     /// Puts a run at the end.

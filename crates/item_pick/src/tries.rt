@@ -184,6 +184,41 @@ impl<T: Lines, S: Syntax> Picking<'_, T, S> {
         }
     }
 
+    /// The same. No attempt is made where it is known that it finds nothing.
+    fn tried_from<M: Memo<S>>(
+        &self,
+        id: ItemId,
+        start: usize,
+        pattern: &Pattern,
+        col: usize,
+        looked: &mut Looked,
+        memo: &mut M,
+    ) -> Result<Tried, Stop>
+        requires valid { S.valid self.now.syntax.now }
+        requires own { IsOwn (S.rules self.now.syntax.now) id pattern.now }
+        requires first { start ≡ 0 → IsFirst (S.rules self.now.syntax.now) id pattern.now }
+        requires place { IsPlace (T.lines self.now.lines.now) self.now.at }
+        requires column { col ≤ length (line_at (T.lines self.now.lines.now) self.now.at.line) }
+        requires memo { M.stands memo.old self.now.syntax.now (T.lines self.now.lines.now)
+            self.now.at.line }
+        ensures told { IsToldAs match_in looked.old result looked.new (match_from
+            (S.rules self.now.syntax.now) (T.lines self.now.lines.now) id pattern.now self.now.at
+            col) }
+        ensures ends { IfOk result (λ tried. EndsBefore (2 ^ 33) (match_in tried)) }
+        ensures settled { IfOk result (IsNotFrom (S.rules self.now.syntax.now)
+            (T.lines self.now.lines.now) self.now.at.line id pattern.now col) }
+        ensures memo { M.stands memo.new self.now.syntax.now (T.lines self.now.lines.now)
+            self.now.at.line }
+    {
+        match memo.vain(self, id, start, pattern, col)? {
+            Some(lines) => {
+                *looked = looked.join(lines);
+                Ok(Tried::Not(NO_COLUMNS, lines))
+            }
+            None => self.match_from(id, pattern, col, looked),
+        }
+    }
+
     /// The first column from one on at which a match may begin.
     fn next_column<M: Memo<S>>(
         &self,
@@ -240,7 +275,7 @@ impl<T: Lines, S: Syntax> Picking<'_, T, S> {
         let end = columns.end.min(last + 1);
         let mut col = self.next_column(id, start, pattern, first, *looked, memo)?;
         'columns: while col < end {
-            let tried = self.match_from(id, pattern, col, looked)?;
+            let tried = self.tried_from(id, start, pattern, col, looked, memo)?;
             match tried {
                 Tried::Here(m) => return Ok(Some(m)),
                 Tried::Not(places, lines) => {

@@ -1,18 +1,15 @@
-use Rattle.std.proofs.Common.{ℕ, List, length, ◌+◌, subst, sym}
-use Rattle.std.specs.List.{All}
-use Rattle.std.proofs.lemmas.List.Elements.{All-nil}
+use Rattle.std.proofs.Common.{ℕ, List, length, ◌+◌, subst}
 use Rattle.std.proofs.lemmas.Result.{IfOk-weaker}
 use Rattle.pattern_screens.specs.Keys.{AreNumbers}
 use Rattle.item_pick.specs.PartsSeen.{rules_in}
-use Rattle.item_pick.specs.Tables.{RunStands}
 use Rattle.item_pick.proofs.memory.PickMemory.enter_line.Goals as goal
 
 pub returns-clause-entered : goal.returns-clause-entered
 returns-clause-entered c budget t l line tables =
     let r = rules_in c.args.parts.now budget in
     IfOk-weaker c.number_line.result _ _ (λ _ keys. record {
-      tables = record { rows = tables.rows; outs = tables.outs; vains = tables.vains; shut = tables.shut; anchors = tables.anchors };
+      tables = record { rows = tables.rows; outs = tables.outs; vains = tables.vains; behinds = tables.behinds; shut = tables.shut; anchors = tables.anchors };
       keys = subst (λ (chars : List ℕ). AreNumbers c.args.parts.now.sets.now chars (length chars + 1) c.number_line.new.numbers.items) line keys;
-      runs = subst (All (RunStands r t l)) (sym c.clear.ensures.list) (All-nil (RunStands r t l));
+      runs = c.clear.ensures.list r t l;
       ends = c.clear.ensures.ends r t l;
     }) c.number_line.ensures

@@ -14,6 +14,7 @@ returns-in_err-row-in-Some-clause-stands c = record {
   rows = c.whole.ensures.stands.rows;
   outs = c.row_of.ensures.outs;
   vains = c.whole.ensures.stands.vains;
+  behinds = c.whole.ensures.stands.behinds;
   shut = c.whole.ensures.stands.shut;
   anchors = c.whole.ensures.stands.anchors;
 }
@@ -25,6 +26,7 @@ returns-clause-stands c =
       rows = c.whole.ensures.stands.rows;
       outs = c.row_of.ensures.outs;
       vains = c.whole.ensures.stands.vains;
+      behinds = c.whole.ensures.stands.behinds;
       shut = c.whole.ensures.stands.shut;
       anchors = c.whole.ensures.stands.anchors;
     })

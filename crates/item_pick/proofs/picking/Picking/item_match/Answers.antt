@@ -30,11 +30,11 @@ columns-preserved g c =
     let absent = rw c.in-Not.is at c.in_ok-tried.ensures.told in
     let here : c.columns.col ≤ c.last-last.result = omega (arith, c.columns-test.true) in
     let one : c.columns.col + 1 ≡ suc c.columns.col = omega arith in
-    let held = still_held c.columns.looked c.match_from.new.looked c.args.self.now.at.line (f c.columns.col) _ c.columns.invariant.held absent in
+    let held = still_held c.columns.looked c.tried_from.new.looked c.args.self.now.at.line (f c.columns.col) _ c.columns.invariant.held absent in
     record {
       whole = c.columns.invariant.whole
-          ∙ (column_none f c.last-last.result c.columns.looked c.match_from.new.looked c.columns.col (c.columns.col + 1) here one absent
-          ∙ skip_to f c.last-last.result c.match_from.new.looked (c.columns.col + 1) c.in_ok-col-in-Not.col next.ahead
+          ∙ (column_none f c.last-last.result c.columns.looked c.tried_from.new.looked c.columns.col (c.columns.col + 1) here one absent
+          ∙ skip_to f c.last-last.result c.tried_from.new.looked (c.columns.col + 1) c.in_ok-col-in-Not.col next.ahead
           (λ x a b h. next.idle x a b (omega (arith, h, c.last-last.ensures.is))));
       held = held;
       memo = c.next_column-in-Not.ensures.memo;
@@ -47,7 +47,7 @@ next_column-requires-in-Not-clause-held g c =
     let t = g.T.Lines.lines c.args.self.now.lines.now in
     let f = match_from r t c.args.id c.args.pattern.now c.args.self.now.at in
     let absent = rw c.in-Not.is at c.in_ok-tried.ensures.told in
-    still_held c.columns.looked c.match_from.new.looked c.args.self.now.at.line (f c.columns.col) _ c.columns.invariant.held absent
+    still_held c.columns.looked c.tried_from.new.looked c.args.self.now.at.line (f c.columns.col) _ c.columns.invariant.held absent
 
 pub columns-smaller : goal.columns-smaller
 columns-smaller g c = omega (arith, c.in_ok-col-in-Not.ensures.next.ahead, c.columns-test.true)
