@@ -1,4 +1,5 @@
 pub mod BehindLaws
+pub mod FollowingLaws
 pub mod BehindParts
 pub mod FoundLaws
 pub mod KeptLaws

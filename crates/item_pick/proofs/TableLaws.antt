@@ -37,6 +37,7 @@ use Rattle.item_pick.specs.Runs.{Covers, TellsOf}
 use Rattle.item_pick.specs.Screens.{HoldsLine, HoldsLines, IsIdle, IsLater, IsSettled}
 use Rattle.item_pick.specs.Standing.{first_pattern, has_one_start, IsFirst, IsPatternOf}
 use Rattle.item_pick.specs.Started.{admits, is_free}
+use Rattle.item_pick.specs.Following.{FailsAfterAt, fails_after}
 use Rattle.item_pick.specs.Tables.{fails, is_vain, passes, EndsStand, IsAnchored, IsEnough, IsMissed, IsNextAt, IsNextIn, IsNumberAt, IsVainAt, Lacks, ListStands, MemoryStands, RisesTo, RunStands, StaysOut, TablesStand}
 use Rattle.item_pick.proofs.MatchLaws.{no_start}
 use Rattle.item_pick.proofs.QuietLaws.{earlier}
@@ -48,11 +49,25 @@ IsLaw r =
     (tree : PatternTree) (t : Text) (ignore : Bool) (l c : ℕ) → c ≤ length (line_at t l) → passes r.sets r.budget tree ignore (line_at t l) c ≡ false →
     IsFutile (r.attempt t tree ignore no_externals (place_at l c)) r.budget l
 
+-- the law of what follows a first atom
+abbrev pub IsAfterLaw : Rules → Type 0
+IsAfterLaw r =
+    (pattern : Pattern) (t : Text) (ignore : Bool) (l c number : ℕ) → c + 1 ≤ length (line_at t l) → key_numbered number ≡ key_of r.sets (line_at t l) (c + 1) →
+    fails_after r.sets r.budget ignore number pattern ≡ true → IsFutile (r.attempt t pattern.tree ignore no_externals (place_at l c)) r.budget l
+
 module _ (r : Rules) (law : IsLaw r) (t : Text) (p : Place) (i : ItemId) (pattern : Pattern) (k : Looked) (held : HoldsLine k p.line) where
   -- where the screen fails nothing is found
-  pub missed_idle : (c : ℕ) → c ≤ length (line_at t p.line) → IsMissed r (line_at t p.line) i pattern c → IsIdle (match_from r t i pattern p) k c
-  missed_idle c within e =
+  screened_idle : (c : ℕ) → c ≤ length (line_at t p.line) → passes r.sets r.budget pattern.tree (item_of r.items i).ignore (line_at t p.line) c ≡ false → IsIdle (match_from r t i pattern p) k c
+  screened_idle c within e =
       futile_idle r t i pattern p c r.budget k held (law pattern.tree t (item_of r.items i).ignore p.line c within e) (omega arith)
+
+  -- nor where it is missed
+  pub missed_idle : IsAfterLaw r → (c : ℕ) → c ≤ length (line_at t p.line) → IsMissed r (line_at t p.line) i pattern c → IsIdle (match_from r t i pattern p) k c
+  missed_idle after c within missed =
+      elim missed [
+        | inl e ↦ screened_idle c within e
+        | inr m ↦ futile_idle r t i pattern p c r.budget k held (after pattern t (item_of r.items i).ignore p.line c m.0 m.1.0.0 m.1.0.1 m.1.1) (omega arith)
+      ]
 
 -- ---- what a row says
 
@@ -80,7 +95,7 @@ module _ (r : Rules) (law : IsLaw r) (t : Text) (p : Place) (number : ℕ) (is :
         let b = both_true _ _ a.1 in
         let here : c ≡ p.col = here_by (length line) p.col c tree.moves_start pattern.ms a.0 b.0 e in
         let at-key : fails r.sets r.budget ignore (key_of r.sets line p.col) tree ≡ true = subst (λ key. fails r.sets r.budget ignore key tree ≡ true) is b.1 in
-        missed_idle r law t p i pattern k held c within (ap (λ d. passes r.sets r.budget tree ignore line d) here ∙ ap not at-key)
+        screened_idle r law t p i pattern k held c within (ap (λ d. passes r.sets r.budget tree ignore line d) here ∙ ap not at-key)
 
   pub stays_quiet : (floor : ℕ) (k : Looked) → HoldsLine k p.line → IsQuiet r t p floor k i
   stays_quiet floor k held pattern its c from within =
@@ -137,7 +152,7 @@ vain_is_missed r line at number its i vain pattern first =
     let ignore = (item_of r.items i).ignore in
     let tree = pattern.tree in
     let a = both_true (nat_lt number 777) _ (vain pattern first) in
-    ap not (subst (λ key. fails r.sets r.budget ignore key tree ≡ true) its.1 a.1)
+    inl (ap not (subst (λ key. fails r.sets r.budget ignore key tree ≡ true) its.1 a.1))
 
 same_some : {A : Type 0} (a b : A) → Some a ≡ Some b → a ≡ b
 same_some {A = A} a b e = ap (λ (o : Option A). elim o [ None ↦ a | Some x ↦ x ]) e
@@ -168,9 +183,9 @@ enough_by r i pattern col one first (Some least) h = λ other its.
     (own, subst (λ (q : Pattern). (floor : ℕ) → least ≤ floor → col ≤ floor - q.lc) (one_first r i pattern other first own) h)
 
 -- a run goes on over the columns from which its item is missed
-pub run_goes_on : (r : Rules) → IsLaw r → (t : Text) (l : ℕ) (i : ItemId) (pattern : Pattern) → IsFirst r i pattern → (run : Run) (to : ℕ) → run.item ≡ i → RunStands r t l run →
+pub run_goes_on : (r : Rules) → IsLaw r → IsAfterLaw r → (t : Text) (l : ℕ) (i : ItemId) (pattern : Pattern) → IsFirst r i pattern → (run : Run) (to : ℕ) → run.item ≡ i → RunStands r t l run →
     ((c : ℕ) → run.to ≤ c → c < to → IsMissed r (line_at t l) i pattern c) → RunStands r t l (record run { to = to })
-run_goes_on r law t l i pattern first run to same stands missed = record {
+run_goes_on r law after t l i pattern first run to same stands missed = record {
   settled = λ other its c from below within. elim (cases_lt c run.to) [
     | inl before ↦ stands.settled other its c from before within
     | inr behind ↦ λ at above under k held _.
@@ -178,7 +193,7 @@ run_goes_on r law t l i pattern first run to same stands missed = record {
         let alike : pattern ≡ other = one_first r i pattern other first its-own in
         subst (λ j. IsIdle (match_from r t j other (place_at l at)) k c) (sym same)
         (subst (λ (q : Pattern). IsIdle (match_from r t i q (place_at l at)) k c) alike
-        (missed_idle r law t (place_at l at) i pattern k held c within (missed c behind below)))
+        (missed_idle r law t (place_at l at) i pattern k held after c within (missed c behind below)))
   ];
   enough = stands.enough;
 }
@@ -231,12 +246,13 @@ nothing_known r t l i lines = record {
   enough = tt;
 }
 
-pub missed_ok : (r : Rules) (memory : PickMemory) (i : ItemId) (pattern : Pattern) → IsFirst r i pattern → (col number : ℕ) →
-    ((t : Text) (l : ℕ) → MemoryStands r t l memory → IsNumberAt r (line_at t l) col number) → (result : Result Bool Memory) →
-    IfOk result (λ vain. IsTrue vain → IsVainAt r number i) →
+-- missed by what stands one column behind
+pub missed_after : (r : Rules) (memory : PickMemory) (i : ItemId) (pattern : Pattern) → IsFirst r i pattern → (col number : ℕ) →
+    ((t : Text) (l : ℕ) → MemoryStands r t l memory → IsNumberAt r (line_at t l) (col + 1) number) → (result : Result Bool Memory) →
+    IfOk result (λ vain. IsTrue vain → FailsAfterAt r number i) →
     IfOk result (λ missed. IsTrue missed → (t : Text) (l : ℕ) → MemoryStands r t l memory → IsMissed r (line_at t l) i pattern col)
-missed_ok r memory i pattern first col number key (Ok vain) h = λ e t l stands. vain_is_missed r (line_at t l) col number (key t l stands) i (h e) pattern first
-missed_ok r memory i pattern first col number key (Err m) h = tt
+missed_after r memory i pattern first col number key (Ok vain) h = λ e t l stands. inr (number, (key t l stands, h e pattern first))
+missed_after r memory i pattern first col number key (Err m) h = tt
 
 -- what stands of a line stands where only tables were made
 pub still_stands : (r : Rules) (t : Text) (l : ℕ) (a b : PickMemory) → TablesStand r b → b.numbers ≡ a.numbers → b.runs ≡ a.runs → MemoryStands r t l a → MemoryStands r t l b
@@ -351,3 +367,10 @@ pub missed_still : (r : Rules) (a b : PickMemory) → TablesStand r b → b.numb
     IfOk result (λ to. (t : Text) (l : ℕ) → MemoryStands r t l a → (c : ℕ) → from ≤ c → c < to → IsMissed r (line_at t l) i pattern c)
 missed_still r a b tables numbers runs i pattern from (Ok to) h = λ t l stands. h t l (still_stands r t l a b tables numbers runs stands)
 missed_still r a b tables numbers runs i pattern from (Err memory) h = tt
+
+-- the same of a memory in which only tables were made
+pub missed_later : (r : Rules) (a b : PickMemory) → TablesStand r b → b.numbers ≡ a.numbers → b.runs ≡ a.runs → (i : ItemId) (pattern : Pattern) (col : ℕ) (result : Result Bool Memory) →
+    IfOk result (λ missed. IsTrue missed → (t : Text) (l : ℕ) → MemoryStands r t l b → IsMissed r (line_at t l) i pattern col) →
+    IfOk result (λ missed. IsTrue missed → (t : Text) (l : ℕ) → MemoryStands r t l a → IsMissed r (line_at t l) i pattern col)
+missed_later r a b tables numbers runs i pattern col (Ok missed) h = λ e t l stands. h e t l (still_stands r t l a b tables numbers runs stands)
+missed_later r a b tables numbers runs i pattern col (Err m) h = tt

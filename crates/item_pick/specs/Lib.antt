@@ -6,6 +6,7 @@ pub mod QuietUntil
 -- what the code and proofs alone cite
 pub mod Attempts
 pub mod Behind
+pub mod Following
 pub mod Columns
 pub mod Screens
 pub mod Marks

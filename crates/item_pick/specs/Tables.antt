@@ -26,6 +26,7 @@ use Rattle.item_pick.specs.declared.runs.Run.{Run}
 use Rattle.item_pick.specs.declared.runs.Runs.{Runs}
 use Rattle.item_pick.specs.declared.tables.Row.{Row}
 use Rattle.item_pick.specs.Behind.{first_fails_behind}
+use Rattle.item_pick.specs.Following.{fails_after, first_fails_after}
 use Rattle.item_pick.specs.Quiet.{item_numbered, IsPassed}
 use Rattle.item_pick.specs.Screens.{IsSettled}
 use Rattle.item_pick.specs.Standing.{first_pattern, IsFirst, IsPatternOf}
@@ -127,10 +128,18 @@ IsAnchored r i =
 abbrev pub AnchorStands : Rules → Anchor → Type 0
 AnchorStands r anchor = anchor.is ≡ true → IsAnchored r anchor.item
 
--- an attempt at a column of a line has no way, looks at its line alone, and is within the budget
+-- the column is one of the line's, its end included, and its key has this number
+abbrev pub IsNumberAt : Rules → List ℕ → ℕ → ℕ → Type 0
+IsNumberAt r line col number =
+    (col ≤ length line) × (key_numbered number ≡ key_of r.sets line col)
+
+-- an attempt at a column of a line has no way, looks at its line alone, and is within the budget: by what
+-- stands there, or by what stands one column behind
 abbrev pub IsMissed : Rules → List ℕ → ItemId → Pattern → ℕ → Type 0
 IsMissed r line i pattern c =
-    passes r.sets r.budget pattern.tree (item_of r.items i).ignore line c ≡ false
+    (passes r.sets r.budget pattern.tree (item_of r.items i).ignore line c ≡ false)
+    ⊎ ((number : ℕ) × (IsNumberAt r line (c + 1) number
+    × (fails_after r.sets r.budget (item_of r.items i).ignore number pattern ≡ true)))
 
 -- what is kept is true of these rules
 pub record TablesStand (r : Rules) (memory : PickMemory) : Type 0 where
@@ -138,6 +147,7 @@ pub record TablesStand (r : Rules) (memory : PickMemory) : Type 0 where
   pub outs : AnswersStand (stays_out r) memory.outs
   pub vains : AnswersStand (is_first_vain r) memory.vains
   pub behinds : AnswersStand (first_fails_behind r) memory.behinds
+  pub afters : AnswersStand (first_fails_after r) memory.afters
   pub shut : AnswersStand (is_shut_at r.items r.sets r.budget) memory.shut
   pub anchors : All (AnchorStands r) memory.anchors.list.items
 
@@ -165,8 +175,3 @@ pub record MemoryStands (r : Rules) (t : Text) (l : ℕ) (memory : PickMemory) :
   pub keys : AreNumbers r.sets (line_at t l) (length (line_at t l) + 1) memory.numbers.items
   pub runs : All (RunStands r t l) memory.runs.list.items
   pub ends : EndsStand r t l memory.runs
-
--- the column is one of the line's, its end included, and its key has this number
-abbrev pub IsNumberAt : Rules → List ℕ → ℕ → ℕ → Type 0
-IsNumberAt r line col number =
-    (col ≤ length line) × (key_numbered number ≡ key_of r.sets line col)

@@ -88,7 +88,7 @@ fn behind_cost(node: &Node) -> Option<u64>
 }
 
 /// What follows the first piece of a pattern.
-fn rest_of(alloc: Global, tree: &Tree) -> Result<Option<Tree>, Memory>
+pub(crate) fn rest_of(alloc: Global, tree: &Tree) -> Result<Option<Tree>, Memory>
     ensures { IfOk result (λ found. IfSome found (λ rest. rest ≡ rest_tree tree.now)) }
 {
     let Tree {

@@ -13,6 +13,7 @@ mod behind;
 mod choice;
 mod columns;
 mod ends;
+mod following;
 mod line_memo;
 mod memo;
 mod memory;

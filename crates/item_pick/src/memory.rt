@@ -6,6 +6,7 @@ ghost use Rattle.match_rules.specs.Ways.{Text, line_at};
 ghost use Rattle.paint_rules.specs.Rules.{Rules, item_of, place_at};
 ghost use Rattle.pattern_screens.specs.Keys.{AreNumbers};
 ghost use Rattle.item_pick.specs.Behind.{FailsBehindAt};
+ghost use Rattle.item_pick.specs.Following.{FailsAfterAt};
 ghost use Rattle.item_pick.specs.PartsSeen.{rules_in};
 ghost use Rattle.item_pick.specs.Quiet.{IsPassed, IsQuiet, item_numbered};
 ghost use Rattle.item_pick.specs.Runs.{TellsOf};
@@ -19,6 +20,7 @@ use crate::behind::{are_short, begins_behind, two_lines};
 use crate::choice::Choice;
 use crate::columns::{Columns, may_start};
 use crate::ends::end_with;
+use crate::following::takes_first;
 use crate::memo::Memo;
 use crate::parts::Parts;
 use crate::picking::Picking;
@@ -56,6 +58,8 @@ pub struct PickMemory {
     vains: KeyAnswers,
     /// Whether they are in vain in short lines, but see the line before.
     behinds: KeyAnswers,
+    /// Whether they are in vain one column before.
+    afters: KeyAnswers,
     /// Whether no skip or end of a region fits.
     pub(crate) shut: KeyAnswers,
     anchors: Anchors,
@@ -76,6 +80,7 @@ impl PickMemory {
             outs: KeyAnswers::new(alloc),
             vains: KeyAnswers::new(alloc),
             behinds: KeyAnswers::new(alloc),
+            afters: KeyAnswers::new(alloc),
             shut: KeyAnswers::new(alloc),
             anchors: Anchors::new(alloc),
             numbers: Vec::new(alloc),
@@ -117,6 +122,7 @@ impl PickMemory {
         ensures outs { self.new.outs ≡ self.old.outs }
         ensures vains { self.new.vains ≡ self.old.vains }
         ensures behinds { self.new.behinds ≡ self.old.behinds }
+        ensures afters { self.new.afters ≡ self.old.afters }
         ensures shut { self.new.shut ≡ self.old.shut }
         ensures anchors { self.new.anchors ≡ self.old.anchors }
         ensures numbers { self.new.numbers ≡ self.old.numbers }
@@ -310,6 +316,66 @@ impl PickMemory {
         Ok(is)
     }
 
+    /// Whether attempts by the first start pattern of an item are in vain one column before one whose
+    /// key has a number. The answer is kept.
+    fn is_vain_before(
+        &mut self,
+        asked: &Asked,
+        id: ItemId,
+        pattern: &Pattern,
+        number: u16,
+    ) -> Result<bool, Memory>
+        requires item { IsItem (rules_in asked.now.parts.now asked.now.budget) id }
+        requires first { IsFirst (rules_in asked.now.parts.now asked.now.budget) id pattern.now }
+        requires stands { TablesStand (rules_in asked.now.parts.now asked.now.budget) self.old }
+        ensures stands { TablesStand (rules_in asked.now.parts.now asked.now.budget) self.new }
+        ensures numbers { self.new.numbers ≡ self.old.numbers }
+        ensures runs { self.new.runs ≡ self.old.runs }
+        ensures vain { IfOk result (λ vain. IsTrue vain →
+            FailsAfterAt (rules_in asked.now.parts.now asked.now.budget) number id) }
+    {
+        match self.afters.known(number, id) {
+            Some(vain) => return Ok(vain),
+            None => {}
+        }
+        let ignore = item_of(asked.parts.items, id).ignore;
+        let is = asked.fails_after(self.alloc, ignore, pattern, number)?;
+        self.afters.keep(number, id, is)?;
+        Ok(is)
+    }
+
+    /// Whether an item is known, by what stands one column behind, not to match by its first start
+    /// pattern from a column.
+    fn is_missed_after(
+        &mut self,
+        asked: &Asked,
+        id: ItemId,
+        pattern: &Pattern,
+        col: usize,
+    ) -> Result<bool, Memory>
+        requires item { IsItem (rules_in asked.now.parts.now asked.now.budget) id }
+        requires first { IsFirst (rules_in asked.now.parts.now asked.now.budget) id pattern.now }
+        requires stands { TablesStand (rules_in asked.now.parts.now asked.now.budget) self.old }
+        ensures stands { TablesStand (rules_in asked.now.parts.now asked.now.budget) self.new }
+        ensures numbers { self.new.numbers ≡ self.old.numbers }
+        ensures runs { self.new.runs ≡ self.old.runs }
+        ensures missed { IfOk result (λ missed. IsTrue missed → (t : Text) (l : ℕ) →
+            MemoryStands (rules_in asked.now.parts.now asked.now.budget) t l self.old →
+            IsMissed (rules_in asked.now.parts.now asked.now.budget) (line_at t l) id pattern.now
+            col) }
+    {
+        if !takes_first(&pattern.tree.node) {
+            return Ok(false);
+        }
+        let Some(after) = col.checked_add(1) else {
+            return Ok(false);
+        };
+        match self.number_at(after) {
+            Some(number) => self.is_vain_before(asked, id, pattern, number),
+            None => Ok(false),
+        }
+    }
+
     /// Whether an item is known not to match by its first start pattern from a column.
     fn is_missed(
         &mut self,
@@ -329,10 +395,14 @@ impl PickMemory {
             IsMissed (rules_in asked.now.parts.now asked.now.budget) (line_at t l) id pattern.now
             col) }
     {
-        match self.number_at(col) {
-            Some(number) => self.is_vain(asked, id, pattern, number),
-            None => Ok(false),
+        let Some(number) = self.number_at(col) else {
+            return Ok(false);
+        };
+        let vain = self.is_vain(asked, id, pattern, number)?;
+        if vain {
+            return Ok(true);
         }
+        self.is_missed_after(asked, id, pattern, col)
     }
 
     /// The first column from one on from which an item isn't known not to match by its first start

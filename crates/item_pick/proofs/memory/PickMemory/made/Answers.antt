@@ -15,6 +15,7 @@ returns-in_err-row-in-Some-clause-stands c = record {
   outs = c.row_of.ensures.outs;
   vains = c.whole.ensures.stands.vains;
   behinds = c.whole.ensures.stands.behinds;
+  afters = c.whole.ensures.stands.afters;
   shut = c.whole.ensures.stands.shut;
   anchors = c.whole.ensures.stands.anchors;
 }
@@ -27,6 +28,7 @@ returns-clause-stands c =
       outs = c.row_of.ensures.outs;
       vains = c.whole.ensures.stands.vains;
       behinds = c.whole.ensures.stands.behinds;
+      afters = c.whole.ensures.stands.afters;
       shut = c.whole.ensures.stands.shut;
       anchors = c.whole.ensures.stands.anchors;
     })

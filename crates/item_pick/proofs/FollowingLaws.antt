@@ -1,0 +1,193 @@
+-- Behind an atom of one character, where what follows it fails, an attempt has no way, is within the
+-- budget, and looks at its line alone.
+use Rattle.std.proofs.Common.{◌≡◌, refl, sym, ap, subst, arith, ◌∙◌, ℕ, ◌+◌, ◌≤◌, Bool, true, false, List, [], ◌∷◌, ◌++◌, length, append-nil}
+use Rattle.std.specs.Prelude.{pos, Option, Some, None, not, nat_lt, option_map, if◌then◌else◌}
+use Rattle.std.proofs.lemmas.Bool.Decides.{nat_tests}
+use Rattle.char_class.specs.declared.sets.Sets.{Sets}
+use Rattle.syn_base.specs.declared.looked.Looked.{Looked}
+use Rattle.syn_base.specs.declared.places.Place.{Place}
+use Rattle.syn_base.specs.Looked.{one_line}
+use Rattle.syn_base.specs.declared.places.ItemId.{ItemId}
+use Rattle.pattern_items.specs.declared.atom.Atom.{Atom}
+use Rattle.pattern_items.specs.declared.atom.Atom.TheVariants.{Char, Any, Is, Set, LineEnd, LineStart, LineStop, WordStart, WordStop, FileStart, FileStop, MatchStart, MatchStop, Ref, ExternalRef}
+use Rattle.vim_pattern.specs.Shape.{Shape, empty, one, seq, or, and, group, external, repeat, ahead, before, whole}
+use Rattle.match_rules.specs.Atoms.{fits, lines_looked, way_behind, character_at, only_if}
+use Rattle.match_rules.specs.Attempt.{answer_of, for_tree}
+use Rattle.match_rules.specs.Marks.{Mark, Tick, Reach, followed}
+use Rattle.match_rules.specs.Visits.{visits, behind_fit}
+use Rattle.match_rules.specs.Ways.{Context, Text, Way, behind_character, line_at, place, way_from}
+use Rattle.match_rules.proofs.MarkLaws.{AllWays}
+use Rattle.syntax_set.specs.declared.item.Pattern.{Pattern}
+use Rattle.paint_rules.specs.Rules.{Rules, item_of, no_externals, place_at}
+use Rattle.paint_rules.specs.Syntax.{attempt_by, context_of}
+use Rattle.pattern_match.specs.Answers.{match_of}
+use Rattle.pattern_screens.specs.Bounds.{failing_cost, most_cost}
+use Rattle.pattern_screens.specs.Keys.{key_numbered, key_of}
+use Rattle.pattern_screens.specs.PlainAtoms.{is_plain, plain_fits}
+use Rattle.pattern_screens.specs.ScreenLaw.{IsInVain}
+use Rattle.pattern_screens.specs.Screens.{is_futile, still, still_of, verdict, verdict_of}
+use Rattle.pattern_screens.specs.declared.key.Key.{Key}
+use Rattle.pattern_screens.specs.declared.verdict.Verdict.TheVariants.{Passes, Fails, FailsSeeingBefore}
+use Rattle.pattern_screens.proofs.FirstScreens.{fits-told}
+use Rattle.pattern_screens.proofs.Screened.{in-vain, stills}
+use Rattle.pattern_screens.proofs.Stands.{AllTicks, IsSeen, both_true, ways_of}
+use Rattle.pattern_screens.proofs.StillAtoms.{column-key}
+use Rattle.item_pick.specs.Attempts.{IsFutile}
+use Rattle.item_pick.specs.Behind.{rest_tree, second_of}
+use Rattle.item_pick.specs.Following.{FailsAfterAt, fails_after, first_fails_after, is_plain_piece, some_fails_after, takes_first}
+use Rattle.item_pick.specs.Standing.{IsFirst}
+
+-- a verdict of failing is that of a part that reaches nothing, and doesn't see the line before
+fails-if : (reaches sees sure : Bool) → is_futile (if reaches then Passes else (if not sees then Fails else (if sure then FailsSeeingBefore else Passes))) ≡ true → (reaches ≡ false) × (sees ≡ false)
+fails-if true sees sure e = absurd (cc)
+fails-if false false sure e = (refl, refl)
+fails-if false true true e = absurd (cc)
+fails-if false true false e = absurd (cc)
+
+-- of no way all holds
+no-ways : (P : Way → Type 0) (marks : List Mark) → ways_of marks ≡ 0 → AllWays P marks
+no-ways P [] e = tt
+no-ways P (Tick l ∷ marks) e = no-ways P marks e
+no-ways P (Reach w ∷ marks) e = absurd (omega (arith, e))
+
+plain-looks : (x : Context) (w : Way) (a : Atom) → is_plain a ≡ true → lines_looked x w a ≡ one_line (pos w.at.line)
+plain-looks x w (Char c) h = refl
+plain-looks x w (Any takes_end) h = refl
+plain-looks x w (Is class negative takes_end) h = refl
+plain-looks x w (Set ranges) h = refl
+plain-looks x w LineEnd h = absurd (cc)
+plain-looks x w LineStart h = absurd (cc)
+plain-looks x w LineStop h = absurd (cc)
+plain-looks x w WordStart h = absurd (cc)
+plain-looks x w WordStop h = absurd (cc)
+plain-looks x w FileStart h = absurd (cc)
+plain-looks x w FileStop h = absurd (cc)
+plain-looks x w MatchStart h = absurd (cc)
+plain-looks x w MatchStop h = absurd (cc)
+plain-looks x w (Ref number) h = absurd (cc)
+plain-looks x w (ExternalRef number) h = absurd (cc)
+
+plain-moves : (w : Way) (p : Place) (a : Atom) → is_plain a ≡ true → way_behind w p a ≡ record w { at = p }
+plain-moves w p (Char c) h = refl
+plain-moves w p (Any takes_end) h = refl
+plain-moves w p (Is class negative takes_end) h = refl
+plain-moves w p (Set ranges) h = refl
+plain-moves w p LineEnd h = absurd (cc)
+plain-moves w p LineStart h = absurd (cc)
+plain-moves w p LineStop h = absurd (cc)
+plain-moves w p WordStart h = absurd (cc)
+plain-moves w p WordStop h = absurd (cc)
+plain-moves w p FileStart h = absurd (cc)
+plain-moves w p FileStop h = absurd (cc)
+plain-moves w p MatchStart h = absurd (cc)
+plain-moves w p MatchStop h = absurd (cc)
+plain-moves w p (Ref number) h = absurd (cc)
+plain-moves w p (ExternalRef number) h = absurd (cc)
+
+module _ (y : Context) (line col : ℕ) (inside : col + 1 ≤ length (line_at y.text line)) where
+  abbrev start : Place
+  start = place line col
+
+  abbrev next : Place
+  next = place line (col + 1)
+
+  abbrev key : Key
+  key = key_of y.sets (line_at y.text line) (col + 1)
+
+  abbrev Fails-on : Shape → Type 0
+  Fails-on rest = is_futile (verdict_of (still_of y.sets y.ignore key rest)) ≡ true
+
+  abbrev InVain : Shape → Shape → Type 0
+  InVain node rest = IsInVain start (1 + most_cost rest) false (answer_of (visits y node (way_from start)))
+
+  -- a tick of the first atom alone
+  alone : (rest : Shape) (looked : Looked) → looked ≡ one_line (pos line) → IsInVain start (1 + most_cost rest) false (answer_of (Tick looked ∷ []))
+  alone rest looked own =
+      in-vain start (still false) 0 (1 + most_cost rest) (Tick looked ∷ []) (record {
+        here = tt;
+        few = omega arith;
+        cheap = omega arith;
+        none = λ e. refl;
+        some = λ e. absurd (cc);
+        seen = (own, tt);
+        before = λ e. absurd (cc);
+      }) refl refl
+
+  piece-vain : (piece rest : Shape) → is_plain_piece piece ≡ true → Fails-on rest → InVain (seq piece rest) rest
+  piece-vain (one a) rest plain futile =
+      let w : Way = way_from start in
+      let l : Looked = lines_looked y w a in
+      let own = plain-looks y w a plain in
+      let f = visits y rest in
+      let moved : f (way_behind w next a) ++ [] ≡ f (way_from next) = append-nil _ ∙ ap f (plain-moves w next a plain) in
+      elim (still_of y.sets y.ignore key rest) as (λ o. still_of y.sets y.ignore key rest ≡ o → is_futile (verdict_of o) ≡ true → InVain (seq (one a) rest) rest) [
+        | None ↦ λ known f. absurd (cc)
+        | Some s ↦ λ known fails.
+            let is = fails-if s.reaches s.before s.surely_before fails in
+            let h = stills y key rest s known next (column-key y line (col + 1) inside) (way_from next) refl in
+            let none : ways_of (f (way_from next)) ≡ 0 = h.none is.0 in
+            elim (plain_fits y.sets y.ignore (character_at y.text start) a) as (λ b. fits y w a ≡ only_if b (behind_character start) → InVain (seq (one a) rest) rest) [
+              | false ↦ λ e. subst (λ o. IsInVain start (1 + most_cost rest) false (answer_of (Tick l ∷ followed (behind_fit w a o) f))) (sym e) (alone rest l own)
+              | true ↦ λ e.
+                  subst (λ o. IsInVain start (1 + most_cost rest) false (answer_of (Tick l ∷ followed (behind_fit w a o) f))) (sym e)
+                  (subst (λ m. IsInVain start (1 + most_cost rest) false (answer_of (Tick l ∷ m))) (sym moved)
+                  (in-vain start (still false) 0 (1 + most_cost rest) (Tick l ∷ f (way_from next)) (record {
+                    here = no-ways (λ v. v.at ≡ start) (f (way_from next)) none;
+                    few = omega (arith, none);
+                    cheap = omega (arith, h.cheap);
+                    none = λ n. none;
+                    some = λ n. absurd (cc);
+                    seen = (own, subst (λ b. AllTicks (IsSeen line b) (f (way_from next))) is.1 h.seen);
+                    before = λ n. absurd (cc);
+                  }) refl refl))
+            ] (fits-told y w a plain)
+      ] refl futile
+  piece-vain empty rest plain futile = absurd (cc)
+  piece-vain (seq a b) rest plain futile = absurd (cc)
+  piece-vain (or a b) rest plain futile = absurd (cc)
+  piece-vain (and a b) rest plain futile = absurd (cc)
+  piece-vain (group part number) rest plain futile = absurd (cc)
+  piece-vain (external part number) rest plain futile = absurd (cc)
+  piece-vain (repeat part least most lazy) rest plain futile = absurd (cc)
+  piece-vain (ahead part negative) rest plain futile = absurd (cc)
+  piece-vain (before part negative limit) rest plain futile = absurd (cc)
+  piece-vain (whole part) rest plain futile = absurd (cc)
+
+  node-vain : (node : Shape) → takes_first node ≡ true → Fails-on (second_of node) → InVain node (second_of node)
+  node-vain (seq a b) first futile = piece-vain a b first futile
+  node-vain empty first futile = absurd (cc)
+  node-vain (one a) first futile = absurd (cc)
+  node-vain (or a b) first futile = absurd (cc)
+  node-vain (and a b) first futile = absurd (cc)
+  node-vain (group part number) first futile = absurd (cc)
+  node-vain (external part number) first futile = absurd (cc)
+  node-vain (repeat part least most lazy) first futile = absurd (cc)
+  node-vain (ahead part negative) first futile = absurd (cc)
+  node-vain (before part negative limit) first futile = absurd (cc)
+  node-vain (whole part) first futile = absurd (cc)
+
+pub after-futile : (sets : Sets) (budget : ℕ) (pattern : Pattern) (t : Text) (ignore : Bool) (l c number : ℕ) → c + 1 ≤ length (line_at t l) → key_numbered number ≡ key_of sets (line_at t l) (c + 1) →
+    fails_after sets budget ignore number pattern ≡ true → IsFutile (attempt_by sets t pattern.tree ignore no_externals (place_at l c)) budget l
+unfolding attempt_by
+after-futile sets budget pattern t ignore l c number inside same e =
+    let tree = pattern.tree in
+    let a = both_true (nat_lt number 777) _ e in
+    let b = both_true (takes_first tree.node) _ a.1 in
+    let d = both_true (is_futile (verdict sets ignore (key_numbered number) (rest_tree tree))) _ b.1 in
+    let x : Context = context_of sets t ignore no_externals in
+    let y : Context = for_tree tree x in
+    let at-key : is_futile (verdict sets ignore (key_of sets (line_at t l) (c + 1)) (rest_tree tree)) ≡ true = subst (λ (k : Key). is_futile (verdict sets ignore k (rest_tree tree)) ≡ true) same d.0 in
+    let cheap : failing_cost (rest_tree tree) + 1 ≤ budget = grind (arith, nat_tests, d.1) in
+    let h = node-vain y l c inside tree.node b.0 at-key in
+    (ap (option_map (match_of t (place_at l c))) h.way, omega (arith, h.cost, cheap), h.looked)
+
+-- what was answered of a first pattern is true of the item
+pub after-told : (r : Rules) (i : ItemId) (number : ℕ) (ignore : Bool) → ignore ≡ (item_of r.items i).ignore → (pattern : Pattern) → IsFirst r i pattern → (is : Bool) →
+    (is ≡ true → fails_after r.sets r.budget ignore number pattern ≡ true) → is ≡ true → first_fails_after r number i.0 ≡ true
+after-told r i number ignore same pattern first is told e =
+    subst (λ (o : Option Pattern). some_fails_after r.sets r.budget (item_of r.items i).ignore number o ≡ true) (sym first)
+    (subst (λ b. fails_after r.sets r.budget b number pattern ≡ true) same (told e))
+
+pub after-by : (r : Rules) (i : ItemId) (number : ℕ) → first_fails_after r number i.0 ≡ true → FailsAfterAt r number i
+after-by r i number told pattern first =
+    subst (λ (o : Option Pattern). some_fails_after r.sets r.budget (item_of r.items i).ignore number o ≡ true) first told

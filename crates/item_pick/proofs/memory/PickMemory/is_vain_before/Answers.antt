@@ -1,0 +1,46 @@
+use Rattle.std.proofs.Common.{◌∙◌, ap}
+use Rattle.std.specs.Prelude.{Some, Bool}
+use Rattle.syntax_set.specs.declared.item.Item.{Item}
+use Rattle.item_pick.specs.PartsSeen.{rules_in}
+use Rattle.item_pick.specs.Following.{first_fails_after}
+use Rattle.item_pick.proofs.FollowingLaws.{after-by, after-told}
+use Rattle.item_pick.proofs.memory.PickMemory.is_vain_before.Goals as goal
+
+pub returns-in-Some-clause-vain : goal.returns-in-Some-clause-vain
+returns-in-Some-clause-vain c e =
+    let r = rules_in c.args.asked.now.parts.now c.args.asked.now.budget in
+    after-by r c.args.id c.args.number (c.known.ensures (first_fails_after r) c.requires.stands.afters (c.in-Some.is ∙ ap (λ (b : Bool). Some b) e))
+
+pub returns-in_err-keep-clause-stands : goal.returns-in_err-keep-clause-stands
+returns-in_err-keep-clause-stands c =
+    let r = rules_in c.args.asked.now.parts.now c.args.asked.now.budget in
+    record {
+      rows = c.requires.stands.rows;
+      outs = c.requires.stands.outs;
+      vains = c.requires.stands.vains;
+      behinds = c.requires.stands.behinds;
+      afters = c.keep.ensures (first_fails_after r) c.requires.stands.afters
+          (after-told r c.args.id c.args.number c.item_of.result.now.ignore (ap (λ (x : Item). x.ignore) c.item_of.ensures) c.args.pattern.now c.requires.first c.in_ok-is.is' c.in_ok-is.ensures);
+      shut = c.requires.stands.shut;
+      anchors = c.requires.stands.anchors;
+    }
+
+pub returns-clause-stands : goal.returns-clause-stands
+returns-clause-stands c =
+    let r = rules_in c.args.asked.now.parts.now c.args.asked.now.budget in
+    record {
+      rows = c.requires.stands.rows;
+      outs = c.requires.stands.outs;
+      vains = c.requires.stands.vains;
+      behinds = c.requires.stands.behinds;
+      afters = c.keep.ensures (first_fails_after r) c.requires.stands.afters
+          (after-told r c.args.id c.args.number c.item_of.result.now.ignore (ap (λ (x : Item). x.ignore) c.item_of.ensures) c.args.pattern.now c.requires.first c.in_ok-is.is' c.in_ok-is.ensures);
+      shut = c.requires.stands.shut;
+      anchors = c.requires.stands.anchors;
+    }
+
+pub returns-clause-vain : goal.returns-clause-vain
+returns-clause-vain c e =
+    let r = rules_in c.args.asked.now.parts.now c.args.asked.now.budget in
+    after-by r c.args.id c.args.number
+    (after-told r c.args.id c.args.number c.item_of.result.now.ignore (ap (λ (x : Item). x.ignore) c.item_of.ensures) c.args.pattern.now c.requires.first c.in_ok-is.is' c.in_ok-is.ensures e)

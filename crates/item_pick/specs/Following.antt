@@ -1,0 +1,48 @@
+-- Patterns that begin with an atom of one character: what an attempt does at a column behind which what
+-- follows the atom fails.
+use Rattle.std.specs.Prelude.{◌≡◌, ◌&&◌, ℕ, Bool, true, false, nat_lt, Option, Some, None}
+use Rattle.char_class.specs.declared.sets.Sets.{Sets}
+use Rattle.syn_base.specs.declared.places.ItemId.{ItemId}
+use Rattle.vim_pattern.specs.Shape.{Shape, one, seq}
+use Rattle.syntax_set.specs.declared.item.Pattern.{Pattern}
+use Rattle.paint_rules.specs.Rules.{Rules, item_of}
+use Rattle.pattern_screens.specs.Bounds.{failing_cost}
+use Rattle.pattern_screens.specs.Keys.{key_numbered}
+use Rattle.pattern_screens.specs.PlainAtoms.{is_plain}
+use Rattle.pattern_screens.specs.Screens.{is_futile, verdict}
+use Rattle.item_pick.specs.Behind.{rest_tree}
+use Rattle.item_pick.specs.Quiet.{item_numbered}
+use Rattle.item_pick.specs.Standing.{first_pattern, IsFirst}
+
+abbrev pub is_plain_piece : Shape → Bool
+is_plain_piece (one a) = is_plain a
+is_plain_piece _ = false
+
+-- it begins with an atom of one character
+abbrev pub takes_first : Shape → Bool
+takes_first (seq a b) = is_plain_piece a
+takes_first _ = false
+
+-- an attempt at the column before one whose key has this number has no way, looks at its line alone,
+-- and is within the budget
+abbrev pub fails_after : Sets → ℕ → Bool → ℕ → Pattern → Bool
+fails_after sets budget ignore number pattern =
+    nat_lt number 777 && (takes_first pattern.tree.node
+    && (is_futile (verdict sets ignore (key_numbered number) (rest_tree pattern.tree))
+    && nat_lt (failing_cost (rest_tree pattern.tree)) budget))
+
+-- the same as a test, of a pattern, if there is one, and of the first one of an item, by its number
+abbrev pub some_fails_after : Sets → ℕ → Bool → ℕ → Option Pattern → Bool
+some_fails_after sets budget ignore number None = true
+some_fails_after sets budget ignore number (Some pattern) =
+    fails_after sets budget ignore number pattern
+
+abbrev pub first_fails_after : Rules → ℕ → ℕ → Bool
+first_fails_after r number item =
+    some_fails_after r.sets r.budget (item_of r.items (item_numbered item)).ignore number
+    (first_pattern (item_of r.items (item_numbered item)).kind)
+
+abbrev pub FailsAfterAt : Rules → ℕ → ItemId → Type 0
+FailsAfterAt r number i =
+    (pattern : Pattern) → IsFirst r i pattern →
+    fails_after r.sets r.budget (item_of r.items i).ignore number pattern ≡ true
