@@ -131,7 +131,7 @@ behind-futile sets budget t ignore l c number pattern inside short same e =
 -- ---- what that means for an item
 
 -- an attempt that finds nothing gives nothing, and its lines are looked at
-futile-vain : (r : Rules) (t : Text) (i : ItemId) (pattern : Pattern) (p : Place) (c : ℕ) (lines : Looked) → may_start_at pattern (length (line_at t p.line)) p.col c ≡ true →
+pub futile-vain : (r : Rules) (t : Text) (i : ItemId) (pattern : Pattern) (p : Place) (c : ℕ) (lines : Looked) → may_start_at pattern (length (line_at t p.line)) p.col c ≡ true →
     IsFutileBy (r.attempt t pattern.tree (item_of r.items i).ignore no_externals (place_at p.line c)) r.budget lines → IsVainFrom r t p i pattern lines c
 futile-vain r t i pattern p c lines may futile k =
     let a = r.attempt t pattern.tree (item_of r.items i).ignore no_externals (place_at p.line c) in

@@ -1,7 +1,7 @@
 -- Behind an atom of one character, where what follows it fails, an attempt has no way, is within the
 -- budget, and looks at its line alone.
-use Rattle.std.proofs.Common.{◌≡◌, refl, sym, ap, subst, arith, ◌∙◌, ℕ, ◌+◌, ◌≤◌, Bool, true, false, List, [], ◌∷◌, ◌++◌, length, append-nil}
-use Rattle.std.specs.Prelude.{pos, Option, Some, None, not, nat_lt, option_map, if◌then◌else◌}
+use Rattle.std.proofs.Common.{◌≡◌, refl, sym, ap, subst, arith, ◌∙◌, ℕ, ◌+◌, ◌*◌, ◌≤◌, Bool, true, false, List, [], ◌∷◌, ◌++◌, length, append-nil}
+use Rattle.std.specs.Prelude.{pos, Option, Some, None, not, nat_eq, nat_lt, ◌&&◌, ◌||◌, option_map, if◌then◌else◌}
 use Rattle.std.proofs.lemmas.Bool.Decides.{nat_tests}
 use Rattle.char_class.specs.declared.sets.Sets.{Sets}
 use Rattle.syn_base.specs.declared.looked.Looked.{Looked}
@@ -16,7 +16,7 @@ use Rattle.match_rules.specs.Attempt.{answer_of, for_tree}
 use Rattle.match_rules.specs.Marks.{Mark, Tick, Reach, followed}
 use Rattle.match_rules.specs.Visits.{visits, behind_fit}
 use Rattle.match_rules.specs.Ways.{Context, Text, Way, behind_character, line_at, place, way_from}
-use Rattle.match_rules.proofs.MarkLaws.{AllWays}
+use Rattle.match_rules.proofs.MarkLaws.{AllWays, followed-append}
 use Rattle.syntax_set.specs.declared.item.Pattern.{Pattern}
 use Rattle.paint_rules.specs.Rules.{Rules, item_of, no_externals, place_at}
 use Rattle.paint_rules.specs.Syntax.{attempt_by, context_of}
@@ -30,11 +30,11 @@ use Rattle.pattern_screens.specs.declared.key.Key.{Key}
 use Rattle.pattern_screens.specs.declared.verdict.Verdict.TheVariants.{Passes, Fails, FailsSeeingBefore}
 use Rattle.pattern_screens.proofs.FirstScreens.{fits-told}
 use Rattle.pattern_screens.proofs.Screened.{in-vain, stills}
-use Rattle.pattern_screens.proofs.Stands.{AllTicks, IsSeen, both_true, ways_of}
+use Rattle.pattern_screens.proofs.Stands.{AllTicks, AllTicks-append, IsSeen, both_true, ticks-append, ticks_of, ways-append, ways_of}
 use Rattle.pattern_screens.proofs.StillAtoms.{column-key}
 use Rattle.item_pick.specs.Attempts.{IsFutile}
 use Rattle.item_pick.specs.Behind.{rest_tree, second_of}
-use Rattle.item_pick.specs.Following.{FailsAfterAt, fails_after, first_fails_after, is_plain_piece, some_fails_after, takes_first}
+use Rattle.item_pick.specs.Following.{FailsAfterAt, fails_after, first_fails_after, is_line_start, some_fails_after, takes_first, takes_leaf, takes_piece}
 use Rattle.item_pick.specs.Standing.{IsFirst}
 
 -- a verdict of failing is that of a part that reaches nothing, and doesn't see the line before
@@ -84,6 +84,19 @@ plain-moves w p MatchStop h = absurd (cc)
 plain-moves w p (Ref number) h = absurd (cc)
 plain-moves w p (ExternalRef number) h = absurd (cc)
 
+-- marks without a way, so many ticks, each of which looks at the line alone
+record Vain (line cost : ℕ) (marks : List Mark) : Type 0 where
+  none : ways_of marks ≡ 0
+  cheap : ticks_of marks ≤ cost
+  seen : AllTicks (IsSeen line false) marks
+
+vain-both : (line c d : ℕ) (a b : List Mark) → Vain line c a → Vain line d b → Vain line (c + d) (a ++ b)
+vain-both line c d a b h k = record {
+  none = omega (arith, ways-append a b, h.none, k.none);
+  cheap = omega (arith, ticks-append a b, h.cheap, k.cheap);
+  seen = AllTicks-append (IsSeen line false) a b h.seen k.seen;
+}
+
 module _ (y : Context) (line col : ℕ) (inside : col + 1 ≤ length (line_at y.text line)) where
   abbrev start : Place
   start = place line col
@@ -94,67 +107,122 @@ module _ (y : Context) (line col : ℕ) (inside : col + 1 ≤ length (line_at y.
   abbrev key : Key
   key = key_of y.sets (line_at y.text line) (col + 1)
 
-  abbrev Fails-on : Shape → Type 0
-  Fails-on rest = is_futile (verdict_of (still_of y.sets y.ignore key rest)) ≡ true
+  abbrev later : Bool
+  later = nat_lt 0 col
 
-  abbrev InVain : Shape → Shape → Type 0
-  InVain node rest = IsInVain start (1 + most_cost rest) false (answer_of (visits y node (way_from start)))
+  module _ (rest : Shape) (futile : is_futile (verdict_of (still_of y.sets y.ignore key rest)) ≡ true) where
+    abbrev behind : Shape → List Mark
+    behind piece = followed (visits y piece (way_from start)) (visits y rest)
 
-  -- a tick of the first atom alone
-  alone : (rest : Shape) (looked : Looked) → looked ≡ one_line (pos line) → IsInVain start (1 + most_cost rest) false (answer_of (Tick looked ∷ []))
-  alone rest looked own =
-      in-vain start (still false) 0 (1 + most_cost rest) (Tick looked ∷ []) (record {
-        here = tt;
-        few = omega arith;
-        cheap = omega arith;
-        none = λ e. refl;
-        some = λ e. absurd (cc);
-        seen = (own, tt);
-        before = λ e. absurd (cc);
+    one-tick : (looked : Looked) → looked ≡ one_line (pos line) → Vain line (1 + most_cost rest) (Tick looked ∷ [])
+    one-tick looked own = record { none = refl; cheap = omega arith; seen = (own, tt) }
+
+    -- what follows is tried in vain at the next column
+    rest-vain : Vain line (most_cost rest) (visits y rest (way_from next))
+    rest-vain =
+        elim (still_of y.sets y.ignore key rest) as (λ o. still_of y.sets y.ignore key rest ≡ o → is_futile (verdict_of o) ≡ true → Vain line (most_cost rest) (visits y rest (way_from next))) [
+          | None ↦ λ known f. absurd (cc)
+          | Some s ↦ λ known fails.
+              let is = fails-if s.reaches s.before s.surely_before fails in
+              let h = stills y key rest s known next (column-key y line (col + 1) inside) (way_from next) refl in
+              record {
+                none = h.none is.0;
+                cheap = h.cheap;
+                seen = subst (λ b. AllTicks (IsSeen line b) (visits y rest (way_from next))) is.1 h.seen;
+              }
+        ] refl futile
+
+    plain-vain : (a : Atom) → is_plain a ≡ true → Vain line (1 + most_cost rest) (behind (one a))
+    plain-vain a plain =
+        let w : Way = way_from start in
+        let l : Looked = lines_looked y w a in
+        let own = plain-looks y w a plain in
+        let f = visits y rest in
+        let moved : f (way_behind w next a) ++ [] ≡ f (way_from next) = append-nil _ ∙ ap f (plain-moves w next a plain) in
+        elim (plain_fits y.sets y.ignore (character_at y.text start) a) as (λ b. fits y w a ≡ only_if b (behind_character start) → Vain line (1 + most_cost rest) (behind (one a))) [
+          | false ↦ λ e. subst (λ o. Vain line (1 + most_cost rest) (Tick l ∷ followed (behind_fit w a o) f)) (sym e) (one-tick l own)
+          | true ↦ λ e.
+              subst (λ o. Vain line (1 + most_cost rest) (Tick l ∷ followed (behind_fit w a o) f)) (sym e)
+              (subst (λ m. Vain line (1 + most_cost rest) (Tick l ∷ m)) (sym moved)
+              (record {
+                none = rest-vain.none;
+                cheap = omega (arith, rest-vain.cheap);
+                seen = (own, rest-vain.seen);
+              }))
+        ] (fits-told y w a plain)
+
+    -- the start of a line doesn't fit behind its first column
+    start-vain : later ≡ true → Vain line (1 + most_cost rest) (behind (one LineStart))
+    start-vain is =
+        let w : Way = way_from start in
+        let e : nat_eq col 0 ≡ false = grind (arith, nat_tests) in
+        subst (λ b. Vain line (1 + most_cost rest) (Tick (one_line (pos line)) ∷ followed (behind_fit w LineStart (only_if b start)) (visits y rest))) (sym e) (one-tick (one_line (pos line)) refl)
+
+    leaf-by : (a : Atom) (plain : Bool) → is_plain a ≡ plain → plain || (is_line_start a && later) ≡ true → Vain line (1 + most_cost rest) (behind (one a))
+    leaf-by a true is e = plain-vain a is
+    leaf-by LineStart false is e = start-vain e
+    leaf-by (Char c) false is e = absurd (cc)
+    leaf-by (Any takes_end) false is e = absurd (cc)
+    leaf-by (Is class negative takes_end) false is e = absurd (cc)
+    leaf-by (Set ranges) false is e = absurd (cc)
+    leaf-by LineEnd false is e = absurd (cc)
+    leaf-by LineStop false is e = absurd (cc)
+    leaf-by WordStart false is e = absurd (cc)
+    leaf-by WordStop false is e = absurd (cc)
+    leaf-by FileStart false is e = absurd (cc)
+    leaf-by FileStop false is e = absurd (cc)
+    leaf-by MatchStart false is e = absurd (cc)
+    leaf-by MatchStop false is e = absurd (cc)
+    leaf-by (Ref number) false is e = absurd (cc)
+    leaf-by (ExternalRef number) false is e = absurd (cc)
+
+    leaf-vain : (leaf : Shape) → takes_leaf later leaf ≡ true → Vain line (1 + most_cost rest) (behind leaf)
+    leaf-vain (one a) e = leaf-by a (is_plain a) refl e
+    leaf-vain empty e = absurd (cc)
+    leaf-vain (seq a b) e = absurd (cc)
+    leaf-vain (or a b) e = absurd (cc)
+    leaf-vain (and a b) e = absurd (cc)
+    leaf-vain (group part number) e = absurd (cc)
+    leaf-vain (external part number) e = absurd (cc)
+    leaf-vain (repeat part least most lazy) e = absurd (cc)
+    leaf-vain (ahead part negative) e = absurd (cc)
+    leaf-vain (before part negative limit) e = absurd (cc)
+    leaf-vain (whole part) e = absurd (cc)
+
+    piece-vain : (piece : Shape) → takes_piece later piece ≡ true → Vain line (2 * (most_cost rest + 1)) (behind piece)
+    piece-vain (one a) e =
+        let h = leaf-vain (one a) e in
+        record { none = h.none; cheap = omega (arith, h.cheap); seen = h.seen }
+    piece-vain (or a b) e =
+        let both = both_true (takes_leaf later a) (takes_leaf later b) e in
+        let h = vain-both line (1 + most_cost rest) (1 + most_cost rest) (behind a) (behind b) (leaf-vain a both.0) (leaf-vain b both.1) in
+        subst (Vain line (2 * (most_cost rest + 1))) (sym (followed-append (visits y a (way_from start)) (visits y b (way_from start)) (visits y rest)))
+        (record { none = h.none; cheap = omega (arith, h.cheap); seen = h.seen })
+    piece-vain empty e = absurd (cc)
+    piece-vain (seq a b) e = absurd (cc)
+    piece-vain (and a b) e = absurd (cc)
+    piece-vain (group part number) e = absurd (cc)
+    piece-vain (external part number) e = absurd (cc)
+    piece-vain (repeat part least most lazy) e = absurd (cc)
+    piece-vain (ahead part negative) e = absurd (cc)
+    piece-vain (before part negative limit) e = absurd (cc)
+    piece-vain (whole part) e = absurd (cc)
+
+  vain-told : (cost : ℕ) (marks : List Mark) → Vain line cost marks → IsInVain start cost false (answer_of marks)
+  vain-told cost marks h =
+      in-vain start (still false) 0 cost marks (record {
+        here = no-ways (λ v. v.at ≡ start) marks h.none;
+        few = omega (arith, h.none);
+        cheap = h.cheap;
+        none = λ n. h.none;
+        some = λ n. absurd (cc);
+        seen = h.seen;
+        before = λ n. absurd (cc);
       }) refl refl
 
-  piece-vain : (piece rest : Shape) → is_plain_piece piece ≡ true → Fails-on rest → InVain (seq piece rest) rest
-  piece-vain (one a) rest plain futile =
-      let w : Way = way_from start in
-      let l : Looked = lines_looked y w a in
-      let own = plain-looks y w a plain in
-      let f = visits y rest in
-      let moved : f (way_behind w next a) ++ [] ≡ f (way_from next) = append-nil _ ∙ ap f (plain-moves w next a plain) in
-      elim (still_of y.sets y.ignore key rest) as (λ o. still_of y.sets y.ignore key rest ≡ o → is_futile (verdict_of o) ≡ true → InVain (seq (one a) rest) rest) [
-        | None ↦ λ known f. absurd (cc)
-        | Some s ↦ λ known fails.
-            let is = fails-if s.reaches s.before s.surely_before fails in
-            let h = stills y key rest s known next (column-key y line (col + 1) inside) (way_from next) refl in
-            let none : ways_of (f (way_from next)) ≡ 0 = h.none is.0 in
-            elim (plain_fits y.sets y.ignore (character_at y.text start) a) as (λ b. fits y w a ≡ only_if b (behind_character start) → InVain (seq (one a) rest) rest) [
-              | false ↦ λ e. subst (λ o. IsInVain start (1 + most_cost rest) false (answer_of (Tick l ∷ followed (behind_fit w a o) f))) (sym e) (alone rest l own)
-              | true ↦ λ e.
-                  subst (λ o. IsInVain start (1 + most_cost rest) false (answer_of (Tick l ∷ followed (behind_fit w a o) f))) (sym e)
-                  (subst (λ m. IsInVain start (1 + most_cost rest) false (answer_of (Tick l ∷ m))) (sym moved)
-                  (in-vain start (still false) 0 (1 + most_cost rest) (Tick l ∷ f (way_from next)) (record {
-                    here = no-ways (λ v. v.at ≡ start) (f (way_from next)) none;
-                    few = omega (arith, none);
-                    cheap = omega (arith, h.cheap);
-                    none = λ n. none;
-                    some = λ n. absurd (cc);
-                    seen = (own, subst (λ b. AllTicks (IsSeen line b) (f (way_from next))) is.1 h.seen);
-                    before = λ n. absurd (cc);
-                  }) refl refl))
-            ] (fits-told y w a plain)
-      ] refl futile
-  piece-vain empty rest plain futile = absurd (cc)
-  piece-vain (seq a b) rest plain futile = absurd (cc)
-  piece-vain (or a b) rest plain futile = absurd (cc)
-  piece-vain (and a b) rest plain futile = absurd (cc)
-  piece-vain (group part number) rest plain futile = absurd (cc)
-  piece-vain (external part number) rest plain futile = absurd (cc)
-  piece-vain (repeat part least most lazy) rest plain futile = absurd (cc)
-  piece-vain (ahead part negative) rest plain futile = absurd (cc)
-  piece-vain (before part negative limit) rest plain futile = absurd (cc)
-  piece-vain (whole part) rest plain futile = absurd (cc)
-
-  node-vain : (node : Shape) → takes_first node ≡ true → Fails-on (second_of node) → InVain node (second_of node)
-  node-vain (seq a b) first futile = piece-vain a b first futile
+  node-vain : (node : Shape) → takes_first later node ≡ true → is_futile (verdict_of (still_of y.sets y.ignore key (second_of node))) ≡ true → IsInVain start (2 * (most_cost (second_of node) + 1)) false (answer_of (visits y node (way_from start)))
+  node-vain (seq a b) first futile =
+      vain-told (2 * (most_cost b + 1)) (visits y (seq a b) (way_from start)) (piece-vain b futile a first)
   node-vain empty first futile = absurd (cc)
   node-vain (one a) first futile = absurd (cc)
   node-vain (or a b) first futile = absurd (cc)
@@ -166,19 +234,18 @@ module _ (y : Context) (line col : ℕ) (inside : col + 1 ≤ length (line_at y.
   node-vain (before part negative limit) first futile = absurd (cc)
   node-vain (whole part) first futile = absurd (cc)
 
-pub after-futile : (sets : Sets) (budget : ℕ) (pattern : Pattern) (t : Text) (ignore : Bool) (l c number : ℕ) → c + 1 ≤ length (line_at t l) → key_numbered number ≡ key_of sets (line_at t l) (c + 1) →
+pub after-futile : (sets : Sets) (budget : ℕ) (pattern : Pattern) (t : Text) (ignore : Bool) (l c number : ℕ) → takes_first (nat_lt 0 c) pattern.tree.node ≡ true → c + 1 ≤ length (line_at t l) → key_numbered number ≡ key_of sets (line_at t l) (c + 1) →
     fails_after sets budget ignore number pattern ≡ true → IsFutile (attempt_by sets t pattern.tree ignore no_externals (place_at l c)) budget l
 unfolding attempt_by
-after-futile sets budget pattern t ignore l c number inside same e =
+after-futile sets budget pattern t ignore l c number first inside same e =
     let tree = pattern.tree in
     let a = both_true (nat_lt number 777) _ e in
-    let b = both_true (takes_first tree.node) _ a.1 in
-    let d = both_true (is_futile (verdict sets ignore (key_numbered number) (rest_tree tree))) _ b.1 in
+    let d = both_true (is_futile (verdict sets ignore (key_numbered number) (rest_tree tree))) _ a.1 in
     let x : Context = context_of sets t ignore no_externals in
     let y : Context = for_tree tree x in
     let at-key : is_futile (verdict sets ignore (key_of sets (line_at t l) (c + 1)) (rest_tree tree)) ≡ true = subst (λ (k : Key). is_futile (verdict sets ignore k (rest_tree tree)) ≡ true) same d.0 in
-    let cheap : failing_cost (rest_tree tree) + 1 ≤ budget = grind (arith, nat_tests, d.1) in
-    let h = node-vain y l c inside tree.node b.0 at-key in
+    let cheap : 2 * (failing_cost (rest_tree tree) + 1) ≤ budget = grind (arith, nat_tests, d.1) in
+    let h = node-vain y l c inside tree.node first at-key in
     (ap (option_map (match_of t (place_at l c))) h.way, omega (arith, h.cost, cheap), h.looked)
 
 -- what was answered of a first pattern is true of the item

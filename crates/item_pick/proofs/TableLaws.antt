@@ -37,8 +37,11 @@ use Rattle.item_pick.specs.Runs.{Covers, TellsOf}
 use Rattle.item_pick.specs.Screens.{HoldsLine, HoldsLines, IsIdle, IsLater, IsSettled}
 use Rattle.item_pick.specs.Standing.{first_pattern, has_one_start, IsFirst, IsPatternOf}
 use Rattle.item_pick.specs.Started.{admits, is_free}
-use Rattle.item_pick.specs.Following.{FailsAfterAt, fails_after}
+use Rattle.item_pick.specs.Following.{FailsAfterAt, fails_after, takes_first}
 use Rattle.item_pick.specs.Tables.{fails, is_vain, passes, EndsStand, IsAnchored, IsEnough, IsMissed, IsNextAt, IsNextIn, IsNumberAt, IsVainAt, Lacks, ListStands, MemoryStands, RisesTo, RunStands, StaysOut, TablesStand}
+use Rattle.syn_base.specs.Looked.{one_line}
+use Rattle.item_pick.specs.Behind.{IsVainFrom}
+use Rattle.item_pick.proofs.BehindLaws.{futile-vain}
 use Rattle.item_pick.proofs.MatchLaws.{no_start}
 use Rattle.item_pick.proofs.QuietLaws.{earlier}
 use Rattle.item_pick.proofs.ScreenLaws.{each_held, futile_idle}
@@ -52,7 +55,7 @@ IsLaw r =
 -- the law of what follows a first atom
 abbrev pub IsAfterLaw : Rules → Type 0
 IsAfterLaw r =
-    (pattern : Pattern) (t : Text) (ignore : Bool) (l c number : ℕ) → c + 1 ≤ length (line_at t l) → key_numbered number ≡ key_of r.sets (line_at t l) (c + 1) →
+    (pattern : Pattern) (t : Text) (ignore : Bool) (l c number : ℕ) → takes_first (nat_lt 0 c) pattern.tree.node ≡ true → c + 1 ≤ length (line_at t l) → key_numbered number ≡ key_of r.sets (line_at t l) (c + 1) →
     fails_after r.sets r.budget ignore number pattern ≡ true → IsFutile (r.attempt t pattern.tree ignore no_externals (place_at l c)) r.budget l
 
 module _ (r : Rules) (law : IsLaw r) (t : Text) (p : Place) (i : ItemId) (pattern : Pattern) (k : Looked) (held : HoldsLine k p.line) where
@@ -66,7 +69,7 @@ module _ (r : Rules) (law : IsLaw r) (t : Text) (p : Place) (i : ItemId) (patter
   missed_idle after c within missed =
       elim missed [
         | inl e ↦ screened_idle c within e
-        | inr m ↦ futile_idle r t i pattern p c r.budget k held (after pattern t (item_of r.items i).ignore p.line c m.0 m.1.0.0 m.1.0.1 m.1.1) (omega arith)
+        | inr m ↦ futile_idle r t i pattern p c r.budget k held (after pattern t (item_of r.items i).ignore p.line c m.1.0 m.0 m.1.1.0.0 m.1.1.0.1 m.1.1.1) (omega arith)
       ]
 
 -- ---- what a row says
@@ -247,12 +250,12 @@ nothing_known r t l i lines = record {
 }
 
 -- missed by what stands one column behind
-pub missed_after : (r : Rules) (memory : PickMemory) (i : ItemId) (pattern : Pattern) → IsFirst r i pattern → (col number : ℕ) →
+pub missed_after : (r : Rules) (memory : PickMemory) (i : ItemId) (pattern : Pattern) → IsFirst r i pattern → (col number : ℕ) → takes_first (nat_lt 0 col) pattern.tree.node ≡ true →
     ((t : Text) (l : ℕ) → MemoryStands r t l memory → IsNumberAt r (line_at t l) (col + 1) number) → (result : Result Bool Memory) →
     IfOk result (λ vain. IsTrue vain → FailsAfterAt r number i) →
     IfOk result (λ missed. IsTrue missed → (t : Text) (l : ℕ) → MemoryStands r t l memory → IsMissed r (line_at t l) i pattern col)
-missed_after r memory i pattern first col number key (Ok vain) h = λ e t l stands. inr (number, (key t l stands, h e pattern first))
-missed_after r memory i pattern first col number key (Err m) h = tt
+missed_after r memory i pattern first col number takes key (Ok vain) h = λ e t l stands. inr (takes, (number, (key t l stands, h e pattern first)))
+missed_after r memory i pattern first col number takes key (Err m) h = tt
 
 -- what stands of a line stands where only tables were made
 pub still_stands : (r : Rules) (t : Text) (l : ℕ) (a b : PickMemory) → TablesStand r b → b.numbers ≡ a.numbers → b.runs ≡ a.runs → MemoryStands r t l a → MemoryStands r t l b
@@ -374,3 +377,18 @@ pub missed_later : (r : Rules) (a b : PickMemory) → TablesStand r b → b.numb
     IfOk result (λ missed. IsTrue missed → (t : Text) (l : ℕ) → MemoryStands r t l a → IsMissed r (line_at t l) i pattern col)
 missed_later r a b tables numbers runs i pattern col (Ok missed) h = λ e t l stands. h e t l (still_stands r t l a b tables numbers runs stands)
 missed_later r a b tables numbers runs i pattern col (Err m) h = tt
+
+-- where an item is missed from a column, an attempt there finds nothing, and its line is looked at
+missed_futile : (r : Rules) → IsLaw r → IsAfterLaw r → (t : Text) (i : ItemId) (pattern : Pattern) (l c : ℕ) → c ≤ length (line_at t l) → IsMissed r (line_at t l) i pattern c → IsFutile (r.attempt t pattern.tree (item_of r.items i).ignore no_externals (place_at l c)) r.budget l
+missed_futile r law after t i pattern l c within missed =
+    elim missed [
+      | inl e ↦ law pattern.tree t (item_of r.items i).ignore l c within e
+      | inr m ↦ after pattern t (item_of r.items i).ignore l c m.1.0 m.0 m.1.1.0.0 m.1.1.0.1 m.1.1.1
+    ]
+
+pub missed_vain : (r : Rules) → IsLaw r → IsAfterLaw r → (t : Text) (i : ItemId) (pattern : Pattern) (p : Place) (c : ℕ) → may_start_at pattern (length (line_at t p.line)) p.col c ≡ true → c ≤ length (line_at t p.line) → (missed : Bool) → (missed ≡ true → IsMissed r (line_at t p.line) i pattern c) →
+    (o : Option Looked) → IfSome o (λ lines. (missed ≡ true) × (lines ≡ one_line (pos p.line))) → IfSome o (λ lines. IsVainFrom r t p i pattern lines c)
+missed_vain r law after t i pattern p c may within missed is None h = tt
+missed_vain r law after t i pattern p c may within missed is (Some lines) h =
+    subst (λ k. IsVainFrom r t p i pattern k c) (sym h.1)
+    (futile-vain r t i pattern p c (one_line (pos p.line)) may (missed_futile r law after t i pattern p.line c within (is h.0)))

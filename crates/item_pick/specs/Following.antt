@@ -1,9 +1,11 @@
 -- Patterns that begin with an atom of one character: what an attempt does at a column behind which what
 -- follows the atom fails.
-use Rattle.std.specs.Prelude.{◌≡◌, ◌&&◌, ℕ, Bool, true, false, nat_lt, Option, Some, None}
+use Rattle.std.specs.Prelude.{◌≡◌, ◌&&◌, ◌||◌, ◌+◌, ◌*◌, ℕ, Bool, true, false, not, nat_lt, Option, Some, None}
 use Rattle.char_class.specs.declared.sets.Sets.{Sets}
 use Rattle.syn_base.specs.declared.places.ItemId.{ItemId}
-use Rattle.vim_pattern.specs.Shape.{Shape, one, seq}
+use Rattle.pattern_items.specs.declared.atom.Atom.{Atom}
+use Rattle.pattern_items.specs.declared.atom.Atom.TheVariants.{LineStart}
+use Rattle.vim_pattern.specs.Shape.{Shape, one, or, seq}
 use Rattle.syntax_set.specs.declared.item.Pattern.{Pattern}
 use Rattle.paint_rules.specs.Rules.{Rules, item_of}
 use Rattle.pattern_screens.specs.Bounds.{failing_cost}
@@ -14,22 +16,33 @@ use Rattle.item_pick.specs.Behind.{rest_tree}
 use Rattle.item_pick.specs.Quiet.{item_numbered}
 use Rattle.item_pick.specs.Standing.{first_pattern, IsFirst}
 
-abbrev pub is_plain_piece : Shape → Bool
-is_plain_piece (one a) = is_plain a
-is_plain_piece _ = false
+abbrev pub is_line_start : Atom → Bool
+is_line_start LineStart = true
+is_line_start _ = false
 
--- it begins with an atom of one character
-abbrev pub takes_first : Shape → Bool
-takes_first (seq a b) = is_plain_piece a
-takes_first _ = false
+-- an atom of one character; or the start of a line, where a place isn't that
+abbrev pub takes_leaf : Bool → Shape → Bool
+takes_leaf later (one a) = is_plain a || (is_line_start a && later)
+takes_leaf later _ = false
 
--- an attempt at the column before one whose key has this number has no way, looks at its line alone,
--- and is within the budget
+-- one of these, or one of two
+abbrev pub takes_piece : Bool → Shape → Bool
+takes_piece later (one a) = takes_leaf later (one a)
+takes_piece later (or a b) = takes_leaf later a && takes_leaf later b
+takes_piece later _ = false
+
+-- it begins with such a piece
+abbrev pub takes_first : Bool → Shape → Bool
+takes_first later (seq a b) = takes_piece later a
+takes_first later _ = false
+
+-- where the first piece takes a character, an attempt at the column before one whose key has this number
+-- has no way, looks at its line alone, and is within the budget
 abbrev pub fails_after : Sets → ℕ → Bool → ℕ → Pattern → Bool
 fails_after sets budget ignore number pattern =
-    nat_lt number 777 && (takes_first pattern.tree.node
+    nat_lt number 777
     && (is_futile (verdict sets ignore (key_numbered number) (rest_tree pattern.tree))
-    && nat_lt (failing_cost (rest_tree pattern.tree)) budget))
+    && not (nat_lt budget (2 * (failing_cost (rest_tree pattern.tree) + 1))))
 
 -- the same as a test, of a pattern, if there is one, and of the first one of an item, by its number
 abbrev pub some_fails_after : Sets → ℕ → Bool → ℕ → Option Pattern → Bool

@@ -26,7 +26,7 @@ use Rattle.item_pick.specs.declared.runs.Run.{Run}
 use Rattle.item_pick.specs.declared.runs.Runs.{Runs}
 use Rattle.item_pick.specs.declared.tables.Row.{Row}
 use Rattle.item_pick.specs.Behind.{first_fails_behind}
-use Rattle.item_pick.specs.Following.{fails_after, first_fails_after}
+use Rattle.item_pick.specs.Following.{fails_after, first_fails_after, takes_first}
 use Rattle.item_pick.specs.Quiet.{item_numbered, IsPassed}
 use Rattle.item_pick.specs.Screens.{IsSettled}
 use Rattle.item_pick.specs.Standing.{first_pattern, IsFirst, IsPatternOf}
@@ -138,8 +138,8 @@ IsNumberAt r line col number =
 abbrev pub IsMissed : Rules → List ℕ → ItemId → Pattern → ℕ → Type 0
 IsMissed r line i pattern c =
     (passes r.sets r.budget pattern.tree (item_of r.items i).ignore line c ≡ false)
-    ⊎ ((number : ℕ) × (IsNumberAt r line (c + 1) number
-    × (fails_after r.sets r.budget (item_of r.items i).ignore number pattern ≡ true)))
+    ⊎ ((takes_first (nat_lt 0 c) pattern.tree.node ≡ true) × ((number : ℕ) × (IsNumberAt r line (c + 1) number
+    × (fails_after r.sets r.budget (item_of r.items i).ignore number pattern ≡ true))))
 
 -- what is kept is true of these rules
 pub record TablesStand (r : Rules) (memory : PickMemory) : Type 0 where

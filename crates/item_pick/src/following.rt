@@ -1,9 +1,10 @@
-//! Patterns that begin with an atom of one character, at columns behind which what follows it fails.
-ghost use Rattle.std.specs.Prelude.{◌≡◌, nat_lt, IfOk, IsTrue, true};
+//! Patterns that begin with an atom of one character, or one of two, at columns behind which what
+//! follows it fails.
+ghost use Rattle.std.specs.Prelude.{◌≡◌, ◌+◌, ◌*◌, nat_lt, not, IfOk, IfSome, IsTrue, true};
 ghost use Rattle.pattern_screens.specs.Bounds.{failing_cost};
 ghost use Rattle.pattern_screens.specs.PlainAtoms.{is_plain};
 ghost use Rattle.vim_pattern.specs.Shape.{bare};
-ghost use Rattle.item_pick.specs.Following.{fails_after, is_plain_piece, takes_first};
+ghost use Rattle.item_pick.specs.Following.{fails_after, takes_first, takes_leaf, takes_piece};
 
 use crate::asked::Asked;
 use crate::behind::rest_of;
@@ -31,32 +32,54 @@ fn is_plain(atom: &Atom) -> bool
     }
 }
 
-/// Whether a piece is such an atom.
-fn is_plain_piece(piece: &Node) -> bool
-    ensures { IsTrue result → is_plain_piece (bare piece.now) ≡ true }
+/// Whether a piece is such an atom, or a line start, where something stands before it.
+fn takes_leaf(later: bool, piece: &Node) -> bool
+    ensures { IsTrue result → takes_leaf later (bare piece.now) ≡ true }
 {
     match piece {
+        Node::One(Atom::LineStart) => later,
         Node::One(atom) => is_plain(atom),
         _ => false,
     }
 }
 
-/// Whether a pattern begins with such an atom.
-pub(crate) fn takes_first(node: &Node) -> bool
-    ensures { IsTrue result → takes_first (bare node.now) ≡ true }
+/// Whether a piece is such a one, or one of two.
+fn takes_piece(later: bool, piece: &Node) -> bool
+    ensures { IsTrue result → takes_piece later (bare piece.now) ≡ true }
 {
-    match node {
-        Node::Seq(first, _) => is_plain_piece(first),
+    match piece {
+        Node::One(_) => takes_leaf(later, piece),
+        Node::Or(one, other) => takes_leaf(later, one) && takes_leaf(later, other),
         _ => false,
     }
 }
 
-/// Whether the first atom and what follows it cost no more than a budget.
-fn is_enough(budget: u64, rest: &Tree) -> bool
-    ensures { IsTrue result → nat_lt (failing_cost rest.now) budget ≡ true }
+/// Whether a pattern begins with such a piece.
+pub(crate) fn takes_first(tree: &Tree, later: bool) -> bool
+    ensures { IsTrue result → takes_first later tree.now.node ≡ true }
 {
-    match failing_cost(rest) {
-        Some(cost) => cost < budget,
+    match &tree.node {
+        Node::Seq(first, _) => takes_piece(later, first),
+        _ => false,
+    }
+}
+
+/// What two attempts cost of an atom and what follows it, which costs so much.
+fn cost_of_two(rest: u64) -> Option<u64>
+    ensures { IfSome result (λ cost. cost ≡ 2 * (rest + 1)) }
+{
+    rest.checked_add(1)?.checked_mul(2)
+}
+
+/// Whether the first piece and what follows it cost no more than a budget.
+fn is_enough(budget: u64, rest: &Tree) -> bool
+    ensures { IsTrue result → not (nat_lt budget (2 * (failing_cost rest.now + 1))) ≡ true }
+{
+    let Some(cost) = failing_cost(rest) else {
+        return false;
+    };
+    match cost_of_two(cost) {
+        Some(cost) => cost <= budget,
         None => false,
     }
 }
@@ -74,7 +97,7 @@ impl Asked<'_> {
         ensures { IfOk result (λ fails. IsTrue fails → fails_after self.now.parts.now.sets.now
             self.now.budget ignore number pattern.now ≡ true) }
     {
-        if number >= KEYS || !takes_first(&pattern.tree.node) {
+        if number >= KEYS {
             return Ok(false);
         }
         match rest_of(alloc, &pattern.tree)? {

@@ -1,5 +1,6 @@
 //! What is kept of a syntax: which items may start by what stands at a column.
-ghost use Rattle.std.specs.Prelude.{◌≡◌, ◌<◌, ◌≤◌, ◌+◌, ◌^◌, ℕ, List, length, reverse, get_or, nat_lt, IfOk, IfSome, IsTrue};
+ghost use Rattle.std.specs.Prelude.{◌≡◌, ◌<◌, ◌≤◌, ◌+◌, ◌^◌, ℕ, List, length, reverse, get_or, nat_lt, IfOk, IfSome, IsTrue, true, pos};
+ghost use Rattle.syn_base.specs.Looked.{one_line};
 ghost use Rattle.std.specs.List.{All};
 ghost use Rattle.std.specs.List.Sorted.{IsNonDecreasing};
 ghost use Rattle.match_rules.specs.Ways.{Text, line_at};
@@ -364,7 +365,7 @@ impl PickMemory {
             IsMissed (rules_in asked.now.parts.now asked.now.budget) (line_at t l) id pattern.now
             col) }
     {
-        if !takes_first(&pattern.tree.node) {
+        if !takes_first(&pattern.tree, col > 0) {
             return Ok(false);
         }
         let Some(after) = col.checked_add(1) else {
@@ -569,13 +570,18 @@ impl Memo<Asked<'_>> for PickMemory {
         pattern: &Pattern,
         col: usize,
     ) -> Result<Option<Looked>, Memory> {
-        if start != 0 || !begins_behind(&pattern.tree) || wanders(pattern) {
+        if start != 0 || wanders(pattern) {
             return Ok(None);
         }
         let line = picking.at.line;
-        if !may_start(pattern, col, picking.at.col, picking.last())
-            || !are_short(picking.lines, line)
-        {
+        if !may_start(pattern, col, picking.at.col, picking.last()) {
+            return Ok(None);
+        }
+        if !begins_behind(&pattern.tree) {
+            let missed = self.is_missed_after(picking.syntax, id, pattern, col)?;
+            return Ok(own_line_if(missed, line));
+        }
+        if !are_short(picking.lines, line) {
             return Ok(None);
         }
         match self.number_at(col) {
@@ -757,5 +763,17 @@ fn start_of(starts: &mut Vec<usize>, choice: usize, next: usize) -> usize {
 fn put(list: &mut Vec<usize>, place: usize, value: usize) {
     if place < list.len() {
         list[place] = value;
+    }
+}
+
+/// A line, if it tells that an attempt is in vain.
+fn own_line_if(missed: bool, line: usize) -> Option<Looked>
+    requires { line < 2 ^ 63 }
+    ensures { IfSome result (λ lines. (missed ≡ true) × (lines ≡ one_line (pos line))) }
+{
+    if missed {
+        Some(Looked::one(line as i64))
+    } else {
+        None
     }
 }

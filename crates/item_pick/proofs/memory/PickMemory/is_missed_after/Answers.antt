@@ -11,6 +11,7 @@ returns-in-Some-number_at-clause-missed c =
     let number = c.in-Some-number_at.number in
     let behind : c.in-Some.after ≡ c.args.col + 1 = search rules in
     missed_after r c.args.self.now c.args.id c.args.pattern.now c.requires.first c.args.col number
+    (c.takes_first.ensures (search rules))
     (λ t l stands. subst (λ n. IsNumberAt r (line_at t l) n number) behind
     (c.in-Some-number_at.ensures r t l stands))
     c.is_vain_before.result c.is_vain_before.ensures.vain
