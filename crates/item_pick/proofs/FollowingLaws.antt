@@ -34,8 +34,8 @@ use Rattle.pattern_screens.proofs.Stands.{AllTicks, AllTicks-append, IsSeen, bot
 use Rattle.pattern_screens.proofs.StillAtoms.{column-key}
 use Rattle.item_pick.specs.Attempts.{IsFutile}
 use Rattle.item_pick.specs.Behind.{rest_tree, second_of}
-use Rattle.item_pick.specs.Following.{FailsAfterAt, fails_after, first_fails_after, is_line_start, some_fails_after, takes_first, takes_leaf, takes_piece}
-use Rattle.item_pick.specs.Standing.{IsFirst}
+use Rattle.item_pick.specs.Following.{FailsAfterAt, fails_after, first_fails_after, idles_before, is_line_start, sits_by, some_fails_after, some_idle, takes_first, takes_leaf, takes_piece}
+use Rattle.item_pick.specs.Standing.{has_one_start, IsFirst}
 
 -- a verdict of failing is that of a part that reaches nothing, and doesn't see the line before
 fails-if : (reaches sees sure : Bool) → is_futile (if reaches then Passes else (if not sees then Fails else (if sure then FailsSeeingBefore else Passes))) ≡ true → (reaches ≡ false) × (sees ≡ false)
@@ -258,3 +258,11 @@ after-told r i number ignore same pattern first is told e =
 pub after-by : (r : Rules) (i : ItemId) (number : ℕ) → first_fails_after r number i.0 ≡ true → FailsAfterAt r number i
 after-by r i number told pattern first =
     subst (λ (o : Option Pattern). some_fails_after r.sets r.budget (item_of r.items i).ignore number o ≡ true) first told
+
+pub idle-told : (r : Rules) (i : ItemId) (number : ℕ) (ignore : Bool) → ignore ≡ (item_of r.items i).ignore → (pattern : Pattern) → IsFirst r i pattern → (is sits : Bool) →
+    (is ≡ true → fails_after r.sets r.budget ignore number pattern ≡ true) → (sits ≡ true → (has_one_start (item_of r.items i).kind && sits_by pattern) ≡ true) → (is && sits) ≡ true → idles_before r number i.0 ≡ true
+idle-told r i number ignore same pattern first is sits told sat e =
+    let a = both_true is sits e in
+    let b = both_true (has_one_start (item_of r.items i).kind) (sits_by pattern) (sat a.1) in
+    let fails : fails_after r.sets r.budget (item_of r.items i).ignore number pattern ≡ true = subst (λ c. fails_after r.sets r.budget c number pattern ≡ true) same (told a.0) in
+    λ j. b.0 j && subst (λ (o : Option Pattern). some_idle r.sets r.budget (item_of r.items i).ignore number o ≡ true) (sym first) (λ k. b.1 k && fails k) j

@@ -37,7 +37,7 @@ use Rattle.item_pick.specs.Runs.{Covers, TellsOf}
 use Rattle.item_pick.specs.Screens.{HoldsLine, HoldsLines, IsIdle, IsLater, IsSettled}
 use Rattle.item_pick.specs.Standing.{first_pattern, has_one_start, IsFirst, IsPatternOf}
 use Rattle.item_pick.specs.Started.{admits, is_free}
-use Rattle.item_pick.specs.Following.{FailsAfterAt, fails_after, takes_first}
+use Rattle.item_pick.specs.Following.{FailsAfterAt, fails_after, idles_before, sits_by, some_idle, takes_first}
 use Rattle.item_pick.specs.Tables.{fails, is_vain, passes, EndsStand, IsAnchored, IsEnough, IsMissed, IsNextAt, IsNextIn, IsNumberAt, IsVainAt, Lacks, ListStands, MemoryStands, RisesTo, RunStands, StaysOut, TablesStand}
 use Rattle.syn_base.specs.Looked.{one_line}
 use Rattle.item_pick.specs.Behind.{IsVainFrom}
@@ -104,6 +104,45 @@ module _ (r : Rules) (law : IsLaw r) (t : Text) (p : Place) (number : ℕ) (is :
   stays_quiet floor k held pattern its c from within =
       column_out pattern its k held c within (may_start_at pattern (length (line_at t p.line)) p.col c) refl
 
+zero_below : {A : Type 0} (xs : List A) (n : ℕ) (x : A) → nat_eq (length xs) 1 ≡ true → Some x ≡ slice_get xs n → slice_get xs 0 ≡ Some x
+zero_below [] n x e is = absurd (cc)
+zero_below (y ∷ ys) zero x e is = sym is
+zero_below (y ∷ []) (suc n) x e is = absurd (cc)
+zero_below (y ∷ z ∷ zs) (suc n) x e is =
+    let h : length (y ∷ z ∷ zs) ≡ 1 = grind (arith, nat_tests) in
+    absurd (omega (arith, h))
+
+-- where an item starts by one pattern, that is the first one
+only_first : (kind : ItemKind) → has_one_start kind ≡ true → (pattern : Pattern) → IsPatternOf kind pattern → first_pattern kind ≡ Some pattern
+only_first Keyword e pattern its = absurd its
+only_first (Match p) e pattern its = ap (λ (q : Pattern). Some q) its
+only_first (Region starts skip ends) e pattern its = zero_below starts its.0 pattern e its.1
+
+-- nor has one that starts by one pattern, where what follows its first piece fails one column behind
+module _ (r : Rules) (after : IsAfterLaw r) (t : Text) (p : Place) (number : ℕ) (key : IsNumberAt r (line_at t p.line) (p.col + 1) number) (later : 0 < p.col) (i : ItemId) (idle : idles_before r number i.0 ≡ true) where
+  module _ (pattern : Pattern) (its : IsPatternOf (item_of r.items i).kind pattern) (k : Looked) (held : HoldsLine k p.line) (c : ℕ) where
+    own-idle : (sits_by pattern && fails_after r.sets r.budget (item_of r.items i).ignore number pattern) ≡ true
+    own-idle =
+        let a = both_true (has_one_start (item_of r.items i).kind) _ idle in
+        subst (λ (o : Option Pattern). some_idle r.sets r.budget (item_of r.items i).ignore number o ≡ true) (only_first (item_of r.items i).kind a.0 pattern its) a.1
+
+    column_idle : (b : Bool) → may_start_at pattern (length (line_at t p.line)) p.col c ≡ b → IsIdle (match_from r t i pattern p) k c
+    column_idle false e = ap (looked_first (Some k)) (no_start r t i pattern p c e)
+    column_idle true e =
+        let tree = pattern.tree in
+        let a = both_true (sits_by pattern) _ own-idle in
+        let b = both_true (not tree.moves_start) _ a.0 in
+        let d = both_true (is_none pattern.ms) _ b.1 in
+        let here : c ≡ p.col = here_by (length (line_at t p.line)) p.col c tree.moves_start pattern.ms b.0 d.0 e in
+        let some : nat_lt 0 p.col ≡ true = grind (arith, nat_tests, later) in
+        let takes : takes_first (nat_lt 0 p.col) tree.node ≡ true = subst (λ n. takes_first n tree.node ≡ true) (sym some) d.1 in
+        subst (λ n. IsIdle (match_from r t i pattern p) k n) (sym here)
+        (futile_idle r t i pattern p p.col r.budget k held (after pattern t (item_of r.items i).ignore p.line p.col number takes key.0 key.1 a.1) (omega arith))
+
+  pub idle_quiet : (floor : ℕ) (k : Looked) → HoldsLine k p.line → IsQuiet r t p floor k i
+  idle_quiet floor k held pattern its c from within =
+      column_idle pattern its k held c (may_start_at pattern (length (line_at t p.line)) p.col c) refl
+
 -- what a row leaves, of the admitted items
 pub next_at : (r : Rules) → IsLaw r → (t : Text) (p : Place) (number floor : ℕ) (k : Looked) → HoldsLine k p.line → IsNumberAt r (line_at t p.line) p.col number →
     (tried : List ItemId) (choice : Choice) (list : List ℕ) → ListStands r choice number list →
@@ -163,20 +202,6 @@ same_some {A = A} a b e = ap (λ (o : Option A). elim o [ None ↦ a | Some x �
 -- an item has one first pattern
 pub one_first : (r : Rules) (i : ItemId) (a b : Pattern) → IsFirst r i a → IsFirst r i b → a ≡ b
 one_first r i a b e f = same_some a b (sym e ∙ f)
-
-zero_below : {A : Type 0} (xs : List A) (n : ℕ) (x : A) → nat_eq (length xs) 1 ≡ true → Some x ≡ slice_get xs n → slice_get xs 0 ≡ Some x
-zero_below [] n x e is = absurd (cc)
-zero_below (y ∷ ys) zero x e is = sym is
-zero_below (y ∷ []) (suc n) x e is = absurd (cc)
-zero_below (y ∷ z ∷ zs) (suc n) x e is =
-    let h : length (y ∷ z ∷ zs) ≡ 1 = grind (arith, nat_tests) in
-    absurd (omega (arith, h))
-
--- where an item starts by one pattern, that is the first one
-only_first : (kind : ItemKind) → has_one_start kind ≡ true → (pattern : Pattern) → IsPatternOf kind pattern → first_pattern kind ≡ Some pattern
-only_first Keyword e pattern its = absurd its
-only_first (Match p) e pattern its = ap (λ (q : Pattern). Some q) its
-only_first (Region starts skip ends) e pattern its = zero_below starts its.0 pattern e its.1
 
 pub enough_by : (r : Rules) (i : ItemId) (pattern : Pattern) (col : ℕ) → has_one_start (item_of r.items i).kind ≡ true → IsFirst r i pattern → (o : Option ℕ) →
     IfSome o (λ least. (floor : ℕ) → least ≤ floor → col ≤ floor - pattern.lc) → IfSome o (IsEnough r i col)

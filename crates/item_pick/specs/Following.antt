@@ -1,6 +1,6 @@
 -- Patterns that begin with an atom of one character: what an attempt does at a column behind which what
 -- follows the atom fails.
-use Rattle.std.specs.Prelude.{◌≡◌, ◌&&◌, ◌||◌, ◌+◌, ◌*◌, ℕ, Bool, true, false, not, nat_lt, Option, Some, None}
+use Rattle.std.specs.Prelude.{◌≡◌, ◌&&◌, ◌||◌, ◌+◌, ◌*◌, ℕ, Bool, true, false, not, nat_lt, is_none, Option, Some, None}
 use Rattle.char_class.specs.declared.sets.Sets.{Sets}
 use Rattle.syn_base.specs.declared.places.ItemId.{ItemId}
 use Rattle.pattern_items.specs.declared.atom.Atom.{Atom}
@@ -14,7 +14,7 @@ use Rattle.pattern_screens.specs.PlainAtoms.{is_plain}
 use Rattle.pattern_screens.specs.Screens.{is_futile, verdict}
 use Rattle.item_pick.specs.Behind.{rest_tree}
 use Rattle.item_pick.specs.Quiet.{item_numbered}
-use Rattle.item_pick.specs.Standing.{first_pattern, IsFirst}
+use Rattle.item_pick.specs.Standing.{first_pattern, has_one_start, IsFirst}
 
 abbrev pub is_line_start : Atom → Bool
 is_line_start LineStart = true
@@ -59,3 +59,21 @@ abbrev pub FailsAfterAt : Rules → ℕ → ItemId → Type 0
 FailsAfterAt r number i =
     (pattern : Pattern) → IsFirst r i pattern →
     fails_after r.sets r.budget (item_of r.items i).ignore number pattern ≡ true
+
+-- a match by the pattern begins where its item starts, and with a piece of one character
+abbrev pub sits_by : Pattern → Bool
+sits_by pattern =
+    not pattern.tree.moves_start && (is_none pattern.ms && takes_first true pattern.tree.node)
+
+abbrev pub some_idle : Sets → ℕ → Bool → ℕ → Option Pattern → Bool
+some_idle sets budget ignore number None = true
+some_idle sets budget ignore number (Some pattern) =
+    sits_by pattern && fails_after sets budget ignore number pattern
+
+-- an item that starts by one such pattern can't start at the column before one whose key has this number,
+-- unless that is a line's first
+abbrev pub idles_before : Rules → ℕ → ℕ → Bool
+idles_before r number item =
+    has_one_start (item_of r.items (item_numbered item)).kind
+    && some_idle r.sets r.budget (item_of r.items (item_numbered item)).ignore number
+    (first_pattern (item_of r.items (item_numbered item)).kind)

@@ -26,7 +26,7 @@ use Rattle.item_pick.specs.declared.runs.Run.{Run}
 use Rattle.item_pick.specs.declared.runs.Runs.{Runs}
 use Rattle.item_pick.specs.declared.tables.Row.{Row}
 use Rattle.item_pick.specs.Behind.{first_fails_behind}
-use Rattle.item_pick.specs.Following.{fails_after, first_fails_after, takes_first}
+use Rattle.item_pick.specs.Following.{fails_after, first_fails_after, idles_before, takes_first}
 use Rattle.item_pick.specs.Quiet.{item_numbered, IsPassed}
 use Rattle.item_pick.specs.Screens.{IsSettled}
 use Rattle.item_pick.specs.Standing.{first_pattern, IsFirst, IsPatternOf}
@@ -148,6 +148,7 @@ pub record TablesStand (r : Rules) (memory : PickMemory) : Type 0 where
   pub vains : AnswersStand (is_first_vain r) memory.vains
   pub behinds : AnswersStand (first_fails_behind r) memory.behinds
   pub afters : AnswersStand (first_fails_after r) memory.afters
+  pub idles : AnswersStand (idles_before r) memory.idles
   pub shut : AnswersStand (is_shut_at r.items r.sets r.budget) memory.shut
   pub anchors : All (AnchorStands r) memory.anchors.list.items
 

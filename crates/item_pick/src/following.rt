@@ -1,17 +1,20 @@
 //! Patterns that begin with an atom of one character, or one of two, at columns behind which what
 //! follows it fails.
-ghost use Rattle.std.specs.Prelude.{◌≡◌, ◌+◌, ◌*◌, nat_lt, not, IfOk, IfSome, IsTrue, true};
+ghost use Rattle.std.specs.Prelude.{◌≡◌, ◌&&◌, ◌+◌, ◌*◌, nat_lt, not, IfOk, IfSome, IsTrue, true};
 ghost use Rattle.pattern_screens.specs.Bounds.{failing_cost};
 ghost use Rattle.pattern_screens.specs.PlainAtoms.{is_plain};
 ghost use Rattle.vim_pattern.specs.Shape.{bare};
-ghost use Rattle.item_pick.specs.Following.{fails_after, takes_first, takes_leaf, takes_piece};
+ghost use Rattle.paint_rules.specs.Rules.{item_of};
+ghost use Rattle.item_pick.specs.Following.{fails_after, sits_by, takes_first, takes_leaf, takes_piece};
+ghost use Rattle.item_pick.specs.PartsSeen.{rules_in};
+ghost use Rattle.item_pick.specs.Standing.{has_one_start, IsItem};
 
 use crate::asked::Asked;
 use crate::behind::rest_of;
 use pattern_items::Atom;
 use pattern_screens::{KEYS, Key, failing_cost, screen};
 use std::alloc::Global;
-use syn_base::Memory;
+use syn_base::{ItemId, Memory};
 use syntax_set::Pattern;
 use vim_pattern::{Node, Tree};
 
@@ -85,6 +88,20 @@ fn is_enough(budget: u64, rest: &Tree) -> bool
 }
 
 impl Asked<'_> {
+    /// Whether an item starts by this pattern alone, where its match begins, and that begins with a piece
+    /// of one character.
+    pub(crate) fn sits(&self, id: ItemId, pattern: &Pattern) -> bool
+        requires { IsItem (rules_in self.now.parts.now self.now.budget) id }
+        ensures { IsTrue result →
+            (has_one_start (item_of (rules_in self.now.parts.now self.now.budget).items id).kind
+            && sits_by pattern.now) ≡ true }
+    {
+        self.has_one_start(id)
+            && !pattern.tree.moves_start
+            && pattern.ms.is_none()
+            && takes_first(&pattern.tree, true)
+    }
+
     /// Whether an attempt is known to fail within the budget, and to look at its line alone, at the
     /// column before one whose key has a number.
     pub(crate) fn fails_after(

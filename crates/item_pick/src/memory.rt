@@ -1,5 +1,5 @@
 //! What is kept of a syntax: which items may start by what stands at a column.
-ghost use Rattle.std.specs.Prelude.{◌≡◌, ◌<◌, ◌≤◌, ◌+◌, ◌^◌, ℕ, List, length, reverse, get_or, nat_lt, IfOk, IfSome, IsTrue, true, pos};
+ghost use Rattle.std.specs.Prelude.{◌≡◌, ◌&&◌, ◌<◌, ◌≤◌, ◌+◌, ◌^◌, ℕ, List, length, reverse, get_or, nat_lt, IfOk, IfSome, IsTrue, true, pos};
 ghost use Rattle.syn_base.specs.Looked.{one_line};
 ghost use Rattle.std.specs.List.{All};
 ghost use Rattle.std.specs.List.Sorted.{IsNonDecreasing};
@@ -61,6 +61,8 @@ pub struct PickMemory {
     behinds: KeyAnswers,
     /// Whether they are in vain one column before.
     afters: KeyAnswers,
+    /// Whether an item can't start one column before.
+    idles: KeyAnswers,
     /// Whether no skip or end of a region fits.
     pub(crate) shut: KeyAnswers,
     anchors: Anchors,
@@ -82,6 +84,7 @@ impl PickMemory {
             vains: KeyAnswers::new(alloc),
             behinds: KeyAnswers::new(alloc),
             afters: KeyAnswers::new(alloc),
+            idles: KeyAnswers::new(alloc),
             shut: KeyAnswers::new(alloc),
             anchors: Anchors::new(alloc),
             numbers: Vec::new(alloc),
@@ -124,6 +127,7 @@ impl PickMemory {
         ensures vains { self.new.vains ≡ self.old.vains }
         ensures behinds { self.new.behinds ≡ self.old.behinds }
         ensures afters { self.new.afters ≡ self.old.afters }
+        ensures idles { self.new.idles ≡ self.old.idles }
         ensures shut { self.new.shut ≡ self.old.shut }
         ensures anchors { self.new.anchors ≡ self.old.anchors }
         ensures numbers { self.new.numbers ≡ self.old.numbers }
@@ -203,19 +207,60 @@ impl PickMemory {
         search.tried.has(ItemId(id)) || self.is_settled(id, search)
     }
 
+    /// Whether an item is known not to start at a column by what stands one column behind.
+    fn is_idle(&self, _asked: &Asked, id: u32, search: &Search<'_>) -> bool
+        ensures { IsTrue result → (t : Text) (l : ℕ) →
+            MemoryStands (rules_in _asked.now.parts.now _asked.now.budget) t l self.now →
+            HoldsLine search.now.looked l →
+            IsQuiet (rules_in _asked.now.parts.now _asked.now.budget) t (place_at l search.now.at)
+            search.now.floor search.now.looked (item_numbered id) }
+    {
+        if search.at == 0 {
+            return false;
+        }
+        let Some(after) = search.at.checked_add(1) else {
+            return false;
+        };
+        let Some(number) = self.number_at(after) else {
+            return false;
+        };
+        match self.idles.known(number, ItemId(id)) {
+            Some(idle) => idle,
+            None => false,
+        }
+    }
+
+    /// Whether an item has started at a column, or is known not to, by what was tried or by what stands
+    /// one column behind.
+    fn is_over(&self, asked: &Asked, id: u32, search: &Search<'_>) -> bool
+        ensures { IsTrue result → (t : Text) (l : ℕ) →
+            MemoryStands (rules_in asked.now.parts.now asked.now.budget) t l self.now →
+            HoldsLine search.now.looked l →
+            IsPassed (rules_in asked.now.parts.now asked.now.budget) t (place_at l search.now.at)
+            search.now.floor search.now.looked (reverse search.now.tried.now)
+            (item_numbered id) }
+    {
+        if self.is_passed(id, search) {
+            return true;
+        }
+        self.is_idle(asked, id, search)
+    }
+
     /// The number behind the last item of a list, whose numbers rise, that is below another one and may
     /// start at a column; 0 where there is none.
-    fn next_open(&self, list: &[u32], left: usize, search: &Search<'_>) -> usize
-        ensures { IsNonDecreasing list.now → (r : Rules) (t : Text) (l : ℕ) →
-            MemoryStands r t l self.now → HoldsLine search.now.looked l →
-            IsNextIn r t (place_at l search.now.at) search.now.floor search.now.looked
-            (reverse search.now.tried.now) list.now left result }
+    fn next_open(&self, asked: &Asked, list: &[u32], left: usize, search: &Search<'_>) -> usize
+        ensures { IsNonDecreasing list.now → (t : Text) (l : ℕ) →
+            MemoryStands (rules_in asked.now.parts.now asked.now.budget) t l self.now →
+            HoldsLine search.now.looked l →
+            IsNextIn (rules_in asked.now.parts.now asked.now.budget) t (place_at l search.now.at)
+            search.now.floor search.now.looked (reverse search.now.tried.now) list.now left
+            result }
     {
         let mut count = count_below(list, left);
         'items: while count > 0 {
             count -= 1;
             let id = list[count];
-            if !self.is_passed(id, search) {
+            if !self.is_over(asked, id, search) {
                 return id as usize + 1;
             }
         }
@@ -225,24 +270,24 @@ impl PickMemory {
     /// The number of items that are left by a row, if it stands at a place.
     fn left_by(
         &self,
-        _asked: &Asked,
+        asked: &Asked,
         place: usize,
         choice: Choice,
         number: u16,
         search: &Search<'_>,
         left: usize,
     ) -> Option<usize>
-        requires { left ≤ length _asked.now.parts.now.items.now }
+        requires { left ≤ length asked.now.parts.now.items.now }
         ensures { (t : Text) (l : ℕ) →
-            MemoryStands (rules_in _asked.now.parts.now _asked.now.budget) t l self.now →
-            IsNumberAt (rules_in _asked.now.parts.now _asked.now.budget) (line_at t l) search.now.at
+            MemoryStands (rules_in asked.now.parts.now asked.now.budget) t l self.now →
+            IsNumberAt (rules_in asked.now.parts.now asked.now.budget) (line_at t l) search.now.at
             number → HoldsLine search.now.looked l →
-            IfSome result (IsNextAt (rules_in _asked.now.parts.now _asked.now.budget) t
+            IfSome result (IsNextAt (rules_in asked.now.parts.now asked.now.budget) t
             (place_at l search.now.at) search.now.floor search.now.looked
             (reverse search.now.tried.now) choice left) }
     {
         let row = self.row(place, choice, number)?;
-        Some(self.next_open(&row.items, left, search))
+        Some(self.next_open(asked, &row.items, left, search))
     }
 
     /// The number of items that are left, once those behind them are passed over that a choice
@@ -342,6 +387,8 @@ impl PickMemory {
         let ignore = item_of(asked.parts.items, id).ignore;
         let is = asked.fails_after(self.alloc, ignore, pattern, number)?;
         self.afters.keep(number, id, is)?;
+        let sits = asked.sits(id, pattern);
+        self.idles.keep(number, id, both_hold(is, sits))?;
         Ok(is)
     }
 
@@ -776,4 +823,11 @@ fn own_line_if(missed: bool, line: usize) -> Option<Looked>
     } else {
         None
     }
+}
+
+/// Whether both hold.
+fn both_hold(one: bool, other: bool) -> bool
+    ensures { result ≡ (one && other) }
+{
+    one && other
 }

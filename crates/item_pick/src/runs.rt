@@ -102,7 +102,7 @@ impl Run {
 
 impl Asked<'_> {
     /// Whether an item starts by one pattern at most.
-    fn has_one_start(&self, id: ItemId) -> bool
+    pub(crate) fn has_one_start(&self, id: ItemId) -> bool
         requires { IsItem (rules_in self.now.parts.now self.now.budget) id }
         ensures { result
             ≡ has_one_start (item_of (rules_in self.now.parts.now self.now.budget).items id).kind }

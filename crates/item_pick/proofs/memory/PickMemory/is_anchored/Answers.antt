@@ -18,6 +18,7 @@ returns-in_err-keep-clause-stands c =
       vains = c.requires.stands.vains;
       behinds = c.requires.stands.behinds;
       afters = c.requires.stands.afters;
+      idles = c.requires.stands.idles;
       shut = c.requires.stands.shut;
       anchors = c.keep.ensures r c.requires.stands.anchors
           (λ e. anchored_by r c.args.id c.item_of.result.now.ignore (ap (λ (x : Item). x.ignore) c.item_of.ensures) c.args.pattern.now c.requires.first (c.is_anchored-is.ensures e));
@@ -32,6 +33,7 @@ returns-clause-stands c =
       vains = c.requires.stands.vains;
       behinds = c.requires.stands.behinds;
       afters = c.requires.stands.afters;
+      idles = c.requires.stands.idles;
       shut = c.requires.stands.shut;
       anchors = c.keep.ensures r c.requires.stands.anchors
           (λ e. anchored_by r c.args.id c.item_of.result.now.ignore (ap (λ (x : Item). x.ignore) c.item_of.ensures) c.args.pattern.now c.requires.first (c.is_anchored-is.ensures e));

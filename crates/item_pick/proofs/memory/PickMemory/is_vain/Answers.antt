@@ -21,6 +21,7 @@ returns-in_err-keep-clause-stands c =
           (vain_told r c.args.id c.args.number c.item_of.result.now.ignore (ap (λ (x : Item). x.ignore) c.item_of.ensures) c.args.pattern.now c.requires.first c.is_vain-is.result c.is_vain-is.ensures);
       behinds = c.requires.stands.behinds;
       afters = c.requires.stands.afters;
+      idles = c.requires.stands.idles;
       shut = c.requires.stands.shut;
       anchors = c.requires.stands.anchors;
     }
@@ -35,6 +36,7 @@ returns-clause-stands c =
           (vain_told r c.args.id c.args.number c.item_of.result.now.ignore (ap (λ (x : Item). x.ignore) c.item_of.ensures) c.args.pattern.now c.requires.first c.is_vain-is.result c.is_vain-is.ensures);
       behinds = c.requires.stands.behinds;
       afters = c.requires.stands.afters;
+      idles = c.requires.stands.idles;
       shut = c.requires.stands.shut;
       anchors = c.requires.stands.anchors;
     }

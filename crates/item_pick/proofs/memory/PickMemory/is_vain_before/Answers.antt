@@ -1,9 +1,9 @@
-use Rattle.std.proofs.Common.{◌∙◌, ap}
+use Rattle.std.proofs.Common.{◌∙◌, ap, sym}
 use Rattle.std.specs.Prelude.{Some, Bool}
 use Rattle.syntax_set.specs.declared.item.Item.{Item}
 use Rattle.item_pick.specs.PartsSeen.{rules_in}
-use Rattle.item_pick.specs.Following.{first_fails_after}
-use Rattle.item_pick.proofs.FollowingLaws.{after-by, after-told}
+use Rattle.item_pick.specs.Following.{first_fails_after, idles_before}
+use Rattle.item_pick.proofs.FollowingLaws.{after-by, after-told, idle-told}
 use Rattle.item_pick.proofs.memory.PickMemory.is_vain_before.Goals as goal
 
 pub returns-in-Some-clause-vain : goal.returns-in-Some-clause-vain
@@ -21,6 +21,23 @@ returns-in_err-keep-clause-stands c =
       behinds = c.requires.stands.behinds;
       afters = c.keep.ensures (first_fails_after r) c.requires.stands.afters
           (after-told r c.args.id c.args.number c.item_of.result.now.ignore (ap (λ (x : Item). x.ignore) c.item_of.ensures) c.args.pattern.now c.requires.first c.in_ok-is.is' c.in_ok-is.ensures);
+      idles = c.requires.stands.idles;
+      shut = c.requires.stands.shut;
+      anchors = c.requires.stands.anchors;
+    }
+
+pub returns-in_err-keep-2-clause-stands : goal.returns-in_err-keep-2-clause-stands
+returns-in_err-keep-2-clause-stands c =
+    let r = rules_in c.args.asked.now.parts.now c.args.asked.now.budget in
+    record {
+      rows = c.requires.stands.rows;
+      outs = c.requires.stands.outs;
+      vains = c.requires.stands.vains;
+      behinds = c.requires.stands.behinds;
+      afters = c.keep.ensures (first_fails_after r) c.requires.stands.afters
+          (after-told r c.args.id c.args.number c.item_of.result.now.ignore (ap (λ (x : Item). x.ignore) c.item_of.ensures) c.args.pattern.now c.requires.first c.in_ok-is.is' c.in_ok-is.ensures);
+      idles = c.keep-2.ensures (idles_before r) c.requires.stands.idles
+          (λ e. idle-told r c.args.id c.args.number c.item_of.result.now.ignore (ap (λ (x : Item). x.ignore) c.item_of.ensures) c.args.pattern.now c.requires.first c.in_ok-is.is' c.sits-sits.result c.in_ok-is.ensures c.sits-sits.ensures (sym c.both_hold.ensures ∙ e));
       shut = c.requires.stands.shut;
       anchors = c.requires.stands.anchors;
     }
@@ -35,6 +52,8 @@ returns-clause-stands c =
       behinds = c.requires.stands.behinds;
       afters = c.keep.ensures (first_fails_after r) c.requires.stands.afters
           (after-told r c.args.id c.args.number c.item_of.result.now.ignore (ap (λ (x : Item). x.ignore) c.item_of.ensures) c.args.pattern.now c.requires.first c.in_ok-is.is' c.in_ok-is.ensures);
+      idles = c.keep-2.ensures (idles_before r) c.requires.stands.idles
+          (λ e. idle-told r c.args.id c.args.number c.item_of.result.now.ignore (ap (λ (x : Item). x.ignore) c.item_of.ensures) c.args.pattern.now c.requires.first c.in_ok-is.is' c.sits-sits.result c.in_ok-is.ensures c.sits-sits.ensures (sym c.both_hold.ensures ∙ e));
       shut = c.requires.stands.shut;
       anchors = c.requires.stands.anchors;
     }

@@ -21,6 +21,7 @@ returns-in_err-keep-clause-stands c =
       behinds = c.keep.ensures (first_fails_behind r) c.requires.stands.behinds
           (behind-told r c.args.id c.args.number c.item_of.result.now.ignore (ap (λ (x : Item). x.ignore) c.item_of.ensures) c.args.pattern.now c.requires.first c.in_ok-is.is' c.in_ok-is.ensures);
       afters = c.requires.stands.afters;
+      idles = c.requires.stands.idles;
       shut = c.requires.stands.shut;
       anchors = c.requires.stands.anchors;
     }
@@ -35,6 +36,7 @@ returns-clause-stands c =
       behinds = c.keep.ensures (first_fails_behind r) c.requires.stands.behinds
           (behind-told r c.args.id c.args.number c.item_of.result.now.ignore (ap (λ (x : Item). x.ignore) c.item_of.ensures) c.args.pattern.now c.requires.first c.in_ok-is.is' c.in_ok-is.ensures);
       afters = c.requires.stands.afters;
+      idles = c.requires.stands.idles;
       shut = c.requires.stands.shut;
       anchors = c.requires.stands.anchors;
     }

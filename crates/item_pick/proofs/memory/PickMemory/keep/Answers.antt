@@ -4,7 +4,7 @@ use Rattle.std.proofs.lemmas.List.Elements.{All-append, All-cons, All-nil}
 use Rattle.region_ends.specs.KeyAnswers.{AnswersStand}
 use Rattle.region_ends.specs.Passing.{is_shut_at}
 use Rattle.item_pick.specs.Behind.{first_fails_behind}
-use Rattle.item_pick.specs.Following.{first_fails_after}
+use Rattle.item_pick.specs.Following.{first_fails_after, idles_before}
 use Rattle.item_pick.specs.Tables.{AnchorStands, is_first_vain, RowStands, stays_out}
 use Rattle.item_pick.proofs.memory.PickMemory.keep.Goals as goal
 
@@ -18,6 +18,7 @@ returns-clause-stands c r tables row = record {
   vains = subst (AnswersStand (is_first_vain r)) (sym c.note.ensures.vains) tables.vains;
   behinds = subst (AnswersStand (first_fails_behind r)) (sym c.note.ensures.behinds) tables.behinds;
   afters = subst (AnswersStand (first_fails_after r)) (sym c.note.ensures.afters) tables.afters;
+  idles = subst (AnswersStand (idles_before r)) (sym c.note.ensures.idles) tables.idles;
   shut = subst (AnswersStand (is_shut_at r.items r.sets r.budget)) (sym c.note.ensures.shut) tables.shut;
   anchors = subst (λ anchors. All (AnchorStands r) anchors.list.items) (sym c.note.ensures.anchors) tables.anchors;
 }
@@ -29,6 +30,7 @@ returns-in_err-note-clause-stands c r tables row = record {
   vains = subst (AnswersStand (is_first_vain r)) (sym c.note.ensures.vains) tables.vains;
   behinds = subst (AnswersStand (first_fails_behind r)) (sym c.note.ensures.behinds) tables.behinds;
   afters = subst (AnswersStand (first_fails_after r)) (sym c.note.ensures.afters) tables.afters;
+  idles = subst (AnswersStand (idles_before r)) (sym c.note.ensures.idles) tables.idles;
   shut = subst (AnswersStand (is_shut_at r.items r.sets r.budget)) (sym c.note.ensures.shut) tables.shut;
   anchors = subst (λ anchors. All (AnchorStands r) anchors.list.items) (sym c.note.ensures.anchors) tables.anchors;
 }
@@ -40,6 +42,7 @@ returns-in_err-push-clause-stands c r tables row = record {
   vains = subst (AnswersStand (is_first_vain r)) (sym c.note.ensures.vains) tables.vains;
   behinds = subst (AnswersStand (first_fails_behind r)) (sym c.note.ensures.behinds) tables.behinds;
   afters = subst (AnswersStand (first_fails_after r)) (sym c.note.ensures.afters) tables.afters;
+  idles = subst (AnswersStand (idles_before r)) (sym c.note.ensures.idles) tables.idles;
   shut = subst (AnswersStand (is_shut_at r.items r.sets r.budget)) (sym c.note.ensures.shut) tables.shut;
   anchors = subst (λ anchors. All (AnchorStands r) anchors.list.items) (sym c.note.ensures.anchors) tables.anchors;
 }

@@ -16,6 +16,7 @@ returns-in_err-row-in-Some-clause-stands c = record {
   vains = c.whole.ensures.stands.vains;
   behinds = c.whole.ensures.stands.behinds;
   afters = c.whole.ensures.stands.afters;
+  idles = c.whole.ensures.stands.idles;
   shut = c.whole.ensures.stands.shut;
   anchors = c.whole.ensures.stands.anchors;
 }
@@ -29,6 +30,7 @@ returns-clause-stands c =
       vains = c.whole.ensures.stands.vains;
       behinds = c.whole.ensures.stands.behinds;
       afters = c.whole.ensures.stands.afters;
+      idles = c.whole.ensures.stands.idles;
       shut = c.whole.ensures.stands.shut;
       anchors = c.whole.ensures.stands.anchors;
     })

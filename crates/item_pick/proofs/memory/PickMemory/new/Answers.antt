@@ -3,7 +3,7 @@ use Rattle.std.specs.List.{All}
 use Rattle.std.proofs.lemmas.List.Elements.{All-nil}
 use Rattle.region_ends.specs.Passing.{is_shut_at}
 use Rattle.item_pick.specs.Behind.{first_fails_behind}
-use Rattle.item_pick.specs.Following.{first_fails_after}
+use Rattle.item_pick.specs.Following.{first_fails_after, idles_before}
 use Rattle.item_pick.specs.Tables.{AnchorStands, is_first_vain, RowStands, stays_out}
 use Rattle.item_pick.proofs.memory.PickMemory.new.Goals as goal
 
@@ -14,6 +14,7 @@ returns c r = record {
   vains = c.new-5.ensures (is_first_vain r);
   behinds = c.new-6.ensures (first_fails_behind r);
   afters = c.new-7.ensures (first_fails_after r);
-  shut = c.new-8.ensures (is_shut_at r.items r.sets r.budget);
-  anchors = subst (All (AnchorStands r)) (sym c.new-9.ensures) (All-nil (AnchorStands r));
+  idles = c.new-8.ensures (idles_before r);
+  shut = c.new-9.ensures (is_shut_at r.items r.sets r.budget);
+  anchors = subst (All (AnchorStands r)) (sym c.new-10.ensures) (All-nil (AnchorStands r));
 }
