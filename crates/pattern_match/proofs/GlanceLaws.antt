@@ -62,7 +62,7 @@ seen_behind m k old mid from new TooFar e is h = tt
 
 -- ---- an atom
 
-at_behind : (x : Context) (w : Way) (a : Atom) (p : Place) → fits x w a ≡ Some p → (way_behind w p a).at ≡ p
+pub at_behind : (x : Context) (w : Way) (a : Atom) (p : Place) → fits x w a ≡ Some p → (way_behind w p a).at ≡ p
 at_behind x w (Char c) p e = refl
 at_behind x w (Any takes_end) p e = refl
 at_behind x w (Is class negative takes_end) p e = refl

@@ -30,3 +30,4 @@ pub mod TakesLaws
 pub mod AlikeLaws
 pub mod Choosing
 mod GlanceLaws
+mod GlanceRuns

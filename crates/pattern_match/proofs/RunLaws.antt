@@ -30,7 +30,7 @@ use Rattle.pattern_match.proofs.SpendingLaws.{times-cost, times-budget}
 use Rattle.pattern_match.proofs.PendingLaws.{further-none}
 use Rattle.pattern_match.proofs.Ticking.{IsCounting, counting_on}
 
-plain-looks : (x : Context) (w : Way) (a : Atom) → is_plain a ≡ true → lines_looked x w a ≡ own_line w
+pub plain-looks : (x : Context) (w : Way) (a : Atom) → is_plain a ≡ true → lines_looked x w a ≡ own_line w
 plain-looks x w (Char c) p = refl
 plain-looks x w (Any takes_end) p = refl
 plain-looks x w (Is class negative takes_end) p = refl
@@ -47,7 +47,7 @@ plain-looks x w MatchStop p = refl
 plain-looks x w (Ref number) p = absurd (cc)
 plain-looks x w (ExternalRef number) p = absurd (cc)
 
-plain-moves : (w : Way) (p : Place) (a : Atom) → is_plain a ≡ true → way_behind w p a ≡ record w { at = p }
+pub plain-moves : (w : Way) (p : Place) (a : Atom) → is_plain a ≡ true → way_behind w p a ≡ record w { at = p }
 plain-moves w p (Char c) h = refl
 plain-moves w p (Any takes_end) h = refl
 plain-moves w p (Is class negative takes_end) h = refl
@@ -80,7 +80,7 @@ module _ (x : Context) (a : Atom) (p : Place) (count n : ℕ) (run : IsRun x a p
       let taken = All-get_or (λ c. IsTrue (plain_takes x.sets x.ignore a c)) (take count (drop p.col line)) n 0 (omega arith) run.taken in
       subst (λ c. IsTrue (plain_takes x.sets x.ignore a c)) (get_or-take count (drop p.col line) n 0 h ∙ get_or-drop p.col line n 0) taken
 
-  run-fits : (v : Way) → fits x (record v { at = columns_on p n }) a ≡ Some (columns_on p (suc n))
+  pub run-fits : (v : Way) → fits x (record v { at = columns_on p n }) a ≡ Some (columns_on p (suc n))
   run-fits v =
       let w : Way = record v { at = columns_on p n } in
       let some : 0 < count = omega arith in
@@ -90,18 +90,18 @@ module _ (x : Context) (a : Atom) (p : Place) (count n : ℕ) (run : IsRun x a p
       ∙ ap (λ b. only_if b (behind_character w.at)) run-taken
       ∙ ap (λ col. Some (place p.line col)) next
 
-is_after-next : (p : Place) (n : ℕ) → is_after (columns_on p (suc n)) (columns_on p n) ≡ true
+pub is_after-next : (p : Place) (n : ℕ) → is_after (columns_on p (suc n)) (columns_on p n) ≡ true
 is_after-next p n = grind (arith, nat_tests)
 
-less-unspent : (most : Option ℕ) (count n : ℕ) → AreAllowed most count → n < count → is_spent (less_by most n) ≡ false
+pub less-unspent : (most : Option ℕ) (count n : ℕ) → AreAllowed most count → n < count → is_spent (less_by most n) ≡ false
 less-unspent None count n h k = refl
 less-unspent (Some most) count n h k = grind (arith, nat_tests)
 
-less-next : (most : Option ℕ) (n : ℕ) → one_less (less_by most n) ≡ less_by most (suc n)
+pub less-next : (most : Option ℕ) (n : ℕ) → one_less (less_by most n) ≡ less_by most (suc n)
 less-next None n = refl
 less-next (Some most) n = ap Some (omega arith)
 
-less-none : (most : Option ℕ) → less_by most 0 ≡ most
+pub less-none : (most : Option ℕ) → less_by most 0 ≡ most
 less-none None = refl
 less-none (Some most) = ap Some (omega arith)
 
@@ -159,7 +159,7 @@ counting_run x t old earlier most left ways new spent later c numbers a k free g
 
 -- ---- a run that was made
 
-none-allowed : (most : Option ℕ) → AreAllowed most 0
+pub none-allowed : (most : Option ℕ) → AreAllowed most 0
 none-allowed None = tt
 none-allowed (Some most) = omega arith
 
@@ -176,7 +176,7 @@ no_run x a most ways spent on_text within =
       within = within;
     }
 
-fewer-allowed : (most : Option ℕ) (more count : ℕ) → AreAllowed most more → count ≤ more → AreAllowed most count
+pub fewer-allowed : (most : Option ℕ) (more count : ℕ) → AreAllowed most more → count ≤ more → AreAllowed most count
 fewer-allowed None more count h k = tt
 fewer-allowed (Some most) more count h k = omega arith
 
@@ -186,28 +186,34 @@ take-part (suc n) zero xs h = absurd (omega arith)
 take-part (suc n) (suc m) [] h = refl
 take-part (suc n) (suc m) (c ∷ xs) h = ap (λ l. c ∷ l) (take-part n m xs (omega arith))
 
--- of the characters of a line, from the way's column up to another
-pub has_run : (x : Context) (a : Atom) (most left : Option ℕ) (old new : Ways Task) (earlier later : Spent) (count more room : ℕ) (p : Place) (part : List ℕ) → p ≡ old.here.way.at → IsPlaceOf x.text old.here.way.at
-    → part ≡ take room (drop p.col (line_at x.text p.line)) → room ≤ more → (0 < count → is_plain a ≡ true) → count ≤ length part → All (λ c. IsTrue (plain_takes x.sets x.ignore a c)) (take count part)
-    → AreAllowed most more → earlier.cost + more ≤ earlier.budget → left ≡ less_by most count → new ≡ run_aside old count → later ≡ spent_times earlier count (one_line (pos p.line))
-    → HasRun x a most left old new earlier later
-has_run x a most left old new earlier later count more room p part p_is on_text part_is few plain within taken allowed low fewer ways spent =
-    let at = old.here.way.at in
-    let col = on_text.col in
-    let line = line_at x.text at.line in
-    let is : part ≡ take room (drop at.col line) = part_is ∙ ap (λ q. take room (drop q.col (line_at x.text q.line))) p_is in
-    let many : length part ≡ min room (length line - at.col) = ap length is ∙ length-take room (drop at.col line) ∙ ap (min room) (length-drop at.col line) in
+-- of the characters of a line, from a place up to another column
+module _ (x : Context) (a : Atom) (p : Place) (count room : ℕ) (part : List ℕ) (on_text : IsPlaceOf x.text p) (is : part ≡ take room (drop p.col (line_at x.text p.line))) (within : count ≤ length part) where
+  many : length part ≡ min room (length (line_at x.text p.line) - p.col)
+  many = ap length is ∙ length-take room (drop p.col (line_at x.text p.line)) ∙ ap (min room) (length-drop p.col (line_at x.text p.line))
+
+  pub within-room : count ≤ room
+  within-room = let long = many in omega arith
+
+  pub run_of_part : (0 < count → is_plain a ≡ true) → All (λ c. IsTrue (plain_takes x.sets x.ignore a c)) (take count part) → IsRun x a p count
+  run_of_part plain taken =
+      let long = many in
+      let col = on_text.col in
+      record {
+        plain = plain;
+        within = omega arith;
+        taken = subst (All (λ c. IsTrue (plain_takes x.sets x.ignore a c))) (ap (take count) is ∙ take-part count room (drop p.col (line_at x.text p.line)) (omega arith)) taken;
+      }
+
+pub has_run : (x : Context) (a : Atom) (most left : Option ℕ) (old new : Ways Task) (earlier later : Spent) (count : ℕ) (p : Place) → p ≡ old.here.way.at → IsRun x a p count → AreAllowed most count
+    → earlier.cost + count ≤ earlier.budget → left ≡ less_by most count → new ≡ run_aside old count → later ≡ spent_times earlier count (one_line (pos p.line)) → HasRun x a most left old new earlier later
+has_run x a most left old new earlier later count p p_is run allowed low fewer ways spent =
     let cost = times-cost earlier count (own_line old.here.way) in
     let budget = times-budget earlier count (own_line old.here.way) in
     let spent_is : later ≡ spent_times earlier count (own_line old.here.way) = spent ∙ ap (λ q. spent_times earlier count (one_line (pos q.line))) p_is in
     record {
       count = count;
-      run = record {
-        plain = plain;
-        within = omega arith;
-        taken = subst (All (λ c. IsTrue (plain_takes x.sets x.ignore a c))) (ap (take count) is ∙ take-part count room (drop at.col line) (omega arith)) taken;
-      };
-      allowed = fewer-allowed most more count allowed (omega arith);
+      run = subst (λ q. IsRun x a q count) p_is run;
+      allowed = allowed;
       fewer = fewer;
       ways = ways;
       spent = spent_is;

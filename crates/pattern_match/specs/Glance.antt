@@ -1,7 +1,8 @@
 -- A short look: what a node and what follows it come to, told up to the first way.
-use Rattle.std.specs.Prelude.{◌≡◌, ◌≤◌, Bool, true, false, List, [], ◌∷◌, Option, Some, None}
+use Rattle.std.specs.Prelude.{◌≡◌, ◌≤◌, ◌<◌, ◌+◌, ◌++◌, ℕ, zero, suc, length, Bool, true, false, List, [], ◌∷◌, Option, Some, None}
 use Rattle.syn_base.specs.declared.places.Place.{Place}
-use Rattle.match_rules.specs.Ways.{Context, Text, Way, IsPlaceOf}
+use Rattle.vim_pattern.specs.Shape.{one}
+use Rattle.match_rules.specs.Ways.{Context, Text, Way, IsPlaceOf, line_at}
 use Rattle.pattern_items.specs.declared.atom.Atom.{Atom}
 use Rattle.pattern_items.specs.declared.atom.Atom.TheVariants.{Ref, ExternalRef}
 use Rattle.match_rules.specs.Atoms.{fits, lines_looked}
@@ -17,7 +18,9 @@ use Rattle.pattern_match.specs.declared.glance.Saw.TheVariants.{Reached, InVain,
 use Rattle.pattern_match.specs.declared.glance.Sight.{Sight}
 use Rattle.pattern_match.specs.declared.task.Turns.{Turns}
 use Rattle.pattern_match.specs.Spending.{spent_on}
+use Rattle.pattern_match.specs.Runs.{AreAllowed, IsRun}
 use Rattle.pattern_match.specs.Steps.{shape_of}
+use Rattle.pattern_match.specs.Ways.{columns_on}
 
 -- the turns of a count that are left, and those behind one that began at a place
 abbrev pub turns_of : Context → Turns → Way → List Mark
@@ -37,6 +40,17 @@ AreTurnsLeft t from at None =
     (x : Context) (w : Way) → w.at ≡ at → turns_behind x t from w ≡ []
 AreTurnsLeft t from at (Some u) = (u.part ≡ t.part) ×
     ((x : Context) (w : Way) → w.at ≡ at → turns_behind x t from w ≡ turns_of x u w)
+
+-- so many turns of a count of an atom take a character of the line each, from a place on
+pub record AreTaken (x : Context) (t : Turns) (p : Place) (count : ℕ) : Type 0 where
+  pub run : 0 < count → (a : Atom) × ((shape_of t.part.now ≡ one a) × IsRun x a p count)
+  pub allowed : AreAllowed t.most count
+  pub within : p.col + count ≤ length (line_at x.text p.line)
+
+-- what follows the stops before so many turns, each of one column, the last stop first
+abbrev pub stops_of : (Way → List Mark) → Way → ℕ → List Mark
+stops_of f w zero = []
+stops_of f w (suc turns) = f (record w { at = columns_on w.at turns }) ++ stops_of f w turns
 
 -- what a way still tries and reaches
 abbrev pub marks_behind : Context → Rest → Way → List Mark

@@ -1,23 +1,28 @@
 //! A short look from a place: where a node and what follows it lead is told with no list of ways, as
 //! long as few nodes are visited.
-ghost use Rattle.std.specs.Prelude.{◌≡◌, ◌≤◌, ◌++◌, None, IsTrue, IsFalse};
+ghost use Rattle.std.specs.Prelude.{◌≡◌, ◌≤◌, ◌+◌, ◌<◌, ◌^◌, None, IsTrue, IsFalse, false, length, pos, true};
+ghost use Rattle.syn_base.specs.Looked.{one_line};
 ghost use Rattle.match_rules.specs.Attempt.{answer_from};
+ghost use Rattle.match_rules.specs.Counts.{is_spent};
 ghost use Rattle.match_rules.specs.Marks.{followed};
 ghost use Rattle.match_rules.specs.Visits.{visits};
-ghost use Rattle.match_rules.specs.Ways.{IsPlaceOf, Way};
+ghost use Rattle.match_rules.specs.Ways.{IsPlaceOf, Way, line_at};
 ghost use Rattle.pattern_match.specs.Contexts.{context_in};
-ghost use Rattle.pattern_match.specs.Glance.{GoesOn, IsAtomSeen, IsSeen, Stands, asks_for_group, marks_behind, turn_of, turns_behind, turns_of};
+ghost use Rattle.pattern_match.specs.Glance.{AreTaken, GoesOn, IsAtomSeen, IsSeen, Stands, asks_for_group, marks_behind, stops_of, turn_of, turns_behind, turns_of};
 ghost use Rattle.pattern_match.specs.Search.{wanted_marks};
+ghost use Rattle.pattern_match.specs.Spending.{spent_times};
 ghost use Rattle.pattern_match.specs.Steps.{atom_of, shape_of};
+ghost use Rattle.pattern_match.specs.Ways.{columns_on};
 ghost use Rattle.vim_pattern.specs.Shape.{ahead, empty, external, group, one, or, repeat, seq};
 
-use crate::atoms::try_plain;
+use crate::atoms::{numbered, try_plain};
 use crate::context::Context;
+use crate::runs::{less_by, run_length};
 use crate::spent::Spent;
 use crate::step::{Step, Test};
 use crate::task::Turns;
-use crate::turns::{is_spent, next_turns};
-use syn_base::{Lines, Place};
+use crate::turns::{is_after, is_spent, next_turns, one_less};
+use syn_base::{Lines, Looked, Place};
 
 /// How many nodes a short look visits.
 const NODES: u32 = 1000;
@@ -429,7 +434,59 @@ fn look_at_count<T: Lines>(
     }
 }
 
-/// A short look at the turns of a greedy count that need not be taken: another one, or the stop.
+/// How many turns of a greedy count a short look makes at once: those of an atom that take a character
+/// of the line each.
+fn turns_at_once<T: Lines>(
+    lines: &T,
+    context: &Context<'_>,
+    turns: &Turns<'_>,
+    sight: &Sight,
+) -> usize
+    requires { Stands (T.lines lines.now) sight.now }
+    ensures taken { AreTaken (context_in (T.lines lines.now) context.now) turns.now sight.now.at
+        result }
+    ensures fits { 0 < result → sight.now.at.col + result < 2 ^ 64 }
+    ensures within { sight.now.spent.cost + result ≤ sight.now.spent.budget }
+{
+    let left = sight.spent.budget - sight.spent.cost;
+    match turns.part {
+        Step::One(test) => run_length(lines, context, test, turns.most, sight.at, left),
+        _ => 0,
+    }
+}
+
+/// A place some columns further on in its line.
+fn columns_on(from: Place, count: usize) -> Place
+    requires { from.col + count < 2 ^ 64 }
+    ensures { result ≡ columns_on from count }
+{
+    Place {
+        line: from.line,
+        col: from.col + count,
+    }
+}
+
+/// Goes on by so many characters of the line, with a tick for each.
+fn go_further<T: Lines>(lines: &T, count: usize, sight: &mut Sight)
+    requires stands { Stands (T.lines lines.now) sight.old }
+    requires columns { sight.old.at.col + count
+        ≤ length (line_at (T.lines lines.now) sight.old.at.line) }
+    requires fits { sight.old.at.col + count < 2 ^ 64 }
+    requires within { sight.old.spent.cost + count ≤ sight.old.spent.budget }
+    ensures is { sight.new ≡ record sight.old {
+      at = columns_on sight.old.at count;
+      spent = spent_times sight.old.spent count (one_line (pos sight.old.at.line));
+    } }
+    ensures goes { GoesOn (T.lines lines.now) sight.old sight.new }
+{
+    sight
+        .spent
+        .tick_times(count as u64, Looked::one(numbered(lines, sight.at.line)));
+    sight.at = columns_on(sight.at, count);
+}
+
+/// A short look at the turns of a greedy count that need not be taken. Those that take a character of
+/// the line each are made at once.
 #[cycle(look)]
 fn look_at_greedy<T: Lines>(
     lines: &T,
@@ -438,13 +495,52 @@ fn look_at_greedy<T: Lines>(
     rest: &Rest<'_>,
     sight: &mut Sight,
 ) -> Saw
-    requires { Stands (T.lines lines.now) sight.old }
+    requires stands { Stands (T.lines lines.now) sight.old }
+    requires free { turns.now.least ≡ 0 }
+    requires greedy { turns.now.lazy ≡ false }
     ensures seen { (w : Way) → w.at ≡ sight.old.at →
         let x = context_in (T.lines lines.now) context.now in
-        IsSeen (followed (turn_of x turns.now w) (marks_behind x rest.now) ++ marks_behind x rest.now w)
+        IsSeen (followed (turns_of x turns.now w) (marks_behind x rest.now))
         sight.old sight.new result }
     ensures goes { GoesOn (T.lines lines.now) sight.old sight.new }
 {
+    let from = sight.at;
+    let count = turns_at_once(lines, context, &*turns, &*sight);
+    if count == 0 {
+        return look_at_more(lines, context, &*turns, &*rest, sight);
+    }
+    go_further(lines, count, sight);
+    let left = Turns {
+        most: less_by(turns.most, count),
+        ..*turns
+    };
+    match look_at_more(lines, context, &left, &*rest, sight) {
+        Saw::InVain => look_at_stops(lines, context, &*rest, from, count, sight),
+        saw => saw,
+    }
+}
+
+/// A short look at the turns of a greedy count behind those: another one, or the stop.
+#[cycle(look)]
+fn look_at_more<T: Lines>(
+    lines: &T,
+    context: &Context<'_>,
+    turns: &Turns<'_>,
+    rest: &Rest<'_>,
+    sight: &mut Sight,
+) -> Saw
+    requires stands { Stands (T.lines lines.now) sight.old }
+    requires free { turns.now.least ≡ 0 }
+    requires greedy { turns.now.lazy ≡ false }
+    ensures seen { (w : Way) → w.at ≡ sight.old.at →
+        let x = context_in (T.lines lines.now) context.now in
+        IsSeen (followed (turns_of x turns.now w) (marks_behind x rest.now))
+        sight.old sight.new result }
+    ensures goes { GoesOn (T.lines lines.now) sight.old sight.new }
+{
+    if is_spent(turns.most) {
+        return go_on(lines, context, &*rest, sight);
+    }
     let from = sight.at;
     match look_at_turn(lines, context, &*turns, &*rest, sight) {
         Saw::InVain => {
@@ -455,7 +551,39 @@ fn look_at_greedy<T: Lines>(
     }
 }
 
-/// A short look at those of a lazy count: the stop, or another one.
+/// A short look at the stops before so many turns that take a character of the line each, the last one
+/// first.
+#[cycle(look)]
+fn look_at_stops<T: Lines>(
+    lines: &T,
+    context: &Context<'_>,
+    rest: &Rest<'_>,
+    from: Place,
+    count: usize,
+    sight: &mut Sight,
+) -> Saw
+    requires stands { Stands (T.lines lines.now) sight.old }
+    requires from { IsPlaceOf (T.lines lines.now) from }
+    requires columns { from.col + count ≤ length (line_at (T.lines lines.now) from.line) }
+    requires fits { from.col + count < 2 ^ 64 }
+    ensures seen { (w : Way) → w.at ≡ from →
+        let x = context_in (T.lines lines.now) context.now in
+        IsSeen (stops_of (marks_behind x rest.now) w count) sight.old sight.new result }
+    ensures goes { GoesOn (T.lines lines.now) sight.old sight.new }
+{
+    let mut left = count;
+    'stops: while left > 0 {
+        left -= 1;
+        sight.at = columns_on(from, left);
+        match go_on(lines, context, &*rest, sight) {
+            Saw::InVain => {}
+            saw => return saw,
+        }
+    }
+    Saw::InVain
+}
+
+/// A short look at the turns of a lazy count that need not be taken: the stop, or another one.
 #[cycle(look)]
 fn look_at_lazy<T: Lines>(
     lines: &T,
@@ -464,13 +592,19 @@ fn look_at_lazy<T: Lines>(
     rest: &Rest<'_>,
     sight: &mut Sight,
 ) -> Saw
-    requires { Stands (T.lines lines.now) sight.old }
+    requires stands { Stands (T.lines lines.now) sight.old }
+    requires allowed { is_spent turns.now.most ≡ false }
+    requires free { turns.now.least ≡ 0 }
+    requires lazy { turns.now.lazy ≡ true }
     ensures seen { (w : Way) → w.at ≡ sight.old.at →
         let x = context_in (T.lines lines.now) context.now in
-        IsSeen (marks_behind x rest.now w ++ followed (turn_of x turns.now w) (marks_behind x rest.now))
+        IsSeen (followed (turns_of x turns.now w) (marks_behind x rest.now))
         sight.old sight.new result }
     ensures goes { GoesOn (T.lines lines.now) sight.old sight.new }
 {
+    if let Step::One(test) = turns.part {
+        return look_at_lazy_atoms(lines, context, test, &*turns, &*rest, sight);
+    }
     let from = sight.at;
     match go_on(lines, context, &*rest, sight) {
         Saw::InVain => {
@@ -479,6 +613,49 @@ fn look_at_lazy<T: Lines>(
         }
         saw => saw,
     }
+}
+
+/// The same, of a count of an atom.
+#[cycle(look)]
+fn look_at_lazy_atoms<T: Lines>(
+    lines: &T,
+    context: &Context<'_>,
+    test: &Test,
+    turns: &Turns<'_>,
+    rest: &Rest<'_>,
+    sight: &mut Sight,
+) -> Saw
+    requires stands { Stands (T.lines lines.now) sight.old }
+    requires atom { shape_of turns.now.part.now ≡ one (atom_of test.now) }
+    requires free { turns.now.least ≡ 0 }
+    requires lazy { turns.now.lazy ≡ true }
+    ensures seen { (w : Way) → w.at ≡ sight.old.at →
+        let x = context_in (T.lines lines.now) context.now in
+        IsSeen (followed (turns_of x turns.now w) (marks_behind x rest.now))
+        sight.old sight.new result }
+    ensures goes { GoesOn (T.lines lines.now) sight.old sight.new }
+{
+    let mut most = turns.most;
+    for _ in 0..NODES {
+        let from = sight.at;
+        match go_on(lines, context, &*rest, sight) {
+            Saw::InVain => {}
+            saw => return saw,
+        }
+        if is_spent(most) {
+            return Saw::InVain;
+        }
+        sight.at = from;
+        match look_at_atom(lines, context, test, sight) {
+            Saw::Reached => {}
+            saw => return saw,
+        }
+        if !is_after(sight.at, from) {
+            return Saw::InVain;
+        }
+        most = one_less(most);
+    }
+    Saw::TooFar
 }
 
 /// A short look at the next turn of a count, and those that are left behind it.

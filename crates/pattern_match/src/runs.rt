@@ -1,11 +1,11 @@
 //! The turns of a greedy count in one line, made at once.
-ghost use Rattle.std.specs.Prelude.{◌≡◌, ◌≤◌, ◌<◌, ◌+◌, length, take, true, All, IsTrue, IfOk};
+ghost use Rattle.std.specs.Prelude.{◌≡◌, ◌≤◌, ◌<◌, ◌+◌, ◌^◌, length, take, true, All, IsTrue, IfOk};
 ghost use Rattle.pattern_screens.specs.PlainAtoms.{is_plain, plain_takes};
 ghost use Rattle.match_rules.specs.Ways.{IsPlaceOf};
 ghost use Rattle.match_rules.specs.Counts.{less_by};
 ghost use Rattle.pattern_match.specs.Contexts.{context_in};
 ghost use Rattle.pattern_match.specs.Steps.{atom_of};
-ghost use Rattle.pattern_match.specs.Runs.{AreAllowed, HasRun};
+ghost use Rattle.pattern_match.specs.Runs.{AreAllowed, HasRun, IsRun};
 
 use crate::atoms::numbered;
 use crate::context::Context;
@@ -16,7 +16,7 @@ use crate::task::Task;
 use crate::walks::part_of_line;
 use crate::ways::Ways;
 use char_class::Sets;
-use syn_base::{Lines, Looked, Memory};
+use syn_base::{Lines, Looked, Memory, Place};
 
 /// How many turns are allowed, after some of them.
 pub(crate) fn less_by(most: Option<u32>, turns: usize) -> Option<u32>
@@ -59,6 +59,27 @@ fn characters_taken(test: &Test, sets: &Sets, ignore: bool, characters: &[char])
     count
 }
 
+/// How many turns of a count of an atom take a character of the line each, from a place on, as far as
+/// the count and the ticks that are left allow.
+pub(crate) fn run_length<T: Lines>(
+    lines: &T,
+    context: &Context<'_>,
+    test: &Test,
+    most: Option<u32>,
+    at: Place,
+    left: u64,
+) -> usize
+    requires { IsPlaceOf (T.lines lines.now) at }
+    ensures run { IsRun (context_in (T.lines lines.now) context.now) (atom_of test.now) at result }
+    ensures allowed { AreAllowed most result }
+    ensures fits { at.col + result < 2 ^ 64 }
+    ensures within { result ≤ left }
+{
+    let allowed = turns_allowed(most, left);
+    let rest = part_of_line(lines, at, at.col.saturating_add(allowed));
+    characters_taken(test, context.sets, context.ignore, rest)
+}
+
 /// Makes the turns of a greedy count of an atom that take a character of the line each, as far as the
 /// budget allows. It answers how many turns more the count allows. However many these turns are, their
 /// stops take one entry of the pending ways.
@@ -76,9 +97,7 @@ pub(crate) fn make_run<'p, T: Lines>(
         (atom_of test.now) most left ways.old ways.new spent.old spent.new) }
 {
     let at = ways.place();
-    let allowed = turns_allowed(most, spent.budget - spent.cost);
-    let rest = part_of_line(lines, at, at.col.saturating_add(allowed));
-    let count = characters_taken(test, context.sets, context.ignore, rest);
+    let count = run_length(lines, context, test, most, at, spent.budget - spent.cost);
     if count == 0 {
         return Ok(most);
     }

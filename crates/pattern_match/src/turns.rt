@@ -28,7 +28,7 @@ pub(crate) fn is_after(p: Place, q: Place) -> bool
 }
 
 /// How many turns are allowed, after one of them.
-fn one_less(most: Option<u32>) -> Option<u32>
+pub(crate) fn one_less(most: Option<u32>) -> Option<u32>
     ensures { result ≡ one_less most }
 {
     match most {

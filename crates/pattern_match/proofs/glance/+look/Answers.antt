@@ -1,18 +1,25 @@
-use Rattle.std.proofs.Common.{◌≡◌, [], ◌∷◌, refl, sym, ap, ◌∙◌, subst, rules, append-nil}
+use Rattle.std.proofs.Common.{◌≡◌, ◌-◌, suc, [], ◌∷◌, ◌++◌, refl, sym, ap, ◌∙◌, subst, rules, arith, append-nil}
 use Rattle.std.specs.Prelude.{true, false, Some, None}
 use Rattle.vim_pattern.specs.Shape.{Shape, one, ahead}
-use Rattle.match_rules.specs.Ways.{Context as AnyContext, Way, with_capture}
+use Rattle.pattern_items.specs.declared.atom.Atom.{Atom}
+use Rattle.match_rules.specs.Ways.{Context as AnyContext, Way, IsPlaceOf, is_after, with_capture}
 use Rattle.match_rules.specs.Attempt.{answer_from}
 use Rattle.match_rules.specs.Marks.{Reach, followed}
 use Rattle.match_rules.specs.Visits.{visits, noted, noted_external}
 use Rattle.match_rules.proofs.MarkLaws.{followed-reach}
 use Rattle.pattern_match.specs.Contexts.{context_in}
 use Rattle.pattern_match.specs.Steps.{shape_of, atom_of}
-use Rattle.pattern_match.specs.Glance.{IsSeen, marks_behind, turns_behind, turn_of}
+use Rattle.pattern_match.specs.Glance.{GoesOn, IsSeen, marks_behind, turns_behind, turn_of}
 use Rattle.pattern_match.specs.declared.glance.Sight.{Sight}
 use Rattle.pattern_match.specs.declared.task.Turns.{Turns}
 use Rattle.pattern_match.specs.declared.glance.Saw.TheVariants.{Reached, InVain}
 use Rattle.pattern_match.proofs.GlanceLaws.{atom_then, atom_stops, vain_then, first_stops, seen_as, seen_behind, either_is, optional_is, both_is, group_is, external_is, spent_is, forced_is, lazy_is, greedy_is, turn_is, ahead_is}
+use Rattle.match_rules.specs.Atoms.{own_line}
+use Rattle.match_rules.specs.Counts.{is_spent}
+use Rattle.pattern_match.specs.Spending.{spent_times}
+use Rattle.pattern_match.specs.Ways.{columns_on}
+use Rattle.pattern_match.specs.Glance.{stops_of, turns_of}
+use Rattle.pattern_match.proofs.GlanceRuns.{greedy_seen, turns_less, way_on, lazy_stops, lazy_ends, lazy_misses, lazy_stays, lazy_goes, comes_first, none_then, went_back, went_on, went_to}
 use Rattle.pattern_match.proofs.glance.+look.Goals as goal
 
 pub look_at-returns-in-Empty-clause-seen : goal.look_at-returns-in-Empty-clause-seen
@@ -195,36 +202,35 @@ look_at_count-returns-then-turns-gt0-clause-seen g t c =
     (forced_is x c.args.turns.now w (marks_behind x c.args.rest.now) (search rules) (search rules))
     (c.look_at_turn.ensures.seen w e)
 
-pub look_at_count-returns-then-turns-clause-seen : goal.look_at_count-returns-then-turns-clause-seen
-look_at_count-returns-then-turns-clause-seen g t c =
+pub look_at_more-returns-then-is_spent-clause-seen : goal.look_at_more-returns-then-is_spent-clause-seen
+look_at_more-returns-then-is_spent-clause-seen g t c =
     let x : AnyContext = context_in (g.T.Lines.lines c.args.lines.now) c.args.context.now in
-    λ w e. seen_as _ _ c.args.sight.now c.look_at_lazy.new.sight c.look_at_lazy.result
-    (lazy_is x c.args.turns.now w (marks_behind x c.args.rest.now) (rw e c.requires.on_text) (search rules) (search rules) (search rules))
-    (c.look_at_lazy.ensures.seen w e)
-
-pub look_at_count-returns-else-turns-clause-seen : goal.look_at_count-returns-else-turns-clause-seen
-look_at_count-returns-else-turns-clause-seen g t c =
-    let x : AnyContext = context_in (g.T.Lines.lines c.args.lines.now) c.args.context.now in
-    λ w e. seen_as _ _ c.args.sight.now c.look_at_greedy.new.sight c.look_at_greedy.result
-    (greedy_is x c.args.turns.now w (marks_behind x c.args.rest.now) (rw e c.requires.on_text) (search rules) (search rules) (search rules))
-    (c.look_at_greedy.ensures.seen w e)
-
-pub look_at_greedy-returns-in-InVain-clause-seen : goal.look_at_greedy-returns-in-InVain-clause-seen
-look_at_greedy-returns-in-InVain-clause-seen g t c =
-    let x : AnyContext = context_in (g.T.Lines.lines c.args.lines.now) c.args.context.now in
-    let f = marks_behind x c.args.rest.now in
-    λ w e. vain_then (followed (turn_of x c.args.turns.now w) f) (f w) c.args.sight.now c.look_at_turn.new.sight
-    (record c.look_at_turn.new.sight { at = c.args.sight.now.at }) c.go_on.new.sight
-    c.go_on.result refl (rw c.in-InVain.is at c.look_at_turn.ensures.seen w e)
+    λ w e. seen_as _ _ c.args.sight.now c.go_on.new.sight c.go_on.result
+    (spent_is x c.args.turns.now w (marks_behind x c.args.rest.now) (rw e c.requires.stands.on_text) (search rules))
     (c.go_on.ensures.seen w e)
 
-pub look_at_greedy-returns-in_default : goal.look_at_greedy-returns-in_default
-look_at_greedy-returns-in_default g t c =
+pub look_at_more-returns-in-InVain-clause-seen : goal.look_at_more-returns-in-InVain-clause-seen
+look_at_more-returns-in-InVain-clause-seen g t c =
     let x : AnyContext = context_in (g.T.Lines.lines c.args.lines.now) c.args.context.now in
     let f = marks_behind x c.args.rest.now in
+    let unspent : is_spent c.args.turns.now.most ≡ false = search rules in
+    λ w e. seen_as _ _ c.args.sight.now c.go_on-in-InVain.new.sight c.go_on-in-InVain.result
+    (greedy_is x c.args.turns.now w f (rw e c.requires.stands.on_text) unspent c.requires.free c.requires.greedy)
+    (vain_then (followed (turn_of x c.args.turns.now w) f) (f w) c.args.sight.now c.look_at_turn.new.sight
+    (record c.look_at_turn.new.sight { at = c.args.sight.now.at }) c.go_on-in-InVain.new.sight
+    c.go_on-in-InVain.result refl (rw c.in-InVain.is at c.look_at_turn.ensures.seen w e)
+    (c.go_on-in-InVain.ensures.seen w e))
+
+pub look_at_more-returns-in_default : goal.look_at_more-returns-in_default
+look_at_more-returns-in_default g t c =
+    let x : AnyContext = context_in (g.T.Lines.lines c.args.lines.now) c.args.context.now in
+    let f = marks_behind x c.args.rest.now in
+    let unspent : is_spent c.args.turns.now.most ≡ false = search rules in
     record {
-      seen = λ w e. first_stops (followed (turn_of x c.args.turns.now w) f) (f w) c.args.sight.now c.look_at_turn.new.sight c.look_at_turn.result
-          c.in_default.not-InVain (c.look_at_turn.ensures.seen w e);
+      seen = λ w e. seen_as _ _ c.args.sight.now c.look_at_turn.new.sight c.look_at_turn.result
+          (greedy_is x c.args.turns.now w f (rw e c.requires.stands.on_text) unspent c.requires.free c.requires.greedy)
+          (first_stops (followed (turn_of x c.args.turns.now w) f) (f w) c.args.sight.now c.look_at_turn.new.sight c.look_at_turn.result
+          c.in_default.not-InVain (c.look_at_turn.ensures.seen w e));
       goes = c.look_at_turn.ensures.goes;
     }
 
@@ -232,19 +238,213 @@ pub look_at_lazy-returns-in-InVain-clause-seen : goal.look_at_lazy-returns-in-In
 look_at_lazy-returns-in-InVain-clause-seen g t c =
     let x : AnyContext = context_in (g.T.Lines.lines c.args.lines.now) c.args.context.now in
     let f = marks_behind x c.args.rest.now in
-    λ w e. vain_then (f w) (followed (turn_of x c.args.turns.now w) f) c.args.sight.now c.go_on.new.sight
+    λ w e. seen_as _ _ c.args.sight.now c.look_at_turn.new.sight c.look_at_turn.result
+    (lazy_is x c.args.turns.now w f (rw e c.requires.stands.on_text) c.requires.allowed c.requires.free c.requires.lazy)
+    (vain_then (f w) (followed (turn_of x c.args.turns.now w) f) c.args.sight.now c.go_on.new.sight
     (record c.go_on.new.sight { at = c.args.sight.now.at }) c.look_at_turn.new.sight
     c.look_at_turn.result refl (rw c.in-InVain.is at c.go_on.ensures.seen w e)
-    (c.look_at_turn.ensures.seen w e)
+    (c.look_at_turn.ensures.seen w e))
 
-pub look_at_lazy-returns-in_default : goal.look_at_lazy-returns-in_default
-look_at_lazy-returns-in_default g t c =
+pub look_at_lazy-returns-in_default-go_on : goal.look_at_lazy-returns-in_default-go_on
+look_at_lazy-returns-in_default-go_on g t c =
     let x : AnyContext = context_in (g.T.Lines.lines c.args.lines.now) c.args.context.now in
     let f = marks_behind x c.args.rest.now in
     record {
-      seen = λ w e. first_stops (f w) (followed (turn_of x c.args.turns.now w) f) c.args.sight.now c.go_on.new.sight c.go_on.result
-          c.in_default.not-InVain (c.go_on.ensures.seen w e);
+      seen = λ w e. seen_as _ _ c.args.sight.now c.go_on.new.sight c.go_on.result
+          (lazy_is x c.args.turns.now w f (rw e c.requires.stands.on_text) c.requires.allowed c.requires.free c.requires.lazy)
+          (first_stops (f w) (followed (turn_of x c.args.turns.now w) f) c.args.sight.now c.go_on.new.sight c.go_on.result
+          c.in_default-go_on.not-InVain (c.go_on.ensures.seen w e));
       goes = c.go_on.ensures.goes;
+    }
+
+pub look_at_greedy-returns-in-InVain-clause-seen : goal.look_at_greedy-returns-in-InVain-clause-seen
+look_at_greedy-returns-in-InVain-clause-seen g t c =
+    let x : AnyContext = context_in (g.T.Lines.lines c.args.lines.now) c.args.context.now in
+    let f = marks_behind x c.args.rest.now in
+    let t : Turns = c.args.turns.now in
+    let old : Sight = c.args.sight.now in
+    let mid : Sight = c.go_further.new.sight in
+    let next : Sight = c.look_at_more-2.new.sight in
+    let n = c.turns_at_once-count.result in
+    λ w e.
+    let spent : mid.spent ≡ spent_times old.spent n (own_line w) =
+    ap (λ s. s.spent) c.go_further.ensures.is ∙ ap (λ p. spent_times old.spent n (own_line (record w { at = p }))) (sym e) in
+    let at : (way_on w n).at ≡ mid.at = ap (λ p. columns_on p n) e ∙ sym (ap (λ s. s.at) c.go_further.ensures.is) in
+    greedy_seen x t w f c.requires.free c.requires.greedy (rw e c.requires.stands.on_text) n (rw e c.turns_at_once-count.ensures.taken) old mid c.look_at_stops.new.sight c.look_at_stops.result spent
+    (vain_then (followed (turns_of x (turns_less t n) (way_on w n)) f) (stops_of f w n) mid next next c.look_at_stops.new.sight c.look_at_stops.result refl
+    (rw (c.in-InVain.is, c.less_by.ensures) at c.look_at_more-2.ensures.seen (way_on w n) at) (c.look_at_stops.ensures.seen w e))
+
+pub look_at_greedy-returns-in_default : goal.look_at_greedy-returns-in_default
+look_at_greedy-returns-in_default g t c =
+    let x : AnyContext = context_in (g.T.Lines.lines c.args.lines.now) c.args.context.now in
+    let f = marks_behind x c.args.rest.now in
+    let t : Turns = c.args.turns.now in
+    let old : Sight = c.args.sight.now in
+    let mid : Sight = c.go_further.new.sight in
+    let next : Sight = c.look_at_more-2.new.sight in
+    let n = c.turns_at_once-count.result in
+    record {
+      seen = λ w e.
+          let spent : mid.spent ≡ spent_times old.spent n (own_line w) =
+          ap (λ s. s.spent) c.go_further.ensures.is ∙ ap (λ p. spent_times old.spent n (own_line (record w { at = p }))) (sym e) in
+          let at : (way_on w n).at ≡ mid.at = ap (λ p. columns_on p n) e ∙ sym (ap (λ s. s.at) c.go_further.ensures.is) in
+          greedy_seen x t w f c.requires.free c.requires.greedy (rw e c.requires.stands.on_text) n (rw e c.turns_at_once-count.ensures.taken) old mid next c.look_at_more-2.result spent
+          (first_stops (followed (turns_of x (turns_less t n) (way_on w n)) f) (stops_of f w n) mid next c.look_at_more-2.result c.in_default.not-InVain
+          (rw c.less_by.ensures at c.look_at_more-2.ensures.seen (way_on w n) at));
+      goes = went_on _ c.args.sight.now c.go_further.new.sight c.look_at_more-2.new.sight c.go_further.ensures.goes c.look_at_more-2.ensures.goes;
+    }
+
+pub look_at_stops-stops-preserved : goal.look_at_stops-stops-preserved
+look_at_stops-stops-preserved g t c =
+    let text = g.T.Lines.lines c.args.lines.now in
+    let x : AnyContext = context_in text c.args.context.now in
+    let f = marks_behind x c.args.rest.now in
+    let old : Sight = c.args.sight.now in
+    let cur : Sight = c.stops.sight in
+    let here : Sight = record cur { at = c.columns_on-sight.result } in
+    let new : Sight = c.go_on.new.sight in
+    let n = c.stops.left - 1 in
+    let one_more : c.stops.left ≡ suc n = omega arith in
+    let within = c.stops.invariant.within in
+    let columns = c.requires.columns in
+    let on_text : IsPlaceOf text here.at = rw c.columns_on-sight.ensures (record { line = c.requires.from.line; col = omega arith }) in
+    let goes : GoesOn text old here = went_to text old cur here.at c.stops.invariant.goes on_text in
+    record {
+      within = omega arith;
+      goes = went_on text old here new goes c.go_on.ensures.goes;
+      seen = λ w e. c.stops.invariant.seen w e
+          ∙ ap (λ m. answer_from cur.spent.cost cur.spent.looked (stops_of f w m)) one_more
+          ∙ none_then (f (way_on w n)) (stops_of f w n) here new
+          (rw c.in-InVain.is at c.go_on.ensures.seen (way_on w n) (ap (λ p. columns_on p n) e ∙ sym c.columns_on-sight.ensures));
+    }
+
+pub look_at_stops-returns-in_default : goal.look_at_stops-returns-in_default
+look_at_stops-returns-in_default g t c =
+    let text = g.T.Lines.lines c.args.lines.now in
+    let x : AnyContext = context_in text c.args.context.now in
+    let f = marks_behind x c.args.rest.now in
+    let old : Sight = c.args.sight.now in
+    let cur : Sight = c.stops.sight in
+    let here : Sight = record cur { at = c.columns_on-sight.result } in
+    let new : Sight = c.go_on.new.sight in
+    let n = c.stops.left - 1 in
+    let one_more : c.stops.left ≡ suc n = omega arith in
+    let within = c.stops.invariant.within in
+    let columns = c.requires.columns in
+    let on_text : IsPlaceOf text here.at = rw c.columns_on-sight.ensures (record { line = c.requires.from.line; col = omega arith }) in
+    let goes : GoesOn text old here = went_to text old cur here.at c.stops.invariant.goes on_text in
+    record {
+      seen = λ w e. seen_behind (stops_of f w c.args.count) (f (way_on w n) ++ stops_of f w n) old cur here new c.go_on.result refl
+          (c.stops.invariant.seen w e ∙ ap (λ m. answer_from cur.spent.cost cur.spent.looked (stops_of f w m)) one_more)
+          (first_stops (f (way_on w n)) (stops_of f w n) here new c.go_on.result c.in_default.not-InVain
+          (c.go_on.ensures.seen (way_on w n) (ap (λ p. columns_on p n) e ∙ sym c.columns_on-sight.ensures)));
+      goes = went_on text old here new goes c.go_on.ensures.goes;
+    }
+
+pub look_at_stops-returns-clause-seen : goal.look_at_stops-returns-clause-seen
+look_at_stops-returns-clause-seen g t c =
+    let text = g.T.Lines.lines c.args.lines.now in
+    let x : AnyContext = context_in text c.args.context.now in
+    let f = marks_behind x c.args.rest.now in
+    let cur : Sight = c.stops.sight in
+    let none : c.stops.left ≡ 0 = omega arith in
+    λ w e. c.stops.invariant.seen w e ∙ ap (λ m. answer_from cur.spent.cost cur.spent.looked (stops_of f w m)) none
+
+pub look_at_lazy_atoms-returns-in_default : goal.look_at_lazy_atoms-returns-in_default
+look_at_lazy_atoms-returns-in_default g t c =
+    let text = g.T.Lines.lines c.args.lines.now in
+    let x : AnyContext = context_in text c.args.context.now in
+    let f = marks_behind x c.args.rest.now in
+    let t : Turns = c.args.turns.now in
+    let u : Turns = record t { most = c.loop.most } in
+    let old : Sight = c.args.sight.now in
+    let cur : Sight = c.loop.sight in
+    let new : Sight = c.go_on.new.sight in
+    let goes = c.loop.invariant.goes in
+    record {
+      seen = lazy_stops x f t u old cur c.loop.invariant.comes goes.stands.on_text c.requires.free c.requires.lazy new c.go_on.result
+          c.in_default.not-InVain c.go_on.ensures.seen;
+      goes = went_on text old cur new goes c.go_on.ensures.goes;
+    }
+
+pub look_at_lazy_atoms-returns-then-is_spent-clause-seen : goal.look_at_lazy_atoms-returns-then-is_spent-clause-seen
+look_at_lazy_atoms-returns-then-is_spent-clause-seen g t c =
+    let text = g.T.Lines.lines c.args.lines.now in
+    let x : AnyContext = context_in text c.args.context.now in
+    let f = marks_behind x c.args.rest.now in
+    let t : Turns = c.args.turns.now in
+    let u : Turns = record t { most = c.loop.most } in
+    let old : Sight = c.args.sight.now in
+    let cur : Sight = c.loop.sight in
+    let new : Sight = c.go_on.new.sight in
+    let goes = c.loop.invariant.goes in
+    let vain : (v : Way) → v.at ≡ cur.at → IsSeen (f v) cur new InVain = λ v e. rw c.in-InVain.is at c.go_on.ensures.seen v e in
+    let spent : is_spent c.loop.most ≡ true = sym c.is_spent.ensures ∙ c.if-is_spent.true in
+    lazy_ends x f t u old cur c.loop.invariant.comes goes.stands.on_text c.requires.free c.requires.lazy new vain spent
+
+pub look_at_lazy_atoms-returns-in_default-look_at_atom : goal.look_at_lazy_atoms-returns-in_default-look_at_atom
+look_at_lazy_atoms-returns-in_default-look_at_atom g t c =
+    let text = g.T.Lines.lines c.args.lines.now in
+    let x : AnyContext = context_in text c.args.context.now in
+    let f = marks_behind x c.args.rest.now in
+    let t : Turns = c.args.turns.now in
+    let u : Turns = record t { most = c.loop.most } in
+    let old : Sight = c.args.sight.now in
+    let cur : Sight = c.loop.sight in
+    let new : Sight = c.go_on.new.sight in
+    let goes = c.loop.invariant.goes in
+    let vain : (v : Way) → v.at ≡ cur.at → IsSeen (f v) cur new InVain = λ v e. rw c.in-InVain.is at c.go_on.ensures.seen v e in
+    let a : Atom = atom_of c.args.test.now in
+    let from : Sight = record new { at = cur.at } in
+    let mid : Sight = c.look_at_atom.new.sight in
+    let unspent : is_spent c.loop.most ≡ false = sym c.is_spent.ensures ∙ c.if-is_spent.false in
+    record {
+      seen = lazy_misses x f t u old cur c.loop.invariant.comes goes.stands.on_text c.requires.free c.requires.lazy new vain a c.requires.atom unspent from refl refl mid c.look_at_atom.result
+          c.in_default-look_at_atom.not-Reached c.look_at_atom.ensures.seen;
+      goes = went_on text old from mid (went_back text old cur new goes c.go_on.ensures.goes) c.look_at_atom.ensures.goes;
+    }
+
+pub look_at_lazy_atoms-returns-then-not-is_after-clause-seen : goal.look_at_lazy_atoms-returns-then-not-is_after-clause-seen
+look_at_lazy_atoms-returns-then-not-is_after-clause-seen g t c =
+    let text = g.T.Lines.lines c.args.lines.now in
+    let x : AnyContext = context_in text c.args.context.now in
+    let f = marks_behind x c.args.rest.now in
+    let t : Turns = c.args.turns.now in
+    let u : Turns = record t { most = c.loop.most } in
+    let old : Sight = c.args.sight.now in
+    let cur : Sight = c.loop.sight in
+    let new : Sight = c.go_on.new.sight in
+    let goes = c.loop.invariant.goes in
+    let vain : (v : Way) → v.at ≡ cur.at → IsSeen (f v) cur new InVain = λ v e. rw c.in-InVain.is at c.go_on.ensures.seen v e in
+    let a : Atom = atom_of c.args.test.now in
+    let from : Sight = record new { at = cur.at } in
+    let mid : Sight = c.look_at_atom.new.sight in
+    let unspent : is_spent c.loop.most ≡ false = sym c.is_spent.ensures ∙ c.if-is_spent.false in
+    let stays : is_after mid.at cur.at ≡ false = sym c.is_after.ensures ∙ c.if-not-is_after.true in
+    lazy_stays x f t u old cur c.loop.invariant.comes goes.stands.on_text c.requires.free c.requires.lazy new vain a c.requires.atom unspent from refl refl mid
+    (λ v e. rw c.in-Reached.is at c.look_at_atom.ensures.seen v e) stays
+
+pub look_at_lazy_atoms-loop-preserved : goal.look_at_lazy_atoms-loop-preserved
+look_at_lazy_atoms-loop-preserved g t c =
+    let text = g.T.Lines.lines c.args.lines.now in
+    let x : AnyContext = context_in text c.args.context.now in
+    let f = marks_behind x c.args.rest.now in
+    let t : Turns = c.args.turns.now in
+    let u : Turns = record t { most = c.loop.most } in
+    let old : Sight = c.args.sight.now in
+    let cur : Sight = c.loop.sight in
+    let new : Sight = c.go_on.new.sight in
+    let goes = c.loop.invariant.goes in
+    let vain : (v : Way) → v.at ≡ cur.at → IsSeen (f v) cur new InVain = λ v e. rw c.in-InVain.is at c.go_on.ensures.seen v e in
+    let a : Atom = atom_of c.args.test.now in
+    let from : Sight = record new { at = cur.at } in
+    let mid : Sight = c.look_at_atom.new.sight in
+    let unspent : is_spent c.loop.most ≡ false = sym c.is_spent.ensures ∙ c.if-is_spent.false in
+    let moves : is_after mid.at cur.at ≡ true = sym c.is_after.ensures ∙ c.if-not-is_after.false in
+    record {
+      goes = went_on text old from mid (went_back text old cur new goes c.go_on.ensures.goes) c.look_at_atom.ensures.goes;
+      comes = rw c.one_less-most.ensures (lazy_goes x f t u old cur c.loop.invariant.comes goes.stands.on_text c.requires.free c.requires.lazy new vain a c.requires.atom unspent from refl refl mid
+          (λ v e. rw c.in-Reached.is at c.look_at_atom.ensures.seen v e) moves);
     }
 
 pub look_at_repeat-returns-clause-seen : goal.look_at_repeat-returns-clause-seen

@@ -1,4 +1,9 @@
-use Rattle.std.proofs.Common.{◌+◌, ◌*◌}
+use Rattle.std.proofs.Common.{◌≡◌, ◌≤◌, ◌+◌, ◌*◌}
+use Rattle.match_rules.specs.Attempt.{answer_from}
+use Rattle.match_rules.specs.Ways.{Way}
+use Rattle.pattern_match.specs.Contexts.{context_in}
+use Rattle.pattern_match.specs.Glance.{GoesOn, marks_behind, stops_of}
+use Rattle.pattern_match.proofs.GlanceRuns.{ComesTo}
 use Rattle.pattern_match.proofs.glance.+look.Given as goal
 
 -- by the nodes that may still be visited, and within them by how far the calls have come
@@ -33,16 +38,49 @@ abbrev pub decreases-look_at_turn : goal.decreases-look_at_turn
 decreases-look_at_turn g l = 8 * l.sight.now.left + 1
 
 abbrev pub decreases-look_at_count : goal.decreases-look_at_count
-decreases-look_at_count g l = 8 * l.sight.now.left + 3
+decreases-look_at_count g l = 8 * l.sight.now.left + 4
 
 abbrev pub decreases-look_at_repeat : goal.decreases-look_at_repeat
-decreases-look_at_repeat g l = 8 * l.sight.now.left + 4
+decreases-look_at_repeat g l = 8 * l.sight.now.left + 5
 
 abbrev pub decreases-look_ahead : goal.decreases-look_ahead
 decreases-look_ahead g l = 8 * l.sight.now.left + 1
 
 abbrev pub decreases-look_at_greedy : goal.decreases-look_at_greedy
-decreases-look_at_greedy g l = 8 * l.sight.now.left + 2
+decreases-look_at_greedy g l = 8 * l.sight.now.left + 3
 
 abbrev pub decreases-look_at_lazy : goal.decreases-look_at_lazy
-decreases-look_at_lazy g l = 8 * l.sight.now.left + 2
+decreases-look_at_lazy g l = 8 * l.sight.now.left + 3
+
+abbrev pub decreases-look_at_more : goal.decreases-look_at_more
+decreases-look_at_more g l = 8 * l.sight.now.left + 2
+
+abbrev pub decreases-look_at_stops : goal.decreases-look_at_stops
+decreases-look_at_stops g l = 8 * l.sight.now.left + 2
+
+abbrev pub decreases-look_at_lazy_atoms : goal.decreases-look_at_lazy_atoms
+decreases-look_at_lazy_atoms g l = 8 * l.sight.now.left + 2
+
+abbrev pub decreases-look_at_stops-stops : goal.decreases-look_at_stops-stops
+decreases-look_at_stops-stops g l = l.left
+
+-- what follows the stops that are left tells what all of them do
+abbrev pub invariant-look_at_stops-stops : goal.invariant-look_at_stops-stops
+invariant-look_at_stops-stops g l =
+    let text = g.T.Lines.lines l.lines in
+    let f = marks_behind (context_in text l.context) l.rest in
+    record {
+      within : l.left ≤ l.count;
+      goes : GoesOn text l.fn.sight l.sight;
+      seen : (w : Way) → w.at ≡ l.from → answer_from l.fn.sight.spent.cost l.fn.sight.spent.looked (stops_of f w l.count) ≡ answer_from l.sight.spent.cost l.sight.spent.looked (stops_of f w l.left);
+    }
+
+-- the turns that are left tell what all of them do
+abbrev pub invariant-look_at_lazy_atoms-loop : goal.invariant-look_at_lazy_atoms-loop
+invariant-look_at_lazy_atoms-loop g l =
+    let text = g.T.Lines.lines l.lines in
+    let x = context_in text l.context in
+    record {
+      goes : GoesOn text l.fn.sight l.sight;
+      comes : ComesTo x (marks_behind x l.rest) l.turns (record l.turns { most = l.most }) l.fn.sight l.sight;
+    }

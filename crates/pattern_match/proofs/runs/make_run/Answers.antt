@@ -16,11 +16,9 @@ returns-then-count-eq0 g c =
 pub returns : goal.returns
 returns g c =
     let x : AnyContext = context_in (g.T.Lines.lines c.args.lines.now) c.args.context.now in
-    let count = c.characters_taken-count in
-    let low : c.args.spent.now.cost + c.turns_allowed-allowed.result ≤ c.args.spent.now.budget = omega arith in
-    let room : c.saturating_add.result - c.place-at.result.col ≤ c.turns_allowed-allowed.result = omega arith in
+    let count = c.run_length-count in
+    let low : c.args.spent.now.cost + count.result ≤ c.args.spent.now.budget = omega arith in
     let looked : c.one.result ≡ one_line (pos c.place-at.result.line) = search rules in
-    has_run x (atom_of c.args.test.now) c.args.most c.less_by.result c.args.ways.now c.put_run_aside.new.self c.args.spent.now c.tick_times.new.self count.result c.turns_allowed-allowed.result
-    (c.saturating_add.result - c.place-at.result.col) c.place-at.result c.part_of_line-rest.result.now c.place-at.ensures c.requires.on_text c.part_of_line-rest.ensures room
-    count.ensures.plain count.ensures.within count.ensures.taken c.turns_allowed-allowed.ensures.count low c.less_by.ensures c.in_ok-put_run_aside.ensures
+    has_run x (atom_of c.args.test.now) c.args.most c.less_by.result c.args.ways.now c.put_run_aside.new.self c.args.spent.now c.tick_times.new.self count.result c.place-at.result
+    c.place-at.ensures count.ensures.run count.ensures.allowed low c.less_by.ensures c.in_ok-put_run_aside.ensures
     (c.tick_times.ensures ∙ ap (spent_times c.args.spent.now count.result) looked)
