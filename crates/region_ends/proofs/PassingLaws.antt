@@ -1,14 +1,16 @@
 -- The search goes on behind columns where neither the skip nor an end can fit.
-use Rattle.std.proofs.Common.{◌≡◌, ◌∙◌, refl, sym, ap, subst, arith, ℕ, zero, suc, ◌+◌, ◌-◌, ◌<◌, ◌≤◌, Bool, true, false, List, [], ◌∷◌, length}
-use Rattle.std.specs.Prelude.{Option, Some, None, pos, nat_eq, nat_lt, not, ◌&&◌, ◌||◌, reverse}
-use Rattle.std.specs.List.{list_all}
+use Rattle.std.proofs.Common.{◌≡◌, ◌⊎◌, inl, inr, ◌∙◌, refl, sym, ap, subst, arith, ℕ, zero, suc, ◌+◌, ◌-◌, ◌<◌, ◌≤◌, Bool, true, false, List, [], ◌∷◌, length}
+use Rattle.std.specs.Prelude.{Option, Some, None, pos, nat_eq, nat_lt, not, ◌&&◌, ◌||◌, reverse, slice_get, is_some}
+use Rattle.std.specs.List.{All, list_all}
 use Rattle.std.specs.Option.{option_map}
 use Rattle.std.proofs.lemmas.Bool.Decides.{nat_tests}
 use Rattle.std.proofs.lemmas.List.{reverse-append}
+use Rattle.std.proofs.lemmas.List.Elements.{All-head, All-tail}
 use Rattle.std.proofs.lemmas.List.Folds.{list_all-append}
 use Rattle.syn_base.specs.declared.looked.Looked.{Looked}
 use Rattle.syn_base.specs.Looked.{one_line}
 use Rattle.match_rules.specs.Ways.{Text, line_at}
+use Rattle.match_rules.specs.Attempt.{ignores_case}
 use Rattle.pattern_match.specs.declared.answer.Attempt.TheVariants as tried
 use Rattle.pattern_match.specs.Answers.{match_of}
 use Rattle.pattern_screens.specs.Bounds.{failing_cost}
@@ -31,8 +33,10 @@ use Rattle.region_ends.specs.declared.key_answers.KeyAnswers.{KeyAnswers}
 use Rattle.region_ends.specs.declared.passing.Passing.{Passing}
 use Rattle.region_ends.specs.declared.searching.Searching.{Searching}
 use Rattle.region_ends.specs.KeyAnswers.{AnswersStand}
-use Rattle.region_ends.specs.Passing.{IsOfRegion, IsPassedOver, IsPassing, are_cheap, are_shut, fails, is_shut, is_shut_at, is_skip_shut, is_vain, is_skip_vain, is_cheap, is_skip_cheap}
+use Rattle.region_ends.specs.Opening.{IsToldOf, begins_elsewhere, begins_with, cannot_begin, differs, first_of, is_unopened}
+use Rattle.region_ends.specs.Passing.{IsOfRegion, IsPassedOver, IsPassing, are_cheap, are_shut, fails, is_end_passed, is_end_shut, is_idle, is_shut, is_shut_at, is_skip_shut, is_vain, is_skip_vain, is_cheap, is_skip_cheap}
 use Rattle.region_ends.specs.Steps.{HoldsLine, search_in}
+use Rattle.region_ends.proofs.OpeningLaws.{attempt_fails, begins_here, told_elsewhere}
 use Rattle.region_ends.proofs.SearchLaws.{tried_at_is, end_absent, to_later}
 
 -- ---- tests
@@ -44,12 +48,9 @@ both false b e = absurd (cc)
 both_pass : (a b : Bool) → a ≡ true → b ≡ true → (a && b) ≡ true
 both_pass a b e f = rw (e, f) refl
 
-all_both : {A : Type 0} (f g : A → Bool) (xs : List A) → list_all f xs ≡ true → list_all g xs ≡ true → list_all (λ x. f x && g x) xs ≡ true
-all_both f g [] a b = refl
-all_both f g (x ∷ xs) a b =
-    let c = both (f x) (list_all f xs) a in
-    let d = both (g x) (list_all g xs) b in
-    both_pass (f x && g x) (list_all (λ x. f x && g x) xs) (both_pass (f x) (g x) c.0 d.0) (all_both f g xs c.1 d.1)
+one_of : (a b : Bool) → (a || b) ≡ true → (a ≡ true) ⊎ (b ≡ true)
+one_of true b e = inl refl
+one_of false b e = inr e
 
 all_reverse : {A : Type 0} (f : A → Bool) (xs : List A) → list_all f xs ≡ true → list_all f (reverse xs) ≡ true
 all_reverse f [] e = refl
@@ -86,6 +87,31 @@ before_line : (s : Search) (k : Looked) (c : ℕ) (pattern : Pattern) → nat_lt
 before_line s k c pattern e =
     ap (λ b. looked_first (Some k) (elim b as (λ _. Painted Cause (Option Matched)) [ true ↦ done None | false ↦ attempted s.rules s.text s.item s.externals pattern (place_at s.from.line (c - pattern.lc)) >>= looks_at_end ])) e
 
+-- the text of the external with which it begins doesn't stand there
+module _ (s : Searching) (text : Text) (k : Looked) (c : ℕ) (pattern : Pattern) (held : HoldsLine k s.from.line) (enough : 1 ≤ s.matcher.budget) where
+  abbrev asks : Bool
+  asks = (item_of s.items.now s.region).ignore
+
+  abbrev next : Option ℕ
+  next = slice_get (line_at text s.from.line) c
+
+  elsewhere_by : (o : Option ℕ) → begins_with pattern ≡ o → begins_elsewhere o s.externals.now (ignores_case pattern.tree asks) next ≡ true → GivesNothing (search_in s text) k c pattern
+  unfolding attempt_by
+  elsewhere_by None e h = absurd (cc)
+  elsewhere_by (Some number) e h =
+      let l : ℕ = s.from.line in
+      let x = context_of s.matcher.sets.now text asks s.externals.now in
+      let here = begins_here pattern number e in
+      let at : c ≡ c - pattern.lc = omega (arith, here.0) in
+      let there = subst (λ n. differs (first_of s.externals.now number) (ignores_case pattern.tree asks) (slice_get (line_at text l) n) ≡ true) at h in
+      let fail = attempt_fails pattern.tree x (place_at l (c - pattern.lc)) number here.1 there in
+      tried_at_is (search_in s text) pattern c k (tried.Absent (one_line (pos l))) (omega (arith, here.0))
+      (omega (arith, fail.cost, enough), ap (option_map (match_of text (place_at l (c - pattern.lc)))) fail.way, fail.looked)
+      ∙ ap (λ (j : Looked). Done None (Some j)) held
+
+  elsewhere : cannot_begin s.externals.now asks pattern next ≡ true → GivesNothing (search_in s text) k c pattern
+  elsewhere h = elsewhere_by (begins_with pattern) refl h
+
 module _ (a : Passing) (s : Searching) (text : Text) (skip : Option Pattern) (ends : List Pattern) (of : IsPassing a s text skip ends)
     (k : Looked) (held : HoldsLine k s.from.line) (c : ℕ) (within : c ≤ length (line_at text s.from.line)) where
   by_start : (pattern : Pattern) → is_cheap s.matcher.budget pattern ≡ true → (b : Bool) → nat_lt c pattern.lc ≡ b → (b || fails a (key_of a.sets.now a.line.now (c - pattern.lc)) pattern) ≡ true → GivesNothing (search_in s text) k c pattern
@@ -106,22 +132,26 @@ module _ (a : Passing) (s : Searching) (text : Text) (skip : Option Pattern) (en
       (λ m. elim m as (λ _. Painted Cause Skip) [ None ↦ done NoSkip | Some m ↦ done (skip_to (search_in s text) c (offset_place text m pattern Me)) ])
       (vain_gives pattern vain cheap)
 
-  ends_give : (ps : List Pattern) → list_all (λ p. is_vain a c p && is_cheap s.matcher.budget p) ps ≡ true → looked_first (Some k) (first_found (end_at (search_in s text) c) ps) ≡ Done None (Some k)
+  end_gives : (pattern : Pattern) → is_end_passed a c pattern ≡ true → GivesNothing (search_in s text) k c pattern
+  end_gives pattern e = elim (one_of (is_vain a c pattern && is_cheap a.budget pattern) _ e) [
+    | inl h ↦ (
+        let vain = both (is_vain a c pattern) (is_cheap a.budget pattern) h in
+        vain_gives pattern vain.0 (subst (λ n. is_cheap n pattern ≡ true) of.budget vain.1))
+    | inr h ↦ elsewhere s text k c pattern held of.some (sym (λ i. cannot_begin (of.externals i) (of.ignore i) pattern (slice_get (of.line i) c)) ∙ h)
+  ]
+
+  ends_give : (ps : List Pattern) → list_all (is_end_passed a c) ps ≡ true → looked_first (Some k) (first_found (end_at (search_in s text) c) ps) ≡ Done None (Some k)
   ends_give [] e = refl
   ends_give (p ∷ ps) e =
-      let h = both (is_vain a c p && is_cheap s.matcher.budget p) (list_all (λ p. is_vain a c p && is_cheap s.matcher.budget p) ps) e in
-      let one = both (is_vain a c p) (is_cheap s.matcher.budget p) h.0 in
-      end_absent (search_in s text) c k p ps k (vain_gives p one.0 one.1) ∙ ends_give ps h.1
+      let h = both (is_end_passed a c p) (list_all (is_end_passed a c) ps) e in
+      end_absent (search_in s text) c k p ps k (end_gives p h.0) ∙ ends_give ps h.1
 
   pub column_passed : (kind : ItemKind) (last : ℕ) → skip ≡ skip_of kind → ends ≡ ends_of kind → c ≤ last → IsPassedOver a c →
       looked_first (Some k) (end_from (search_in s text) kind (columns_from c last) c) ≡ looked_first (Some k) (end_from (search_in s text) kind (columns_from (suc c) last) (suc c))
   column_passed kind last sk en less passed =
-      let vain = both (is_skip_vain a c a.skip.now) (list_all (is_vain a c) a.ends.now) passed.idle in
-      let few = both (is_skip_cheap s.matcher.budget skip) (list_all (is_cheap s.matcher.budget) ends)
-      (sym (λ i. are_cheap (of.budget i) (of.skip i) (of.ends i)) ∙ passed.cheap) in
-      let no_skip = skip_gives skip (subst (λ (o : Option Pattern). is_skip_vain a c o ≡ true) of.skip vain.0) few.0 in
-      let all = all_both (is_vain a c) (is_cheap s.matcher.budget) ends (subst (λ (ps : List Pattern). list_all (is_vain a c) ps ≡ true) of.ends vain.1) few.1 in
-      let found = ends_give (reverse ends) (all_reverse (λ p. is_vain a c p && is_cheap s.matcher.budget p) ends all) in
+      let no_skip = skip_gives skip (subst (λ (o : Option Pattern). is_skip_vain a c o ≡ true) of.skip passed.skip) (sym (λ i. is_skip_cheap (of.budget i) (of.skip i)) ∙ passed.cheap) in
+      let all = subst (λ (ps : List Pattern). list_all (is_end_passed a c) ps ≡ true) of.ends passed.ends in
+      let found = ends_give (reverse ends) (all_reverse (is_end_passed a c) ends all) in
       to_later (search_in s text) kind c last k less k
       (subst (λ (o : Option Pattern). looked_first (Some k) (skip_at (search_in s text) o c) ≡ Done NoSkip (Some k)) sk no_skip) k
       (subst (λ (ps : List Pattern). looked_first (Some k) (first_found (end_at (search_in s text) c) (reverse ps)) ≡ Done None (Some k)) en found)
@@ -134,6 +164,9 @@ no_less n = grind (arith, nat_tests)
 either : (a b : Bool) → b ≡ true → (a || b) ≡ true
 either true b e = refl
 either false b e = e
+
+either_first : (a b : Bool) → a ≡ true → (a || b) ≡ true
+either_first a b e = rw e refl
 
 module _ (a : Passing) (c : ℕ) (key : Key) (is : key ≡ key_of a.sets.now a.line.now c) where
   shut_vain : (pattern : Pattern) → is_shut a.sets.now a.budget a.ignore key pattern ≡ true → is_vain a c pattern ≡ true
@@ -150,10 +183,6 @@ module _ (a : Passing) (c : ℕ) (key : Key) (is : key ≡ key_of a.sets.now a.l
       let screen = is_futile (verdict a.sets.now a.ignore key pattern.tree) in
       (both screen (is_cheap a.budget pattern) (both (nat_eq pattern.lc 0) (screen && is_cheap a.budget pattern) e).1).1
 
-  all_of : {A : Type 0} (f g : A → Bool) → ((x : A) → f x ≡ true → g x ≡ true) → (xs : List A) → list_all f xs ≡ true → list_all g xs ≡ true
-  all_of f g h [] e = refl
-  all_of f g h (x ∷ xs) e = both_pass (g x) (list_all g xs) (h x (both (f x) (list_all f xs) e).0) (all_of f g h xs (both (f x) (list_all f xs) e).1)
-
   skip_shut_vain : (skip : Option Pattern) → is_skip_shut a.sets.now a.budget a.ignore key skip ≡ true → is_skip_vain a c skip ≡ true
   skip_shut_vain None e = refl
   skip_shut_vain (Some pattern) e = shut_vain pattern e
@@ -162,15 +191,47 @@ module _ (a : Passing) (c : ℕ) (key : Key) (is : key ≡ key_of a.sets.now a.l
   skip_shut_cheap None e = refl
   skip_shut_cheap (Some pattern) e = shut_cheap pattern e
 
-  -- a column whose key shuts out the skip and all ends is passed over
-  pub shut_passed : are_shut a.sets.now a.budget a.ignore key a.skip.now a.ends.now ≡ true → IsPassedOver a c
-  shut_passed e =
-      let f = is_shut a.sets.now a.budget a.ignore key in
-      let h = both (is_skip_shut a.sets.now a.budget a.ignore key a.skip.now) (list_all f a.ends.now) e in
+  abbrev here : Option ℕ
+  here = slice_get a.line.now c
+
+  end_passed : is_unopened a.opening here ≡ true → (pattern : Pattern) → IsToldOf a.externals.now a.ignore a.opening pattern → is_end_shut a.sets.now a.budget a.ignore key pattern ≡ true → is_end_passed a c pattern ≡ true
+  end_passed unopened pattern told e = elim (one_of (is_some (begins_with pattern)) _ e) [
+    | inl some ↦ either (is_vain a c pattern && is_cheap a.budget pattern) _ (told_elsewhere a.externals.now a.ignore pattern here a.opening some told unopened)
+    | inr shut ↦ either_first _ (cannot_begin a.externals.now a.ignore pattern here) (both_pass (is_vain a c pattern) (is_cheap a.budget pattern) (shut_vain pattern shut) (shut_cheap pattern shut))
+  ]
+
+  ends_passed : is_unopened a.opening here ≡ true → (ps : List Pattern) → All (IsToldOf a.externals.now a.ignore a.opening) ps → list_all (is_end_shut a.sets.now a.budget a.ignore key) ps ≡ true → list_all (is_end_passed a c) ps ≡ true
+  ends_passed unopened [] told e = refl
+  ends_passed unopened (p ∷ ps) told e =
+      let told_of = IsToldOf a.externals.now a.ignore a.opening in
+      let h = both (is_end_shut a.sets.now a.budget a.ignore key p) (list_all (is_end_shut a.sets.now a.budget a.ignore key) ps) e in
+      both_pass (is_end_passed a c p) (list_all (is_end_passed a c) ps) (end_passed unopened p (All-head told_of p ps told) h.0) (ends_passed unopened ps (All-tail told_of p ps told) h.1)
+
+  -- a column whose key shuts out the skip and the ends, and at which no end begins with the text of
+  -- an external, is passed over
+  pub shut_passed : are_shut a.sets.now a.budget a.ignore key a.skip.now a.ends.now ≡ true → All (IsToldOf a.externals.now a.ignore a.opening) a.ends.now → is_unopened a.opening here ≡ true → IsPassedOver a c
+  shut_passed e told unopened =
+      let h = both (is_skip_shut a.sets.now a.budget a.ignore key a.skip.now) (list_all (is_end_shut a.sets.now a.budget a.ignore key) a.ends.now) e in
       record {
-        idle = both_pass (is_skip_vain a c a.skip.now) (list_all (is_vain a c) a.ends.now) (skip_shut_vain a.skip.now h.0) (all_of f (is_vain a c) shut_vain a.ends.now h.1);
-        cheap = both_pass (is_skip_cheap a.budget a.skip.now) (list_all (is_cheap a.budget) a.ends.now) (skip_shut_cheap a.skip.now h.0) (all_of f (is_cheap a.budget) shut_cheap a.ends.now h.1);
+        skip = skip_shut_vain a.skip.now h.0;
+        cheap = skip_shut_cheap a.skip.now h.0;
+        ends = ends_passed unopened a.ends.now told h.1;
       }
+
+-- a column where neither the skip nor an end can fit, within the budget, is passed over
+idle_ends : (a : Passing) (c : ℕ) (ps : List Pattern) → list_all (is_vain a c) ps ≡ true → list_all (is_cheap a.budget) ps ≡ true → list_all (is_end_passed a c) ps ≡ true
+idle_ends a c [] e h = refl
+idle_ends a c (p ∷ ps) e h =
+    let vain = both (is_vain a c p) (list_all (is_vain a c) ps) e in
+    let cheap = both (is_cheap a.budget p) (list_all (is_cheap a.budget) ps) h in
+    both_pass (is_end_passed a c p) (list_all (is_end_passed a c) ps)
+    (either_first _ (cannot_begin a.externals.now a.ignore p (slice_get a.line.now c)) (both_pass (is_vain a c p) (is_cheap a.budget p) vain.0 cheap.0)) (idle_ends a c ps vain.1 cheap.1)
+
+pub idle_passed : (a : Passing) (c : ℕ) → are_cheap a.budget a.skip.now a.ends.now ≡ true → is_idle a c ≡ true → IsPassedOver a c
+idle_passed a c few idle =
+    let vain = both (is_skip_vain a c a.skip.now) (list_all (is_vain a c) a.ends.now) idle in
+    let cheap = both (is_skip_cheap a.budget a.skip.now) (list_all (is_cheap a.budget) a.ends.now) few in
+    record { skip = vain.0; cheap = cheap.0; ends = idle_ends a c a.ends.now vain.1 cheap.1 }
 
 -- what is kept of a region tells of the patterns that a search has
 shut_is : (a : Passing) → IsOfRegion a → (number : ℕ) (key : Key) → key_numbered number ≡ key →

@@ -7,4 +7,5 @@ pub mod KeyAnswers
 -- what only code and proofs cite
 pub mod Steps
 pub mod Stretches
+pub mod Opening
 pub mod Passing

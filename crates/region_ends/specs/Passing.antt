@@ -1,6 +1,6 @@
 -- Columns at which a search finds nothing, by what stands there.
-use Rattle.std.specs.Prelude.{◌≡◌, ℕ, ◌-◌, Bool, true, nat_eq, nat_lt, ◌||◌, ◌&&◌, not, List, Option, Some, None}
-use Rattle.std.specs.List.{list_all}
+use Rattle.std.specs.Prelude.{◌≡◌, ◌≤◌, ℕ, ◌-◌, slice_get, is_some, Bool, true, nat_eq, nat_lt, ◌||◌, ◌&&◌, not, List, Option, Some, None}
+use Rattle.std.specs.List.{All, list_all}
 use Rattle.char_class.specs.declared.sets.Sets.{Sets}
 use Rattle.match_rules.specs.Ways.{Text, line_at}
 use Rattle.syntax_set.specs.declared.added_item.AddedItem.{AddedItem}
@@ -13,6 +13,7 @@ use Rattle.paint_rules.specs.Rules.{item_of}
 use Rattle.paint_rules.specs.EndInLine.{ends_of, skip_of}
 use Rattle.region_ends.specs.declared.passing.Passing.{Passing}
 use Rattle.region_ends.specs.declared.searching.Searching.{Searching}
+use Rattle.region_ends.specs.Opening.{IsToldOf, begins_with, cannot_begin}
 
 -- at columns with this key an attempt has no way, and looks at its line alone
 abbrev pub fails : Passing → Key → Pattern → Bool
@@ -43,10 +44,18 @@ is_skip_cheap budget (Some pattern) = is_cheap budget pattern
 abbrev pub are_cheap : ℕ → Option Pattern → List Pattern → Bool
 are_cheap budget skip ends = is_skip_cheap budget skip && list_all (is_cheap budget) ends
 
--- a column that is passed over
+-- ---- a column that is passed over
+
+-- an end can't fit, within the budget, or can't begin
+abbrev pub is_end_passed : Passing → ℕ → Pattern → Bool
+is_end_passed a c pattern =
+    is_vain a c pattern && is_cheap a.budget pattern
+    || cannot_begin a.externals.now a.ignore pattern (slice_get a.line.now c)
+
 pub record IsPassedOver (a : Passing) (c : ℕ) : Type 0 where
-  pub idle : is_idle a c ≡ true
-  pub cheap : are_cheap a.budget a.skip.now a.ends.now ≡ true
+  pub skip : is_skip_vain a c a.skip.now ≡ true
+  pub cheap : is_skip_cheap a.budget a.skip.now ≡ true
+  pub ends : list_all (is_end_passed a c) a.ends.now ≡ true
 
 -- ---- what is kept of a region
 
@@ -60,11 +69,17 @@ abbrev pub is_skip_shut : Sets → ℕ → Bool → Key → Option Pattern → B
 is_skip_shut sets budget ignore key None = true
 is_skip_shut sets budget ignore key (Some pattern) = is_shut sets budget ignore key pattern
 
+-- an end that begins with the text of an external is asked for by what stands there
+abbrev pub is_end_shut : Sets → ℕ → Bool → Key → Pattern → Bool
+is_end_shut sets budget ignore key pattern =
+    is_some (begins_with pattern) || is_shut sets budget ignore key pattern
+
 abbrev pub are_shut : Sets → ℕ → Bool → Key → Option Pattern → List Pattern → Bool
 are_shut sets budget ignore key skip ends =
-    is_skip_shut sets budget ignore key skip && list_all (is_shut sets budget ignore key) ends
+    is_skip_shut sets budget ignore key skip && list_all (is_end_shut sets budget ignore key) ends
 
--- the skip and all ends of a region, by the number of a key and that of the region
+-- the skip and all ends of a region that don't begin with the text of an external, by the number of a
+-- key and that of the region
 abbrev pub is_shut_at : List AddedItem → Sets → ℕ → ℕ → ℕ → Bool
 is_shut_at items sets budget number region =
     are_shut sets budget (item_of items (record { 0 = region })).ignore (key_numbered number)
@@ -79,6 +94,7 @@ pub record IsOfRegion (a : Passing) : Type 0 where
   pub skip : a.skip.now ≡ skip_of (item_of a.items.now a.region).kind
   pub ends : a.ends.now ≡ ends_of (item_of a.items.now a.region).kind
   pub cheap : a.cheap ≡ true → are_cheap a.budget a.skip.now a.ends.now ≡ true
+  pub opening : All (IsToldOf a.externals.now a.ignore a.opening) a.ends.now
 
 -- the line and the patterns are those of a search
 pub record IsPassing (a : Passing) (s : Searching) (text : Text) (asked_skip : Option Pattern)
@@ -86,8 +102,10 @@ pub record IsPassing (a : Passing) (s : Searching) (text : Text) (asked_skip : O
   pub items : a.items.now ≡ s.items.now
   pub region : a.region ≡ s.region
   pub budget : a.budget ≡ s.matcher.budget
+  pub some : 1 ≤ s.matcher.budget
   pub sets : a.sets.now ≡ s.matcher.sets.now
   pub ignore : a.ignore ≡ (item_of s.items.now s.region).ignore
   pub line : a.line.now ≡ line_at text s.from.line
   pub skip : a.skip.now ≡ asked_skip
   pub ends : a.ends.now ≡ asked_ends
+  pub externals : a.externals.now ≡ s.externals.now

@@ -11,6 +11,7 @@ mod keeping;
 mod key_answers;
 mod matching;
 mod offsets;
+mod opening;
 mod passing;
 mod searching;
 mod skips;

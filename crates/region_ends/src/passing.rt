@@ -1,14 +1,16 @@
 //! Columns that a search passes over: by what stands there, neither the skip nor an end can fit.
-ghost use Rattle.std.specs.Prelude.{◌≡◌, ◌≤◌, ◌<◌, ℕ, suc, true, length, IsTrue};
+ghost use Rattle.std.specs.Prelude.{◌≡◌, ◌≤◌, ◌<◌, ℕ, suc, true, length, slice_get, IsTrue};
 ghost use Rattle.std.specs.List.{list_all};
 ghost use Rattle.pattern_screens.specs.Keys.{key_of};
 ghost use Rattle.region_ends.specs.KeyAnswers.{AnswersStand};
-ghost use Rattle.region_ends.specs.Passing.{are_cheap, are_shut, fails, is_cheap, is_idle, is_shut, is_shut_at, is_skip_cheap, is_skip_shut, is_skip_vain, is_vain, IsOfRegion, IsPassedOver};
+ghost use Rattle.region_ends.specs.Opening.{is_unopened};
+ghost use Rattle.region_ends.specs.Passing.{are_cheap, are_shut, fails, is_cheap, is_end_shut, is_idle, is_shut, is_shut_at, is_skip_cheap, is_skip_shut, is_skip_vain, is_vain, IsOfRegion, IsPassedOver};
 
 use crate::key_answers::KeyAnswers;
+use crate::opening::{Opening, begins_with, stands};
 use char_class::Sets;
 use pattern_screens::{Key, failing_cost, screen};
-use syn_base::{ItemId, List, Memory};
+use syn_base::{Externals, ItemId, List, Memory};
 use syntax_set::{ItemSet, Pattern};
 
 /// What a search asks of the columns of its line.
@@ -24,6 +26,9 @@ pub(crate) struct Passing<'a> {
     pub(crate) line: &'a [char],
     pub(crate) skip: &'a Option<Pattern>,
     pub(crate) ends: &'a List<Pattern>,
+    pub(crate) externals: &'a Externals,
+    /// What the ends begin with that begin with the text of an external.
+    pub(crate) opening: Opening,
     /// Whether some pattern begins before the column (`lc`), and attempts where screens fail are
     /// within the budget.
     pub(crate) cheap: bool,
@@ -105,20 +110,28 @@ impl Passing<'_> {
         }
     }
 
-    /// The same of each of some patterns.
+    /// The same of an end, unless it begins with the text of an external.
+    fn is_end_shut(&self, pattern: &Pattern, key: Key) -> bool
+        ensures { IsTrue result → is_end_shut self.now.sets.now self.now.budget self.now.ignore key
+            pattern.now ≡ true }
+    {
+        begins_with(pattern).is_some() || self.is_shut(pattern, key)
+    }
+
+    /// The same of each of some ends.
     fn are_all_shut(&self, patterns: &[Pattern], key: Key) -> bool
-        ensures { IsTrue result → list_all (is_shut self.now.sets.now self.now.budget
+        ensures { IsTrue result → list_all (is_end_shut self.now.sets.now self.now.budget
             self.now.ignore key) patterns.now ≡ true }
     {
         for pattern in patterns {
-            if !self.is_shut(pattern, key) {
+            if !self.is_end_shut(pattern, key) {
                 return false;
             }
         }
         true
     }
 
-    /// The same of the skip and the ends.
+    /// The same of the skip, and of the ends that don't begin with the text of an external.
     fn are_shut(&self, key: Key) -> bool
         ensures { IsTrue result → are_shut self.now.sets.now self.now.budget self.now.ignore key
             self.now.skip.now self.now.ends.now ≡ true }
@@ -147,6 +160,17 @@ impl Passing<'_> {
         }
     }
 
+    /// Whether no end that begins with the text of an external can begin at a column.
+    fn is_unopened(&self, c: usize) -> bool
+        ensures { result ≡ is_unopened self.now.opening (slice_get self.now.line.now c) }
+    {
+        match self.opening {
+            Opening::Nothing => true,
+            Opening::With(first, ignore) => !stands(first, ignore, self.line.get(c).copied()),
+            Opening::Unknown => false,
+        }
+    }
+
     /// Whether a column is passed over.
     fn passes(&self, c: usize, answers: &mut KeyAnswers) -> bool
         requires column { c ≤ length self.now.line.now }
@@ -157,6 +181,9 @@ impl Passing<'_> {
             self.now.budget) answers.new }
         ensures passed { IsTrue result → IsPassedOver self.now c }
     {
+        if !self.is_unopened(c) {
+            return false;
+        }
         let key = Key::of(self.sets, self.line, c);
         if self.are_known_shut(key, answers) {
             return true;

@@ -22,6 +22,7 @@ use crate::keeping::item_of;
 use crate::key_answers::KeyAnswers;
 use crate::matching::Matcher;
 use crate::offsets::{earlier_place, later_place, offset_place};
+use crate::opening::known_opening;
 use crate::passing::{Passing, are_cheap, looks_back};
 use crate::skips::{SkipAnswer, skip_by};
 use char_class::Sets;
@@ -276,15 +277,18 @@ impl Searching<'_> {
         ensures is { IsPassing result self.now (T.lines lines.now) skip.now ends.now }
     {
         let budget = self.matcher.budget;
+        let ignore = item_of(self.items, self.region).ignore;
         Passing {
             items: self.items,
             region: self.region,
             budget,
             sets: self.matcher.sets,
-            ignore: item_of(self.items, self.region).ignore,
+            ignore,
             line: lines.line(self.from.line),
             skip,
             ends,
+            externals: self.externals,
+            opening: known_opening(ends.as_slice(), ignore, self.externals),
             cheap: looks_back(skip, ends) && are_cheap(skip, ends, budget),
         }
     }

@@ -1,0 +1,8 @@
+use Rattle.std.proofs.Common.{take}
+use Rattle.std.specs.List.{All}
+use Rattle.region_ends.specs.Opening.{IsToldOf}
+use Rattle.region_ends.proofs.opening.known_opening.Given as goal
+
+-- it is known of the patterns before
+abbrev pub invariant-loop-pattern : goal.invariant-loop-pattern
+invariant-loop-pattern l = All (IsToldOf l.externals l.ignore l.opening) (take l.pattern-index l.ends)
