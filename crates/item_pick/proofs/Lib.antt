@@ -12,6 +12,7 @@ pub mod QuietLaws
 pub mod QuietPlaceLaws
 pub mod RoomParts
 pub mod ScreenLaws
+pub mod SettledLaws
 pub mod StackLaws
 pub mod TableLaws
 pub mod ToldLaws

@@ -349,7 +349,7 @@ next_in P list left next count before passed j a b = elim (has_or_lacks list j) 
   ]
 ]
 
-no_key : (r : Rules) (choice : Choice) (all : List ℕ) (i : ItemId) → StaysOut r 777 i → (pattern : Pattern) → IsPatternOf (item_of r.items i).kind pattern → ⊥
+pub no_key : (r : Rules) (choice : Choice) (all : List ℕ) (i : ItemId) → StaysOut r 777 i → (pattern : Pattern) → IsPatternOf (item_of r.items i).kind pattern → ⊥
 no_key r choice all i out pattern its =
     let e : false ≡ true = out pattern its in
     absurd (cc)

@@ -19,5 +19,6 @@ pub mod Screened
 pub mod Quiet
 pub mod Rooms
 pub mod Runs
+pub mod Settled
 pub mod QuietPlaces
 pub mod Valid

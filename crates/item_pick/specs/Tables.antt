@@ -29,6 +29,7 @@ use Rattle.item_pick.specs.Behind.{first_fails_behind}
 use Rattle.item_pick.specs.Following.{fails_after, first_fails_after, idles_before, takes_first}
 use Rattle.item_pick.specs.Quiet.{item_numbered, IsPassed}
 use Rattle.item_pick.specs.Screens.{IsSettled}
+use Rattle.item_pick.specs.Settled.{item_wanders}
 use Rattle.item_pick.specs.Standing.{first_pattern, IsFirst, IsPatternOf}
 use Rattle.item_pick.specs.Started.{admits}
 
@@ -95,9 +96,16 @@ pub record RisesTo (n : ℕ) (list : List ℕ) : Type 0 where
   pub rises : IsNonDecreasing list
   pub within : All (λ x. x ≤ n) list
 
+-- some items of a list: each of those that wander, or each of those that don't
+abbrev pub HasThose : Rules → Bool → List ℕ → List ℕ → Type 0
+HasThose r wandering list those =
+    (j : ℕ) → j < length r.items → item_wanders r j ≡ wandering → Lacks those j → Lacks list j
+
 pub record RowStands (r : Rules) (row : Row) : Type 0 where
   pub lists : ListStands r row.choice row.number row.items.items
   pub rises : IsNonDecreasing row.items.items
+  pub resting : HasThose r false row.items.items row.resting.items
+  pub wandering : IfSome row.wandering (λ those. HasThose r true row.items.items those.items)
 
 -- an attempt by a pattern has no way at a column whose key has a number
 abbrev pub is_vain : Sets → ℕ → Bool → ℕ → Pattern → Bool

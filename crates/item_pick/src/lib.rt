@@ -22,6 +22,7 @@ mod picking;
 mod quiet;
 mod rooms;
 mod runs;
+mod settled;
 mod starting;
 mod starts;
 mod stop;
@@ -29,6 +30,7 @@ mod syntax;
 mod tables;
 mod tried;
 mod tries;
+mod wandering;
 mod words;
 
 pub use asking::{pick, pick_with};

@@ -28,6 +28,7 @@ use crate::picking::Picking;
 use crate::runs::{Run, Runs, Search, holds};
 use crate::syntax::Syntax;
 use crate::tables::{ANY, Row};
+use crate::wandering::wanders;
 use pattern_screens::number_line;
 use region_ends::{EndAnswer, KeyAnswers, item_of};
 use std::alloc::Global;
@@ -38,7 +39,7 @@ use syntax_set::Pattern;
 const ROWS: usize = 778;
 
 /// No place.
-const NOWHERE: usize = usize::MAX;
+pub(crate) const NOWHERE: usize = usize::MAX;
 
 /// What is kept of a syntax and a budget from line to line: for what is allowed, and what stands at a
 /// column, the items that may start there, and those that can't be matched from there. It is made as
@@ -62,11 +63,11 @@ pub struct PickMemory {
     /// Whether they are in vain one column before.
     afters: KeyAnswers,
     /// Whether an item can't start one column before.
-    idles: KeyAnswers,
+    pub(crate) idles: KeyAnswers,
     /// Whether no skip or end of a region fits.
     pub(crate) shut: KeyAnswers,
     anchors: Anchors,
-    numbers: Vec<u16>,
+    pub(crate) numbers: Vec<u16>,
     pub(crate) runs: Runs,
 }
 
@@ -104,14 +105,14 @@ impl PickMemory {
     }
 
     /// Where a row would be.
-    fn place(&self, choice: Choice, number: u16) -> Option<usize> {
+    pub(crate) fn place(&self, choice: Choice, number: u16) -> Option<usize> {
         let start = *self.starts.get(number_of(choice))?;
         let place = start.checked_add(number as usize)?;
         Some(*self.places.get(place)?)
     }
 
     /// A row, if it stands at a place.
-    fn row(&self, place: usize, choice: Choice, number: u16) -> Option<&Row>
+    pub(crate) fn row(&self, place: usize, choice: Choice, number: u16) -> Option<&Row>
         ensures choice { IfSome result (λ row. row.now.choice ≡ choice) }
         ensures number { IfSome result (λ row. row.now.number ≡ number) }
         ensures stands { (r : Rules) → TablesStand r self.now →
@@ -716,12 +717,6 @@ impl Memo<Asked<'_>> for PickMemory {
             asked.budget,
         )
     }
-}
-
-/// Whether a match by a pattern may have its item start elsewhere than its offset from the first
-/// column says.
-fn wanders(pattern: &Pattern) -> bool {
-    pattern.tree.moves_start || pattern.ms.is_some()
 }
 
 /// The columns of both.

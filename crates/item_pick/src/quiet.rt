@@ -1,6 +1,7 @@
 //! Columns at which nothing starts, by what stands there.
-ghost use Rattle.std.specs.Prelude.{◌≡◌, ◌<◌, ◌≤◌, [], length, reverse, IfOk, IsTrue};
-ghost use Rattle.match_rules.specs.Ways.{line_at};
+ghost use Rattle.std.specs.Prelude.{◌≡◌, ◌<◌, ◌≤◌, ℕ, [], length, reverse, IfOk, IsTrue, true, false};
+ghost use Rattle.syn_base.specs.declared.looked.Looked.{Looked as LookedOf};
+ghost use Rattle.match_rules.specs.Ways.{Text, line_at};
 ghost use Rattle.keyword_table.specs.ItemNumbers.{AreItemsBelow};
 ghost use Rattle.keyword_table.specs.Words.{begins_word};
 ghost use Rattle.paint_rules.specs.Rules.{no_externals, place_at};
@@ -11,8 +12,9 @@ ghost use Rattle.item_pick.specs.PartsSeen.{rules_in};
 ghost use Rattle.item_pick.specs.QuietPlaces.{IsQuietAt};
 ghost use Rattle.item_pick.specs.QuietUntil.{IsQuietUntil};
 ghost use Rattle.item_pick.specs.Screens.{HoldsLine};
+ghost use Rattle.item_pick.specs.Settled.{ArePassed};
 ghost use Rattle.item_pick.specs.Standing.{ChoiceFits, IsPlace};
-ghost use Rattle.item_pick.specs.Tables.{MemoryStands};
+ghost use Rattle.item_pick.specs.Tables.{IsNumberAt, MemoryStands};
 ghost use Rattle.item_pick.specs.Valid.{IsSound};
 
 use crate::asked::Asked;
@@ -117,12 +119,14 @@ fn quiet_by<T: Lines>(
 }
 
 impl<T: Lines> Picking<'_, T, Asked<'_>> {
-    /// Whether it is known that no item of a choice starts at a column.
+    /// Whether it is known that no item of a choice starts at a column: up to `settled`, and without
+    /// it, none that wanders does.
     fn is_quiet(
         &self,
         choice: Choice,
         col: usize,
         looked: Looked,
+        settled: usize,
         memory: &mut PickMemory,
     ) -> Result<bool, Memory>
         requires valid { IsSound self.now.syntax.now }
@@ -132,6 +136,9 @@ impl<T: Lines> Picking<'_, T, Asked<'_>> {
         requires held { HoldsLine looked self.now.at.line }
         requires choice { ChoiceFits
             (rules_in self.now.syntax.now.parts.now self.now.syntax.now.budget) choice }
+        requires settled { col < settled → ArePassed
+            (rules_in self.now.syntax.now.parts.now self.now.syntax.now.budget)
+            (T.lines self.now.lines.now) self.now.at.line choice self.now.floor looked true col }
         requires memory { MemoryStands
             (rules_in self.now.syntax.now.parts.now self.now.syntax.now.budget)
             (T.lines self.now.lines.now) self.now.at.line memory.old }
@@ -145,16 +152,42 @@ impl<T: Lines> Picking<'_, T, Asked<'_>> {
     {
         match choice {
             Choice::NoItem => Ok(true),
-            _ => self.is_row_empty(choice, col, looked, memory),
+            _ => self.is_row_empty(choice, col, looked, settled, memory),
         }
     }
 
-    /// The same: no word begins there, and the row of the choice has no item.
+    /// Whether all items of a choice are known not to start at a column whose key has a number, with no
+    /// walk over those that wander.
+    fn is_still(
+        &self,
+        choice: Choice,
+        number: u16,
+        col: usize,
+        settled: usize,
+        memory: &PickMemory,
+    ) -> bool
+        ensures { IsTrue result → (col < settled) × ((t : Text) (l : ℕ) →
+            MemoryStands (rules_in self.now.syntax.now.parts.now self.now.syntax.now.budget) t l
+            memory.now →
+            IsNumberAt (rules_in self.now.syntax.now.parts.now self.now.syntax.now.budget)
+            (line_at t l) col number → (floor : ℕ) (looked : LookedOf) → HoldsLine looked l →
+            ArePassed (rules_in self.now.syntax.now.parts.now self.now.syntax.now.budget) t l choice
+            floor looked false col) }
+    {
+        if settled <= col {
+            return false;
+        }
+        memory.is_still(self.syntax, choice, number, col)
+    }
+
+    /// The same: no word begins there, and no item of the row of the choice is left. Up to `settled`,
+    /// and without it, the items that wander are known not to start.
     fn is_row_empty(
         &self,
         choice: Choice,
         col: usize,
         looked: Looked,
+        settled: usize,
         memory: &mut PickMemory,
     ) -> Result<bool, Memory>
         requires valid { IsSound self.now.syntax.now }
@@ -164,6 +197,9 @@ impl<T: Lines> Picking<'_, T, Asked<'_>> {
         requires held { HoldsLine looked self.now.at.line }
         requires choice { ChoiceFits
             (rules_in self.now.syntax.now.parts.now self.now.syntax.now.budget) choice }
+        requires settled { col < settled → ArePassed
+            (rules_in self.now.syntax.now.parts.now self.now.syntax.now.budget)
+            (T.lines self.now.lines.now) self.now.at.line choice self.now.floor looked true col }
         requires memory { MemoryStands
             (rules_in self.now.syntax.now.parts.now self.now.syntax.now.budget)
             (T.lines self.now.lines.now) self.now.at.line memory.old }
@@ -180,6 +216,9 @@ impl<T: Lines> Picking<'_, T, Asked<'_>> {
         }
         match memory.number_at(col) {
             Some(number) => {
+                if self.is_still(choice, number, col, settled, memory) {
+                    return Ok(true);
+                }
                 let search = Search {
                     at: col,
                     floor: self.floor,
@@ -191,6 +230,20 @@ impl<T: Lines> Picking<'_, T, Asked<'_>> {
                 Ok(left == 0)
             }
             None => Ok(false),
+        }
+    }
+
+    /// Where items are sought here.
+    fn search(&self, looked: Looked) -> Search<'_>
+        ensures at { result.at ≡ self.now.at.col }
+        ensures floor { result.floor ≡ self.now.floor }
+        ensures looked { result.looked ≡ looked }
+    {
+        Search {
+            at: self.at.col,
+            floor: self.floor,
+            looked,
+            tried: self.tried,
         }
     }
 
@@ -219,8 +272,9 @@ impl<T: Lines> Picking<'_, T, Asked<'_>> {
     {
         let choice = self.allowed(stack);
         let last = self.last();
+        let settled = memory.settled_until(choice, &self.search(looked));
         for col in self.at.col..last {
-            let quiet = self.is_quiet(choice, col, looked, memory)?;
+            let quiet = self.is_quiet(choice, col, looked, settled, memory)?;
             if !quiet {
                 return Ok(col);
             }

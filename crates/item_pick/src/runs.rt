@@ -2,13 +2,14 @@
 //! regions end.
 ghost use Rattle.std.specs.Prelude.{◌≡◌, ◌<◌, ◌≤◌, ◌-◌, ◌+◌, ◌^◌, ℕ, [], length, IfSome, IsTrue};
 ghost use Rattle.std.specs.List.{All};
-ghost use Rattle.match_rules.specs.Ways.{Text};
-ghost use Rattle.paint_rules.specs.Rules.{Rules, item_of};
+ghost use Rattle.match_rules.specs.Ways.{Text, line_at};
+ghost use Rattle.paint_rules.specs.Rules.{Rules, item_of, place_at};
 ghost use Rattle.item_pick.specs.PartsSeen.{rules_in};
 ghost use Rattle.item_pick.specs.Standing.{has_one_start, IsFirst, IsItem};
 ghost use Rattle.item_pick.specs.Tables.{EndsStand, IsEnough, RunStands};
 ghost use Rattle.item_pick.specs.Runs.{Covers, SayNothing, TellsOf};
-ghost use Rattle.item_pick.specs.Screens.{HoldsLines};
+ghost use Rattle.item_pick.specs.Quiet.{IsQuiet};
+ghost use Rattle.item_pick.specs.Screens.{HoldsLine, HoldsLines};
 
 use crate::asked::Asked;
 use crate::columns::Columns;
@@ -224,6 +225,26 @@ impl Runs {
         match self.list.get(item.0 as usize) {
             Some(run) => run.covers(item, search, end),
             None => false,
+        }
+    }
+
+    /// The first column from that of a search on at which it isn't known that an item isn't matched
+    /// where it is sought from any column before an end.
+    pub(crate) fn covers_until(&self, item: ItemId, search: &Search<'_>, end: usize) -> usize
+        ensures { (r : Rules) (t : Text) (l : ℕ) → All (RunStands r t l) self.now.list.items →
+            HoldsLine search.now.looked l → end ≡ length (line_at t l) + 1 →
+            (c : ℕ) → search.now.at ≤ c → c < result →
+            IsQuiet r t (place_at l c) search.now.floor search.now.looked item }
+    {
+        match self.list.get(item.0 as usize) {
+            Some(run) => {
+                if run.covers(item, search, end) {
+                    run.places.end
+                } else {
+                    search.at
+                }
+            }
+            None => search.at,
         }
     }
 

@@ -29,6 +29,10 @@ pub(crate) struct Row {
     pub(crate) choice: Choice,
     pub(crate) number: u16,
     pub(crate) items: Vec<u32>,
+    /// Those of them that don't wander.
+    pub(crate) resting: Vec<u32>,
+    /// Those of them that do; only of the row of all items.
+    pub(crate) wandering: Option<Vec<u32>>,
 }
 
 impl Asked<'_> {
@@ -229,10 +233,14 @@ impl Asked<'_> {
         ensures { IfOk result (RowStands (rules_in self.now.parts.now self.now.budget)) }
     {
         let items = self.listed(alloc, choice, ANY)?;
+        let resting = self.those(alloc, items.as_slice(), false)?;
+        let wandering = self.those(alloc, items.as_slice(), true)?;
         Ok(Row {
             choice,
             number: ANY,
             items,
+            resting,
+            wandering: Some(wandering),
         })
     }
 
@@ -253,10 +261,13 @@ impl Asked<'_> {
         ensures row { IfOk result (RowStands (rules_in self.now.parts.now self.now.budget)) }
     {
         let items = self.narrowed(alloc, all, number, outs)?;
+        let resting = self.those(alloc, items.as_slice(), false)?;
         Ok(Row {
             choice: all.choice,
             number,
             items,
+            resting,
+            wandering: None,
         })
     }
 }

@@ -1,0 +1,10 @@
+use Rattle.std.proofs.Common.{◌≡◌, ◌<◌, ℕ, get_or, true}
+use Rattle.paint_rules.specs.Rules.{Rules}
+use Rattle.item_pick.specs.Following.{idles_before}
+use Rattle.item_pick.specs.Tables.{TablesStand}
+use Rattle.item_pick.proofs.memory.PickMemory.are_idle.Given as goal
+
+-- the items before are idle
+abbrev pub invariant-loop-id : goal.invariant-loop-id
+invariant-loop-id l =
+    (r : Rules) → TablesStand r l.self → (k : ℕ) → k < l.id-index → idles_before r l.number (get_or l.list k 0) ≡ true

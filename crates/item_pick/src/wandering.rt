@@ -1,0 +1,83 @@
+//! Items whose start says nothing of where their match begins.
+ghost use Rattle.std.specs.Prelude.{◌≡◌, ◌<◌, ℕ, length, IfOk};
+ghost use Rattle.item_pick.specs.PartsSeen.{rules_in};
+ghost use Rattle.item_pick.specs.Settled.{item_wanders, wanders};
+ghost use Rattle.item_pick.specs.Standing.{IsItem};
+ghost use Rattle.item_pick.specs.Tables.{HasThose, Lacks};
+
+use crate::asked::Asked;
+use region_ends::item_of;
+use std::alloc::Global;
+use syn_base::{ItemId, Memory};
+use syntax_set::{ItemKind, Pattern};
+
+/// Whether a match by a pattern may have its item start elsewhere than its offset from the first
+/// column says.
+pub(crate) fn wanders(pattern: &Pattern) -> bool
+    ensures { result ≡ wanders pattern.now }
+{
+    pattern.tree.moves_start || !pattern.ms.is_none()
+}
+
+impl Asked<'_> {
+    /// Whether an item wanders by the first of its start patterns.
+    fn item_wanders(&self, id: ItemId) -> bool
+        requires { IsItem (rules_in self.now.parts.now self.now.budget) id }
+        ensures { result ≡ item_wanders (rules_in self.now.parts.now self.now.budget) id.0 }
+    {
+        match &item_of(self.parts.items, id).kind {
+            ItemKind::Keyword => false,
+            ItemKind::Match(pattern) => wanders(pattern),
+            ItemKind::Region {
+                starts,
+                skip: _,
+                ends: _,
+            } => match starts.as_slice().get(0) {
+                Some(pattern) => wanders(pattern),
+                None => false,
+            },
+        }
+    }
+
+    /// The same of an item of a number, if it is there.
+    fn number_wanders(&self, id: u32) -> bool
+        ensures { id < length (rules_in self.now.parts.now self.now.budget).items →
+            result ≡ item_wanders (rules_in self.now.parts.now self.now.budget) id }
+    {
+        if id as usize >= self.parts.items.added() {
+            return false;
+        }
+        self.item_wanders(ItemId(id))
+    }
+
+    /// Puts an item on a list, if it wanders, or if it doesn't.
+    fn put_if(&self, id: u32, wandering: bool, those: &mut Vec<u32>) -> Result<(), Memory>
+        ensures kept { (j : ℕ) → Lacks those.new.items j → Lacks those.old.items j }
+        ensures here { IfOk result (λ _.
+            id < length (rules_in self.now.parts.now self.now.budget).items →
+            item_wanders (rules_in self.now.parts.now self.now.budget) id ≡ wandering →
+            Lacks those.new.items id → ⊥) }
+    {
+        if self.number_wanders(id) == wandering {
+            those.push(id)?;
+        }
+        Ok(())
+    }
+
+    /// Those items of a list that wander, or those that don't.
+    pub(crate) fn those(
+        &self,
+        alloc: Global,
+        list: &[u32],
+        wandering: bool,
+    ) -> Result<Vec<u32>, Memory>
+        ensures { IfOk result (λ those. HasThose
+            (rules_in self.now.parts.now self.now.budget) wandering list.now those.items) }
+    {
+        let mut those = Vec::new(alloc);
+        for id in list {
+            self.put_if(*id, wandering, &mut those)?;
+        }
+        Ok(those)
+    }
+}
