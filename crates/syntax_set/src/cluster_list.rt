@@ -58,14 +58,39 @@ impl ClusterList {
         ensures err { OnErr result (self.new ≡ self.old) }
     {
         match how {
-            Change::Set => *self = ClusterList::of(alloc, entries)?,
-            Change::Add => self.add(entries)?,
-            Change::Remove => {
-                let other = ClusterList::of(alloc, entries)?;
-                *self = self.less(alloc, &other)?;
-            }
+            Change::Set => self.set(alloc, entries),
+            Change::Add => self.add(entries),
+            Change::Remove => self.remove(alloc, entries),
         }
+    }
+
+    fn set(&mut self, alloc: Global, entries: &List<Entry>) -> Result<(), Memory>
+        ensures ok { OnOk result (self.new ≡ with_entries no_list entries.now) }
+        ensures err { OnErr result (self.new ≡ self.old) }
+    {
+        *self = ClusterList::of(alloc, entries)?;
         Ok(())
+    }
+
+    /// Takes the entries out.
+    fn remove(&mut self, alloc: Global, entries: &List<Entry>) -> Result<(), Memory>
+        ensures ok {
+            OnOk result (self.new ≡ less self.old (with_entries no_list entries.now))
+        }
+        ensures err { OnErr result (self.new ≡ self.old) }
+    {
+        *self = self.without(alloc, entries)?;
+        Ok(())
+    }
+
+    /// The list without the entries.
+    fn without(&self, alloc: Global, entries: &List<Entry>) -> Result<ClusterList, Memory>
+        ensures {
+            IfOk result (λ list. list ≡ less self.now (with_entries no_list entries.now))
+        }
+    {
+        let other = ClusterList::of(alloc, entries)?;
+        self.less(alloc, &other)
     }
 
     /// The list of these entries.

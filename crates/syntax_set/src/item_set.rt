@@ -6,7 +6,7 @@ ghost use Rattle.syntax_set.specs.Allowed.{cleared, is_allowed, is_in_next};
 use crate::{AddedItem, Clusters, GroupList, Item, SetError};
 use std::alloc::Global;
 use std::marker::Model;
-use syn_base::{GroupId, ItemId};
+use syn_base::{GroupId, ItemId, Memory};
 
 /// The most items that are ever added to a set, those that are no longer live included.
 pub const MOST_ITEMS: usize = 32_000;
@@ -55,8 +55,17 @@ impl ItemSet {
         if number == MOST_ITEMS {
             return Err(SetError::TooManyItems);
         }
-        self.added.push(AddedItem { item, live: true })?;
+        self.push_live(item)?;
         Ok(ItemId(number as u32))
+    }
+
+    fn push_live(&mut self, item: Item) -> Result<(), Memory>
+        requires { length self.old < 32000 }
+        ensures added { OnOk result (self.new ≡ self.old
+            ++ record { item = item; live = true } ∷ []) }
+        ensures unchanged { OnErr result (self.new ≡ self.old) }
+    {
+        Ok(self.added.push(AddedItem { item, live: true })?)
     }
 
     /// An item, live or not.
