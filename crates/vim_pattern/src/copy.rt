@@ -46,9 +46,9 @@ fn copied_atom(alloc: Global, atom: &Atom) -> Result<Atom, Memory>
 /// A node's parts but for its last child.
 #[derive(Drop)]
 pub enum Above {
-    Seq(Node),
-    Or(Node),
-    And(Node),
+    Seq(Box<Node>),
+    Or(Box<Node>),
+    And(Box<Node>),
     Group(u8),
     External(u8),
     Repeat {
@@ -67,25 +67,24 @@ pub enum Above {
 }
 
 /// The node of these parts and this last child.
-fn put_over(alloc: Global, above: Above, node: Node) -> Result<Node, Memory>
-    ensures { IfOk result (λ n. bare n ≡ spec.over above (bare node)) }
+fn put_over(above: Above, part: Box<Node>) -> Node
+    ensures { bare result ≡ spec.over above (bare part) }
 {
-    let part = Box::new(alloc, node)?;
     match above {
-        Above::Seq(first) => Ok(Node::Seq(Box::new(alloc, first)?, part)),
-        Above::Or(first) => Ok(Node::Or(Box::new(alloc, first)?, part)),
-        Above::And(first) => Ok(Node::And(Box::new(alloc, first)?, part)),
-        Above::Group(number) => Ok(Node::Group(part, number)),
-        Above::External(number) => Ok(Node::External(part, number)),
-        Above::Repeat { least, most, lazy } => Ok(Node::Repeat {
+        Above::Seq(first) => Node::Seq(first, part),
+        Above::Or(first) => Node::Or(first, part),
+        Above::And(first) => Node::And(first, part),
+        Above::Group(number) => Node::Group(part, number),
+        Above::External(number) => Node::External(part, number),
+        Above::Repeat { least, most, lazy } => Node::Repeat {
             part,
             least,
             most,
             lazy,
-        }),
-        Above::Ahead { not } => Ok(Node::Ahead { part, not }),
-        Above::Before { not, limit } => Ok(Node::Before { part, not, limit }),
-        Above::Whole => Ok(Node::Whole(part)),
+        },
+        Above::Ahead { not } => Node::Ahead { part, not },
+        Above::Before { not, limit } => Node::Before { part, not, limit },
+        Above::Whole => Node::Whole(part),
     }
 }
 
@@ -97,7 +96,7 @@ fn put_all_over(alloc: Global, all: Vec<Above>, node: Node) -> Result<Node, Memo
     let mut all = all;
     let mut node = node;
     while let Some(above) = all.pop() {
-        node = put_over(alloc, above, node)?;
+        node = put_over(above, Box::new(alloc, node)?);
     }
     Ok(node)
 }
@@ -138,7 +137,7 @@ fn above_one(node: &Node) -> Above
 }
 
 /// The parts of a node with two children, but for the last one; `first` is the other, copied.
-fn above_two(node: &Node, first: Node) -> Above
+fn above_two(node: &Node, first: Box<Node>) -> Above
     ensures { spec.AboveTwo result (bare first) (bare node.now) }
 {
     match node {
@@ -173,7 +172,7 @@ fn copied(alloc: Global, node: &Node) -> Result<Node, Memory>
             }
             Node::Seq(a, b) | Node::Or(a, b) | Node::And(a, b) => {
                 let first = copied(alloc, a)?;
-                all.push(above_two(rest, first))?;
+                all.push(above_two(rest, Box::new(alloc, first)?))?;
                 rest = b;
             }
             Node::Group(part, _)
