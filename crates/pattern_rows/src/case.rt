@@ -1,5 +1,7 @@
 //! One case: a pattern and its use, and what an attempt is made with, if one is asked for.
 
+ghost use Rattle.vim_pattern.specs.GroupNumbers.{HasNumbers};
+
 use crate::attempt::write_attempt;
 use crate::trial::Trial;
 use std::alloc::{AllocError, Global};
@@ -46,19 +48,38 @@ pub(crate) fn write_case<W: Write>(alloc: Global, out: &mut W, line: &str) -> io
     };
     let characters = characters(alloc, case.pattern)?;
     match read_pattern(alloc, characters.as_slice(), case.usage) {
-        Ok(tree) => match case.trial {
-            None => write_tree(out, &tree),
-            Some(fields) => match Trial::read(alloc, fields) {
-                Ok(Some(trial)) => write_attempt(alloc, out, &tree, &trial),
-                Ok(None) => writeln!(out, "bad case"),
-                Err(Memory) => Err(out_of_memory()),
-            },
-        },
-        Err(PatternError::At { at, cause }) => {
+        Ok(tree) => write_answer(alloc, out, &tree, case.trial),
+        Err(fault) => write_fault(out, fault),
+    }
+}
+
+/// Writes what is told of a tree, or of an attempt with it, where these fields ask for one.
+fn write_answer<W: Write>(
+    alloc: Global,
+    out: &mut W,
+    tree: &Tree,
+    fields: Option<&str>,
+) -> io::Result<()>
+    requires { HasNumbers tree.now.node }
+{
+    let Some(fields) = fields else {
+        return write_tree(out, tree);
+    };
+    match Trial::read(alloc, fields) {
+        Ok(Some(trial)) => write_attempt(alloc, out, tree, &trial),
+        Ok(None) => writeln!(out, "bad case"),
+        Err(Memory) => Err(out_of_memory()),
+    }
+}
+
+/// Writes why a pattern isn't read.
+fn write_fault<W: Write>(out: &mut W, fault: PatternError) -> io::Result<()> {
+    match fault {
+        PatternError::At { at, cause } => {
             let place = at.saturating_add(1);
             writeln!(out, "fault {cause} at {place}")
         }
-        Err(PatternError::Memory) => Err(out_of_memory()),
+        PatternError::Memory => Err(out_of_memory()),
     }
 }
 
