@@ -8,11 +8,13 @@ use Rattle.syntax_set.specs.declared.item.Item.{Item}
 use Rattle.syntax_set.specs.declared.added_item.AddedItem.{AddedItem}
 use Rattle.syn_words.specs.declared.cause.Cause.{Cause}
 use Rattle.syn_words.specs.declared.cause.Cause.TheVariants.{TooManyItems}
+use Rattle.syn_reader.specs.declared.draft.Draft.{Draft}
 use Rattle.syn_reader.specs.declared.reading.Reading.{Reading}
+use Rattle.syn_words.specs.declared.what.ItemCommand.{ItemCommand}
 use Rattle.syn_reader.specs.declared.refusal.Refusal.{Refusal}
 use Rattle.syn_reader.specs.declared.refusal.Refusal.TheVariants.{Fault, Memory}
 use Rattle.syn_reader.specs.Answers.{◌>>=◌, Leaves}
-use Rattle.syn_reader.specs.Items.{item_numbered, live_item, with_added, with_definitions, item_added}
+use Rattle.syn_reader.specs.Items.{item_numbered, live_item, with_added, with_definitions, item_added, with_names, finished}
 
 pub ok_is_no_err : {A E : Type 0} (x : A) (e : E) → IsErrOf (Ok x) e → ⊥
 ok_is_no_err x e h = cc
@@ -40,3 +42,8 @@ added {A} reading item words id items keywords result room number more h =
     let left : finish keywords ≡ record reading { items = items; keywords = keywords } = λ i. record reading { items = sym more i; keywords = keywords } in
     subst (λ (s : Reading). Leaves result s (item_added reading item words)) left
     (subst (λ r. Leaves result (finish keywords) r) rules (leaves_then result keywords _ finish h))
+
+-- a draft is finished by what it was begun with, and its names
+pub finished_with_names : (old now : Reading) (kind : ItemCommand) (draft : Draft) → now ≡ with_names old now.names
+    → finished now kind (draft, now.names) ≡ finished old kind (draft, now.names)
+finished_with_names old now kind draft e = ap (λ r. finished r kind (draft, now.names)) e

@@ -55,11 +55,28 @@ fn new_item(group: GroupId, ignore: bool, include: u32) -> Item
     }
 }
 
+fn with_kind(item: Item, kind: ItemKind) -> Item
+    ensures { result ≡ record item { kind = kind } }
+{
+    let mut item = item;
+    item.kind = kind;
+    item
+}
+
 /// The group of a matchgroup, unless it is the item's own.
 fn unless_own(own: GroupId, group: GroupId) -> Option<GroupId>
     ensures { result ≡ spec.unless_own own group }
 {
     if group.0 == own.0 { None } else { Some(group) }
+}
+
+fn match_kind(matched: Option<Pattern>) -> Result<ItemKind, Refusal>
+    ensures { Gives result (spec.match_kind matched) }
+{
+    match matched {
+        Some(pattern) => Ok(ItemKind::Match(pattern)),
+        None => Err(Refusal::Fault(Cause::NoPattern)),
+    }
 }
 
 /// What an item is, by its command.
@@ -74,10 +91,7 @@ fn kind_of(
 {
     match kind {
         ItemCommand::Keyword => Ok(ItemKind::Keyword),
-        ItemCommand::Match => match matched {
-            Some(pattern) => Ok(ItemKind::Match(pattern)),
-            None => Err(Refusal::Fault(Cause::NoPattern)),
-        },
+        ItemCommand::Match => match_kind(matched),
         ItemCommand::Region => Ok(ItemKind::Region { starts, skip, ends }),
     }
 }
@@ -227,17 +241,7 @@ impl Draft {
     pub(crate) fn finish(self, kind: ItemCommand) -> Result<(Item, List<List<char>>), Refusal>
         ensures { Gives result (spec.item_finished kind self) }
     {
-        let Draft {
-            mut item,
-            matchgroup: _,
-            excludenl: _,
-            matched,
-            starts,
-            skip,
-            ends,
-            words,
-        } = self;
-        item.kind = kind_of(kind, matched, starts, skip, ends)?;
-        Ok((item, words))
+        let kind = kind_of(kind, self.matched, self.starts, self.skip, self.ends)?;
+        Ok((with_kind(self.item, kind), self.words))
     }
 }

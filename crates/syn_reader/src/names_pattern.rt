@@ -90,20 +90,27 @@ pub(crate) fn usual_sets() -> Sets
     Sets::usual()
 }
 
+/// The programs of one pattern.
+fn programs_of(alloc: Global, whole: &Tree) -> Result<Programs, Memory>
+    requires { HasNumbers whole.now.node }
+    ensures { IfOk result (λ programs. programs ≡ whole.now ∷ []) }
+{
+    let mut programs = Programs::new(alloc);
+    programs.add(whole)?;
+    Ok(programs)
+}
+
 fn trial_of(alloc: Global, tree: Tree) -> Result<Trial, Memory>
     requires { HasNumbers tree.node }
     ensures { IfOk result (λ trial. trial.whole ≡ spec.to_the_end tree) }
 {
     let whole = to_the_end(alloc, tree)?;
-    let mut programs = Programs::new(alloc);
-    programs.add(&whole)?;
-    let sets = usual_sets();
-    let externals = Externals::none(alloc)?;
+    let programs = programs_of(alloc, &whole)?;
     Ok(Trial {
         whole,
         programs,
-        sets,
-        externals,
+        sets: usual_sets(),
+        externals: Externals::none(alloc)?,
     })
 }
 
@@ -165,7 +172,19 @@ fn with_tried(
     Ok(found)
 }
 
+/// The groups that a whole pattern stands for.
+fn matching_whole(alloc: Global, groups: &Groups, trial: &Trial) -> Result<List<GroupId>, Refusal>
+    ensures { Gives result (spec.matching_after trial.now.whole [] 0 groups.now) }
+{
+    let mut found = List::new(alloc);
+    for number in 0..groups.len() {
+        found = with_tried(alloc, trial, groups, found, number)?;
+    }
+    Ok(found)
+}
+
 /// The groups that a pattern of names stands for.
+#[tactic(auto, using(crate::proofs::MatchingLaws::matched_by))]
 pub(crate) fn matching(
     alloc: Global,
     groups: &Groups,
@@ -175,9 +194,5 @@ pub(crate) fn matching(
 {
     let tree = tree_at(alloc, text, PatternUse::Names)?;
     let trial = trial_of(alloc, tree)?;
-    let mut found = List::new(alloc);
-    for number in 0..groups.len() {
-        found = with_tried(alloc, &trial, groups, found, number)?;
-    }
-    Ok(found)
+    matching_whole(alloc, groups, &trial)
 }

@@ -1,6 +1,8 @@
 //! What the commands so far have made.
-ghost use Rattle.syn_reader.specs.Answers.{Gives, Leaves};
+ghost use Rattle.std.specs.Prelude.{◌≡◌};
+ghost use Rattle.syn_reader.specs.Answers.{Gives, Leaves, Makes};
 ghost use Rattle.syn_reader.specs.Items as item_spec;
+ghost use Rattle.syn_reader.specs.Items.{with_names};
 ghost use Rattle.syn_reader.specs.Commands as spec;
 
 use crate::contents::{Content, contents_of};
@@ -94,7 +96,31 @@ impl Reading {
         add_words(&mut self.keywords, id, ignore, words)
     }
 
+    /// The item of pieces that are read, of which nothing but its kind is left to say.
+    fn drafted(
+        &mut self,
+        alloc: Global,
+        group: &[char],
+        contents: List<Content>,
+    ) -> Result<Draft, Refusal>
+        ensures drafted { Makes result self.new.names (item_spec.drafted self.old group.now contents) }
+        ensures names_alone { self.new ≡ with_names self.old self.new.names }
+    {
+        let own = self.names.group(alloc, group)?;
+        let mut draft = Draft::new(alloc, own, self.ignore, self.include);
+        draft.take_all(alloc, &mut self.names, contents)?;
+        Ok(draft)
+    }
+
+    fn add_drafted(&mut self, kind: ItemCommand, draft: Draft) -> Result<(), Refusal>
+        ensures { Leaves result self.new (item_spec.finished self.old kind (draft, self.old.names)) }
+    {
+        let (item, words) = draft.finish(kind)?;
+        self.add(item, words)
+    }
+
     /// The item of pieces that are read.
+    #[tactic(auto, using(crate::proofs::ItemLaws::finished_with_names))]
     fn add_contents(
         &mut self,
         alloc: Global,
@@ -104,11 +130,8 @@ impl Reading {
     ) -> Result<(), Refusal>
         ensures { Leaves result self.new (item_spec.item_of self.old kind group.now contents) }
     {
-        let own = self.names.group(alloc, group)?;
-        let mut draft = Draft::new(alloc, own, self.ignore, self.include);
-        draft.take_all(alloc, &mut self.names, contents)?;
-        let (item, words) = draft.finish(kind)?;
-        self.add(item, words)
+        let draft = self.drafted(alloc, group, contents)?;
+        self.add_drafted(kind, draft)
     }
 
     /// A command that defines an item (`:syn-define`).

@@ -6,6 +6,7 @@ pub mod TextLaws
 pub mod FoldLaws
 pub mod Progress
 pub mod Joined
+pub mod MultiLaws
 pub mod CopyLaws
 pub mod Under
 pub mod NumberLaws

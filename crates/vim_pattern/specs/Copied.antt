@@ -6,9 +6,9 @@ use Rattle.vim_pattern.specs.Shape.{Shape, bare, empty, one, seq, or, and, group
 
 -- a node's parts but for its last child, with that child
 abbrev pub over : Above → Shape → Shape
-over (above.Seq a) t = seq (bare a) t
-over (above.Or a) t = or (bare a) t
-over (above.And a) t = and (bare a) t
+over (above.Seq a) t = seq (bare a.value) t
+over (above.Or a) t = or (bare a.value) t
+over (above.And a) t = and (bare a.value) t
 over (above.Group n) t = group t n
 over (above.External n) t = external t n
 over (above.Repeat least most lazy) t = repeat t least most lazy

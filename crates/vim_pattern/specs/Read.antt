@@ -1,5 +1,5 @@
 -- Reading from the left: what has been read so far, and the first item that cannot follow it.
-use Rattle.std.specs.Prelude.{ℕ, ◌+◌, nat_lt, if◌then◌else◌, length, List, [], ◌∷◌, ◌++◌, Result, Ok, Err, Bool, false}
+use Rattle.std.specs.Prelude.{ℕ, ◌+◌, nat_lt, if◌then◌else◌, length, List, [], ◌∷◌, ◌++◌, Result, Ok, Err, Bool, false, Option, Some, None}
 use Rattle.pattern_items.specs.declared.atom.Atom.TheVariants.{Char}
 use Rattle.pattern_items.specs.declared.item.Multi.{Multi as AnyMulti}
 use Rattle.pattern_items.specs.declared.item.Kind.{Kind}
@@ -90,6 +90,23 @@ multi_step at m in_a_list s nothing = refuse at cause.NothingToRepeat
 multi_step at m in_a_list s (loose t) = if in_a_list then refuse at cause.NothingToRepeat else Ok (record s { here = record s.here { last = fixed (with_multi m t) } })
 multi_step at m in_a_list s (fixed t) = refuse at cause.DoubleCount
 
+-- why a multi can't stand behind this, and what stands there with one
+abbrev pub multi_fault : Bool → Last → Option PatternCause
+multi_fault in_a_list nothing = Some cause.NothingToRepeat
+multi_fault in_a_list (loose t) = if in_a_list then Some cause.NothingToRepeat else None
+multi_fault in_a_list (fixed t) = Some cause.DoubleCount
+
+abbrev pub repeated : AnyMulti → Last → Last
+repeated m nothing = nothing
+repeated m (loose t) = fixed (with_multi m t)
+repeated m (fixed t) = fixed t
+
+abbrev pub with_repeated : AnyMulti → Part → Part
+with_repeated m p = record p { last = repeated m p.last }
+
+abbrev pub opened : ℕ → Kind → State → State
+opened at k s = record { here = new_part; under = record { at = at; kind = k; part = s.here } ∷ s.under }
+
 abbrev pub open_step : ℕ → Kind → State → Step
 open_step at k s = if nat_lt (length s.under) 100 then Ok (record { here = new_part; under = record { at = at; kind = k; part = s.here } ∷ s.under }) else refuse at cause.TooNested
 
@@ -110,6 +127,10 @@ close_step at p (o ∷ os) = close_kind at p o os o.kind
 abbrev pub list_step : ℕ → Outer → List Outer → List Shape → Step
 list_step at o os [] = refuse at cause.EmptyOptional
 list_step at o os (t ∷ ts) = Ok (back o os (optional_of (t ∷ ts)))
+
+abbrev pub back_with_list : ℕ → Option Shape → Part → List Outer → Step
+back_with_list at None p os = refuse at cause.EmptyOptional
+back_with_list at (Some t) p os = Ok (record { here = put t p; under = os })
 
 abbrev pub square_step : ℕ → State → List Outer → Step
 square_step at s [] = Ok (on_part (put (one (Char 93))) s)

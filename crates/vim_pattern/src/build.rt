@@ -70,6 +70,28 @@ fn joined(alloc: Global, how: Join, nodes: Vec<Node>) -> Result<Node, AllocError
     Ok(node)
 }
 
+/// What stands last, with a multi.
+fn last_repeated(alloc: Global, last: LastNode, multi: Multi) -> Result<LastNode, AllocError>
+    ensures { IfOk result (λ l. built.last_of l ≡ read.repeated multi (built.last_of last)) }
+{
+    match last {
+        LastNode::Loose(node) => Ok(LastNode::Fixed(with_multi(alloc, multi, node)?)),
+        LastNode::Nothing | LastNode::Fixed(_) => Ok(last),
+    }
+}
+
+/// The part whose last node has a multi.
+pub fn repeated(alloc: Global, part: Built, multi: Multi) -> Result<Built, AllocError>
+    ensures { IfOk result (λ b. part_of b ≡ read.with_repeated multi (part_of part)) }
+{
+    Ok(Built {
+        branches: part.branches,
+        concats: part.concats,
+        pieces: part.pieces,
+        last: last_repeated(alloc, part.last, multi)?,
+    })
+}
+
 fn at_most_once(alloc: Global, node: Node) -> Result<Node, AllocError>
     ensures { IfOk result (λ n. bare n ≡ shape.at_most_once (bare node)) }
 {

@@ -68,7 +68,7 @@ pub enum Above {
 
 /// The node of these parts and this last child.
 fn put_over(above: Above, part: Box<Node>) -> Node
-    ensures { bare result ≡ spec.over above (bare part) }
+    ensures { bare result ≡ spec.over above (bare part.value) }
 {
     match above {
         Above::Seq(first) => Node::Seq(first, part),
@@ -138,7 +138,7 @@ fn above_one(node: &Node) -> Above
 
 /// The parts of a node with two children, but for the last one; `first` is the other, copied.
 fn above_two(node: &Node, first: Box<Node>) -> Above
-    ensures { spec.AboveTwo result (bare first) (bare node.now) }
+    ensures { spec.AboveTwo result (bare first.value) (bare node.now) }
 {
     match node {
         Node::Or(_, _) => Above::Or(first),

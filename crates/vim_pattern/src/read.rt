@@ -1,24 +1,24 @@
 //! The reader: what has been read, what is open, and one item more.
-ghost use Rattle.std.specs.Prelude.{◌≡◌, ◌^◌, [], ◌<◌, length, IfOk, true, false, MatchOption, IfErr};
+ghost use Rattle.std.specs.Prelude.{◌≡◌, ◌^◌, [], ◌<◌, length, IfOk, true, false, MatchOption, IfErr, option_map};
 ghost use Rattle.vim_pattern.specs.Shape.{bare};
 ghost use Rattle.vim_pattern.specs.Shape as shape;
 ghost use Rattle.vim_pattern.specs.Pattern.{IsTreeOf};
 ghost use Rattle.vim_pattern.specs.GroupNumbers.{HasNumbers};
 ghost use Rattle.vim_pattern.specs.Answer.{TellsFault, HasNoTree};
 ghost use Rattle.vim_pattern.specs.Built.{GivesTree, part_of, state_of, under_of, outer_of, Gives};
-ghost use Rattle.vim_pattern.specs.Built.{group_of as group_shape};
+ghost use Rattle.vim_pattern.specs.Built.{group_of as group_shape, last_of};
 ghost use Rattle.vim_pattern.specs.Read as read;
 ghost use Rattle.vim_pattern.specs.Fault as fault;
 ghost use Rattle.pattern_items.specs.Place.{items_of};
 
 use crate::build::{
-    Built, LastNode, OpenItem, ended, group_of, list_of, new_part, pattern_of, put, with_also,
-    with_bar, with_multi,
+    Built, LastNode, OpenItem, ended, group_of, list_of, new_part, pattern_of, put, repeated,
+    with_also, with_bar,
 };
 use crate::notes::{Noted, noted_next, tree_of};
 use crate::{Atom, Node, PatternCause, PatternError, PatternUse, Tree};
 use pattern_items::{Before, Kind, Level, Multi, Placed, Sign, Surroundings, behind, next_item};
-use std::alloc::Global;
+use std::alloc::{AllocError, Global};
 
 /// The most characters of a pattern.
 const MOST_CHARACTERS: usize = 4000;
@@ -65,6 +65,19 @@ fn top(under: &[OpenItem]) -> (bool, usize)
     }
 }
 
+/// Why a multi can't stand here.
+fn multi_fault(last: &LastNode, list: bool) -> Option<PatternCause>
+    ensures { result ≡ read.multi_fault list (last_of last.now) }
+{
+    match last {
+        LastNode::Nothing => Some(PatternCause::NothingToRepeat),
+        LastNode::Fixed(_) => Some(PatternCause::DoubleCount),
+        LastNode::Loose(_) if list => Some(PatternCause::NothingToRepeat),
+        LastNode::Loose(_) => None,
+    }
+}
+
+#[tactic(auto, using(crate::proofs::MultiLaws::refused_multi, crate::proofs::MultiLaws::put_multi))]
 fn multi(
     alloc: Global,
     reading: Reading,
@@ -76,33 +89,33 @@ fn multi(
         (part_of reading.here).last) }
 {
     let (list, _) = top(&reading.under);
-    let Reading { here, under } = reading;
-    let Built {
-        branches,
-        concats,
-        pieces,
-        last,
-    } = here;
-    match last {
-        LastNode::Nothing => at(place, PatternCause::NothingToRepeat),
-        LastNode::Fixed(_) => at(place, PatternCause::DoubleCount),
-        LastNode::Loose(node) => {
-            if list {
-                return at(place, PatternCause::NothingToRepeat);
-            }
-            let last = LastNode::Fixed(with_multi(alloc, found, node)?);
-            let here = Built {
-                branches,
-                concats,
-                pieces,
-                last,
-            };
-            Ok(Reading { here, under })
-        }
+    match multi_fault(&reading.here.last, list) {
+        Some(cause) => refused(reading, place, cause),
+        None => Ok(Reading {
+            here: repeated(alloc, reading.here, found)?,
+            under: reading.under,
+        }),
     }
 }
 
-#[tactic(auto, using(crate::proofs::Under::under_push, crate::proofs::Under::length_under))]
+/// With an item open, which fits in the levels.
+#[tactic(auto, using(crate::proofs::Under::under_push))]
+fn opened(alloc: Global, reading: Reading, place: usize, kind: Kind) -> Result<Reading, AllocError>
+    ensures { IfOk result (λ more. state_of more ≡ read.opened place kind (state_of reading)) }
+{
+    let mut under = reading.under;
+    under.push(OpenItem {
+        at: place,
+        kind,
+        part: reading.here,
+    })?;
+    Ok(Reading {
+        here: new_part(alloc),
+        under,
+    })
+}
+
+#[tactic(auto, using(crate::proofs::Under::length_under))]
 fn open_item(
     alloc: Global,
     reading: Reading,
@@ -111,19 +124,10 @@ fn open_item(
 ) -> Result<Reading, PatternError>
     ensures { Gives state_of result (read.open_step place kind (state_of reading)) }
 {
-    let Reading { here, mut under } = reading;
-    if under.len() < MOST_LEVELS {
-        under.push(OpenItem {
-            at: place,
-            kind,
-            part: here,
-        })?;
-        Ok(Reading {
-            here: new_part(alloc),
-            under,
-        })
+    if reading.under.len() < MOST_LEVELS {
+        Ok(opened(alloc, reading, place, kind)?)
     } else {
-        at(place, PatternCause::TooNested)
+        refused(reading, place, PatternCause::TooNested)
     }
 }
 
@@ -140,15 +144,18 @@ fn back(part: Built, under: Vec<OpenItem>, node: Node) -> Result<Reading, Patter
 /// Back to what had been read before this open item, with the group that it opened.
 fn closed(
     alloc: Global,
+    kind: Kind,
     here: Built,
-    outer: OpenItem,
+    outer: Built,
     under: Vec<OpenItem>,
 ) -> Result<Reading, PatternError>
-    ensures { Gives state_of result (Ok (read.back (outer_of outer) (under_of under.items)
-        (group_shape outer.kind (read.pattern_of (part_of here))))) }
+    ensures { Gives state_of result (Ok (record {
+      here = read.put (group_shape kind (read.pattern_of (part_of here))) (part_of outer);
+      under = under_of under.items;
+    })) }
 {
-    let node = group_of(alloc, outer.kind, here)?;
-    back(outer.part, under, node)
+    let node = group_of(alloc, kind, here)?;
+    back(outer, under, node)
 }
 
 #[tactic(auto, using(crate::proofs::Under::under_push, crate::proofs::Under::close_group))]
@@ -160,7 +167,7 @@ fn close_group(alloc: Global, reading: Reading, place: usize) -> Result<Reading,
     let Reading { here, mut under } = reading;
     match under.pop() {
         None => refused(Reading { here, under }, place, PatternCause::UnopenedClose),
-        Some(outer) => closed(alloc, here, outer, under),
+        Some(outer) => closed(alloc, outer.kind, here, outer.part, under),
     }
 }
 
@@ -198,12 +205,23 @@ fn with_list(
     ensures { Gives state_of result (read.list_step place (outer_of outer)
         (under_of under.items) (read.settled (part_of here))) }
 {
-    match list_of(alloc, here)? {
-        None => {
-            let here = outer.part;
-            refused(Reading { here, under }, place, PatternCause::EmptyOptional)
-        }
-        Some(node) => back(outer.part, under, node),
+    let list = list_of(alloc, here)?;
+    back_with_list(list, outer.part, under, place)
+}
+
+/// Back to what had been read before, with this optional list.
+fn back_with_list(
+    list: Option<Node>,
+    here: Built,
+    under: Vec<OpenItem>,
+    place: usize,
+) -> Result<Reading, PatternError>
+    ensures { Gives state_of result (read.back_with_list place
+        (option_map bare list) (part_of here) (under_of under.items)) }
+{
+    match list {
+        None => refused(Reading { here, under }, place, PatternCause::EmptyOptional),
+        Some(node) => back(here, under, node),
     }
 }
 
@@ -259,6 +277,15 @@ fn also(alloc: Global, reading: Reading) -> Result<Reading, PatternError>
     })
 }
 
+fn quiet(reading: Reading) -> Result<Reading, PatternError>
+    ensures { Gives state_of result (Ok (read.on_part read.ended (state_of reading))) }
+{
+    Ok(Reading {
+        here: ended(reading.here)?,
+        under: reading.under,
+    })
+}
+
 /// One item more.
 fn step(alloc: Global, reading: Reading, place: usize, sign: Sign) -> Result<Reading, PatternError>
     requires { place < 2 ^ 61 }
@@ -272,11 +299,8 @@ fn step(alloc: Global, reading: Reading, place: usize, sign: Sign) -> Result<Rea
         Sign::Square => square(alloc, reading, place),
         Sign::Bar => bar(alloc, reading),
         Sign::Also => also(alloc, reading),
-        Sign::Quiet { ignore: _ } => Ok(Reading {
-            here: ended(reading.here)?,
-            under: reading.under,
-        }),
-        Sign::Wrong { before, cause } => at(place + before as usize, cause),
+        Sign::Quiet { ignore: _ } => quiet(reading),
+        Sign::Wrong { before, cause } => refused(reading, place + before as usize, cause),
     }
 }
 
@@ -294,13 +318,19 @@ fn first_open(under: &[OpenItem]) -> Option<usize>
     }
 }
 
+fn whole(alloc: Global, part: Built) -> Result<Node, PatternError>
+    ensures { Gives bare result (Ok (read.pattern_of (part_of part))) }
+{
+    Ok(pattern_of(alloc, part)?)
+}
+
 /// The tree, where nothing is open.
 fn finish(alloc: Global, reading: Reading) -> Result<Node, PatternError>
     ensures { Gives bare result
         (read.finish (part_of reading.here) (under_of reading.under.items)) }
 {
     match first_open(&reading.under) {
-        None => Ok(pattern_of(alloc, reading.here)?),
+        None => whole(alloc, reading.here),
         Some(open) => at(open, PatternCause::Unclosed),
     }
 }
