@@ -41,35 +41,30 @@ fn nothing_read(alloc: Global) -> Result<Reading, Memory>
     })
 }
 
+/// The parts that make a syntax.
+fn parts_of(reading: Reading) -> Syntax
+    requires { IsSoundReading reading }
+    ensures { result ≡ spec.syntax_from reading }
+{
+    Syntax {
+        items: reading.items,
+        clusters: reading.names.clusters,
+        groups: reading.names.groups,
+        programs: reading.patterns.into_programs(),
+        keywords: reading.keywords,
+        links: reading.links,
+        sets: reading.sets,
+    }
+}
+
 /// The syntax of all that was read, with its clusters settled.
 fn syntax_from(reading: Reading) -> Result<Syntax, Memory>
     requires { IsSoundReading reading }
     ensures { IfOk result (λ syntax. syntax ≡ spec.syntax_from reading) }
 {
-    let Reading {
-        names,
-        items,
-        patterns,
-        keywords,
-        links,
-        sets,
-        ignore: _,
-        include: _,
-    } = reading;
-    let Names {
-        groups,
-        mut clusters,
-    } = names;
-    clusters.settle()?;
-    Ok(Syntax {
-        items,
-        clusters,
-        groups,
-        programs: patterns.into_programs(),
-        keywords,
-        links,
-        sets,
-    })
+    let mut reading = reading;
+    reading.names.clusters.settle()?;
+    Ok(parts_of(reading))
 }
 
 /// Reads the first file, by its own name.
