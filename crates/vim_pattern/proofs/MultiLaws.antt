@@ -3,7 +3,6 @@ use Rattle.std.proofs.Common.{◌≡◌, ℕ, refl}
 use Rattle.std.specs.Prelude.{Bool, true, false, Some, None, Ok}
 use Rattle.pattern_items.specs.declared.item.Multi.{Multi}
 use Rattle.pattern_items.specs.declared.cause.PatternCause.{PatternCause}
-use Rattle.pattern_items.specs.declared.cause.PatternCause.TheVariants as cause
 use Rattle.vim_pattern.specs.Read.{Last, nothing, loose, fixed, State, multi_fault, multi_step, refuse, repeated}
 
 pub refused_multi : (at : ℕ) (m : Multi) (list : Bool) (s : State) (last : Last) (c : PatternCause) → multi_fault list last ≡ Some c

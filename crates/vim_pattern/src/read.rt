@@ -18,7 +18,8 @@ use crate::build::{
 use crate::notes::{Noted, noted_next, tree_of};
 use crate::{Atom, Node, PatternCause, PatternError, PatternUse, Tree};
 use pattern_items::{Before, Kind, Level, Multi, Placed, Sign, Surroundings, behind, next_item};
-use std::alloc::{AllocError, Global};
+use std::alloc::Global;
+use std::mem;
 
 /// The most characters of a pattern.
 const MOST_CHARACTERS: usize = 4000;
@@ -77,6 +78,17 @@ fn multi_fault(last: &LastNode, list: bool) -> Option<PatternCause>
     }
 }
 
+/// With a multi at what stands last.
+fn multiplied(alloc: Global, reading: Reading, found: Multi) -> Result<Reading, PatternError>
+    ensures { Gives state_of result
+        (Ok (read.on_part (read.with_repeated found) (state_of reading))) }
+{
+    Ok(Reading {
+        here: repeated(alloc, reading.here, found)?,
+        under: reading.under,
+    })
+}
+
 #[tactic(auto, using(crate::proofs::MultiLaws::refused_multi, crate::proofs::MultiLaws::put_multi))]
 fn multi(
     alloc: Global,
@@ -91,28 +103,28 @@ fn multi(
     let (list, _) = top(&reading.under);
     match multi_fault(&reading.here.last, list) {
         Some(cause) => refused(reading, place, cause),
-        None => Ok(Reading {
-            here: repeated(alloc, reading.here, found)?,
-            under: reading.under,
-        }),
+        None => multiplied(alloc, reading, found),
     }
 }
 
 /// With an item open, which fits in the levels.
 #[tactic(auto, using(crate::proofs::Under::under_push))]
-fn opened(alloc: Global, reading: Reading, place: usize, kind: Kind) -> Result<Reading, AllocError>
-    ensures { IfOk result (λ more. state_of more ≡ read.opened place kind (state_of reading)) }
+fn opened(
+    alloc: Global,
+    reading: Reading,
+    place: usize,
+    kind: Kind,
+) -> Result<Reading, PatternError>
+    ensures { Gives state_of result (Ok (read.opened place kind (state_of reading))) }
 {
-    let mut under = reading.under;
-    under.push(OpenItem {
+    let mut reading = reading;
+    let part = mem::replace(&mut reading.here, new_part(alloc));
+    reading.under.push(OpenItem {
         at: place,
         kind,
-        part: reading.here,
+        part,
     })?;
-    Ok(Reading {
-        here: new_part(alloc),
-        under,
-    })
+    Ok(reading)
 }
 
 #[tactic(auto, using(crate::proofs::Under::length_under))]
@@ -125,7 +137,7 @@ fn open_item(
     ensures { Gives state_of result (read.open_step place kind (state_of reading)) }
 {
     if reading.under.len() < MOST_LEVELS {
-        Ok(opened(alloc, reading, place, kind)?)
+        opened(alloc, reading, place, kind)
     } else {
         refused(reading, place, PatternCause::TooNested)
     }
