@@ -21,7 +21,7 @@ pub(crate) struct UsualRow {
     usual: UsualHighlight,
 }
 
-pub(crate) const USUAL_ROWS: [UsualRow; 35] = [
+static USUAL_ROWS: [UsualRow; 35] = [
     UsualRow {
         name: "Comment",
         usual: UsualHighlight::Shown(Style {
@@ -202,6 +202,14 @@ pub(crate) const USUAL_ROWS: [UsualRow; 35] = [
     },
 ];
 
+/// The rows of all groups that exist from the start.
+fn all_rows() -> &'static [UsualRow]
+    ensures rows { usual_rows result.now ≡ usual_groups }
+    ensures some { 0 < length result.now }
+{
+    &USUAL_ROWS
+}
+
 impl Links {
     /// The groups that exist from the start (`group-name`), with their links and styles. Where it is
     /// refused, some of these groups may have been made.
@@ -215,7 +223,7 @@ impl Links {
         ensures some { OnErr result (HasSomeUsual usual_groups groups.old groups.new) }
     {
         let mut links = Links::new(alloc);
-        add_all(&USUAL_ROWS, groups, &mut links)?;
+        add_all(all_rows(), groups, &mut links)?;
         Ok(links)
     }
 }
