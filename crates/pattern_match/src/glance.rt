@@ -155,23 +155,23 @@ fn look_at<T: Lines>(
     }
     sight.left -= 1;
     match step {
-        Step::Empty => go_on(lines, context, &*rest, sight),
+        Step::Empty => go_on(lines, context, rest, sight),
         Step::Never => Saw::InVain,
-        Step::One(test) => look_at_one(lines, context, test, &*rest, sight),
-        Step::Seq(first, second) => look_at_both(lines, context, first, second, &*rest, sight),
-        Step::Or(first, second) => look_at_either(lines, context, first, second, &*rest, sight),
-        Step::Optional(part) => look_at_optional(lines, context, part, &*rest, sight),
-        Step::Group(part, number) => look_at_group(lines, context, part, *number, &*rest, sight),
+        Step::One(test) => look_at_one(lines, context, test, rest, sight),
+        Step::Seq(first, second) => look_at_both(lines, context, first, second, rest, sight),
+        Step::Or(first, second) => look_at_either(lines, context, first, second, rest, sight),
+        Step::Optional(part) => look_at_optional(lines, context, part, rest, sight),
+        Step::Group(part, number) => look_at_group(lines, context, part, *number, rest, sight),
         Step::External(part, number) => {
-            look_at_external(lines, context, part, *number, &*rest, sight)
+            look_at_external(lines, context, part, *number, rest, sight)
         }
         Step::Repeat {
             part,
             least,
             most,
             lazy,
-        } => look_at_repeat(lines, context, part, *least, *most, *lazy, &*rest, sight),
-        Step::Ahead { part, not } => look_ahead(lines, context, part, *not, &*rest, sight),
+        } => look_at_repeat(lines, context, part, *least, *most, *lazy, rest, sight),
+        Step::Ahead { part, not } => look_ahead(lines, context, part, *not, rest, sight),
         _ => Saw::TooFar,
     }
 }
@@ -193,7 +193,7 @@ fn look_at_one<T: Lines>(
     ensures goes { GoesOn (T.lines lines.now) sight.old sight.new }
 {
     match look_at_atom(lines, context, test, sight) {
-        Saw::Reached => go_on(lines, context, &*rest, sight),
+        Saw::Reached => go_on(lines, context, rest, sight),
         saw => saw,
     }
 }
@@ -218,7 +218,7 @@ fn look_at_both<T: Lines>(
 {
     match first {
         Step::One(test) => match look_at_atom(lines, context, test, sight) {
-            Saw::Reached => look_at(lines, context, second, &*rest, sight),
+            Saw::Reached => look_at(lines, context, second, rest, sight),
             saw => saw,
         },
         first => {
@@ -247,10 +247,10 @@ fn look_at_either<T: Lines>(
     ensures goes { GoesOn (T.lines lines.now) sight.old sight.new }
 {
     let from = sight.at;
-    match look_at(lines, context, first, &*rest, sight) {
+    match look_at(lines, context, first, rest, sight) {
         Saw::InVain => {
             sight.at = from;
-            look_at(lines, context, second, &*rest, sight)
+            look_at(lines, context, second, rest, sight)
         }
         saw => saw,
     }
@@ -273,10 +273,10 @@ fn look_at_optional<T: Lines>(
     ensures goes { GoesOn (T.lines lines.now) sight.old sight.new }
 {
     let from = sight.at;
-    match look_at(lines, context, part, &*rest, sight) {
+    match look_at(lines, context, part, rest, sight) {
         Saw::InVain => {
             sight.at = from;
-            go_on(lines, context, &*rest, sight)
+            go_on(lines, context, rest, sight)
         }
         saw => saw,
     }
@@ -345,7 +345,7 @@ fn look_at_repeat<T: Lines>(
     ensures goes { GoesOn (T.lines lines.now) sight.old sight.new }
 {
     let turns = Turns::new(part, least, most, lazy);
-    look_at_count(lines, context, &turns, &*rest, sight)
+    look_at_count(lines, context, &turns, rest, sight)
 }
 
 /// Goes on with what follows.
@@ -369,12 +369,12 @@ fn go_on<T: Lines>(lines: &T, context: &Context<'_>, rest: &Rest<'_>, sight: &mu
         } else {
             Saw::InVain
         },
-        Rest::Then(step, others) => look_at(lines, context, &**step, &**others, sight),
+        Rest::Then(step, others) => look_at(lines, context, *step, *others, sight),
         Rest::AfterTurn(turns, from, others) => {
-            look_after_turn(lines, context, &**turns, *from, &**others, sight)
+            look_after_turn(lines, context, *turns, *from, *others, sight)
         }
-        Rest::Close(_, _, others) => go_on(lines, context, &**others, sight),
-        Rest::CloseExternal(_, _, others) => go_on(lines, context, &**others, sight),
+        Rest::Close(_, _, others) => go_on(lines, context, *others, sight),
+        Rest::CloseExternal(_, _, others) => go_on(lines, context, *others, sight),
     }
 }
 
@@ -401,7 +401,7 @@ fn look_after_turn<T: Lines>(
     sight.left -= 1;
     match next_turns(sight.at, *turns, from) {
         None => Saw::InVain,
-        Some(turns) => look_at_count(lines, context, &turns, &*rest, sight),
+        Some(turns) => look_at_count(lines, context, &turns, rest, sight),
     }
 }
 
@@ -422,15 +422,15 @@ fn look_at_count<T: Lines>(
     ensures goes { GoesOn (T.lines lines.now) sight.old sight.new }
 {
     if is_spent(turns.most) {
-        return go_on(lines, context, &*rest, sight);
+        return go_on(lines, context, rest, sight);
     }
     if turns.least > 0 {
-        return look_at_turn(lines, context, &*turns, &*rest, sight);
+        return look_at_turn(lines, context, turns, rest, sight);
     }
     if turns.lazy {
-        look_at_lazy(lines, context, &*turns, &*rest, sight)
+        look_at_lazy(lines, context, turns, rest, sight)
     } else {
-        look_at_greedy(lines, context, &*turns, &*rest, sight)
+        look_at_greedy(lines, context, turns, rest, sight)
     }
 }
 
@@ -505,17 +505,17 @@ fn look_at_greedy<T: Lines>(
     ensures goes { GoesOn (T.lines lines.now) sight.old sight.new }
 {
     let from = sight.at;
-    let count = turns_at_once(lines, context, &*turns, &*sight);
+    let count = turns_at_once(lines, context, turns, &*sight);
     if count == 0 {
-        return look_at_more(lines, context, &*turns, &*rest, sight);
+        return look_at_more(lines, context, turns, rest, sight);
     }
     go_further(lines, count, sight);
     let left = Turns {
         most: less_by(turns.most, count),
         ..*turns
     };
-    match look_at_more(lines, context, &left, &*rest, sight) {
-        Saw::InVain => look_at_stops(lines, context, &*rest, from, count, sight),
+    match look_at_more(lines, context, &left, rest, sight) {
+        Saw::InVain => look_at_stops(lines, context, rest, from, count, sight),
         saw => saw,
     }
 }
@@ -539,13 +539,13 @@ fn look_at_more<T: Lines>(
     ensures goes { GoesOn (T.lines lines.now) sight.old sight.new }
 {
     if is_spent(turns.most) {
-        return go_on(lines, context, &*rest, sight);
+        return go_on(lines, context, rest, sight);
     }
     let from = sight.at;
-    match look_at_turn(lines, context, &*turns, &*rest, sight) {
+    match look_at_turn(lines, context, turns, rest, sight) {
         Saw::InVain => {
             sight.at = from;
-            go_on(lines, context, &*rest, sight)
+            go_on(lines, context, rest, sight)
         }
         saw => saw,
     }
@@ -575,7 +575,7 @@ fn look_at_stops<T: Lines>(
     'stops: while left > 0 {
         left -= 1;
         sight.at = columns_on(from, left);
-        match go_on(lines, context, &*rest, sight) {
+        match go_on(lines, context, rest, sight) {
             Saw::InVain => {}
             saw => return saw,
         }
@@ -603,13 +603,13 @@ fn look_at_lazy<T: Lines>(
     ensures goes { GoesOn (T.lines lines.now) sight.old sight.new }
 {
     if let Step::One(test) = turns.part {
-        return look_at_lazy_atoms(lines, context, test, &*turns, &*rest, sight);
+        return look_at_lazy_atoms(lines, context, test, turns, rest, sight);
     }
     let from = sight.at;
-    match go_on(lines, context, &*rest, sight) {
+    match go_on(lines, context, rest, sight) {
         Saw::InVain => {
             sight.at = from;
-            look_at_turn(lines, context, &*turns, &*rest, sight)
+            look_at_turn(lines, context, turns, rest, sight)
         }
         saw => saw,
     }
@@ -638,7 +638,7 @@ fn look_at_lazy_atoms<T: Lines>(
     let mut most = turns.most;
     for _ in 0..NODES {
         let from = sight.at;
-        match go_on(lines, context, &*rest, sight) {
+        match go_on(lines, context, rest, sight) {
             Saw::InVain => {}
             saw => return saw,
         }
@@ -678,7 +678,7 @@ fn look_at_turn<T: Lines>(
         Step::One(test) => {
             let from = sight.at;
             match look_at_atom(lines, context, test, sight) {
-                Saw::Reached => look_after_turn(lines, context, &*turns, from, &*rest, sight),
+                Saw::Reached => look_after_turn(lines, context, turns, from, rest, sight),
                 saw => saw,
             }
         }
@@ -712,11 +712,11 @@ fn look_ahead<T: Lines>(
             Saw::InVain
         } else {
             sight.at = from;
-            go_on(lines, context, &*rest, sight)
+            go_on(lines, context, rest, sight)
         },
         Saw::InVain => if not {
             sight.at = from;
-            go_on(lines, context, &*rest, sight)
+            go_on(lines, context, rest, sight)
         } else {
             Saw::InVain
         },
