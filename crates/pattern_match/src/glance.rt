@@ -362,19 +362,19 @@ fn go_on<T: Lines>(lines: &T, context: &Context<'_>, rest: &Rest<'_>, sight: &mu
         return Saw::TooFar;
     }
     sight.left -= 1;
-    match rest {
+    match *rest {
         Rest::End => Saw::Reached,
-        Rest::EndAt(place) => if sight.at == *place {
+        Rest::EndAt(place) => if sight.at == place {
             Saw::Reached
         } else {
             Saw::InVain
         },
-        Rest::Then(step, others) => look_at(lines, context, *step, *others, sight),
+        Rest::Then(step, others) => look_at(lines, context, step, others, sight),
         Rest::AfterTurn(turns, from, others) => {
-            look_after_turn(lines, context, *turns, *from, *others, sight)
+            look_after_turn(lines, context, turns, from, others, sight)
         }
-        Rest::Close(_, _, others) => go_on(lines, context, *others, sight),
-        Rest::CloseExternal(_, _, others) => go_on(lines, context, *others, sight),
+        Rest::Close(_, _, others) => go_on(lines, context, others, sight),
+        Rest::CloseExternal(_, _, others) => go_on(lines, context, others, sight),
     }
 }
 
