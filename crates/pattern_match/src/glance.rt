@@ -13,7 +13,7 @@ ghost use Rattle.pattern_match.specs.Search.{wanted_marks};
 ghost use Rattle.pattern_match.specs.Spending.{spent_times};
 ghost use Rattle.pattern_match.specs.Steps.{atom_of, shape_of};
 ghost use Rattle.pattern_match.specs.Ways.{columns_on};
-ghost use Rattle.vim_pattern.specs.Shape.{ahead, empty, external, group, one, or, repeat, seq};
+ghost use Rattle.vim_pattern.specs.Shape.{ahead, empty, one, or, seq};
 
 use crate::atoms::{numbered, try_plain};
 use crate::context::Context;
@@ -161,16 +161,23 @@ fn look_at<T: Lines>(
         Step::Seq(first, second) => look_at_both(lines, context, first, second, rest, sight),
         Step::Or(first, second) => look_at_either(lines, context, first, second, rest, sight),
         Step::Optional(part) => look_at_optional(lines, context, part, rest, sight),
-        Step::Group(part, number) => look_at_group(lines, context, part, *number, rest, sight),
+        Step::Group(part, number) => {
+            let rest = Rest::Close(*number, sight.at, &*rest);
+            look_at(lines, context, part, &rest, sight)
+        }
         Step::External(part, number) => {
-            look_at_external(lines, context, part, *number, rest, sight)
+            let rest = Rest::CloseExternal(*number, sight.at, &*rest);
+            look_at(lines, context, part, &rest, sight)
         }
         Step::Repeat {
             part,
             least,
             most,
             lazy,
-        } => look_at_repeat(lines, context, part, *least, *most, *lazy, rest, sight),
+        } => {
+            let turns = Turns::new(part, *least, *most, *lazy);
+            look_at_count(lines, context, &turns, rest, sight)
+        }
         Step::Ahead { part, not } => look_ahead(lines, context, part, *not, rest, sight),
         _ => Saw::TooFar,
     }
@@ -280,72 +287,6 @@ fn look_at_optional<T: Lines>(
         }
         saw => saw,
     }
-}
-
-/// A short look at a counted group.
-#[cycle(look)]
-fn look_at_group<T: Lines>(
-    lines: &T,
-    context: &Context<'_>,
-    part: &Step,
-    number: u8,
-    rest: &Rest<'_>,
-    sight: &mut Sight,
-) -> Saw
-    requires { Stands (T.lines lines.now) sight.old }
-    ensures seen { (w : Way) → w.at ≡ sight.old.at →
-        let x = context_in (T.lines lines.now) context.now in
-        IsSeen (followed (visits x (group (shape_of part.now) number) w) (marks_behind x rest.now))
-        sight.old sight.new result }
-    ensures goes { GoesOn (T.lines lines.now) sight.old sight.new }
-{
-    let rest = Rest::Close(number, sight.at, &*rest);
-    look_at(lines, context, part, &rest, sight)
-}
-
-/// A short look at an external group.
-#[cycle(look)]
-fn look_at_external<T: Lines>(
-    lines: &T,
-    context: &Context<'_>,
-    part: &Step,
-    number: u8,
-    rest: &Rest<'_>,
-    sight: &mut Sight,
-) -> Saw
-    requires { Stands (T.lines lines.now) sight.old }
-    ensures seen { (w : Way) → w.at ≡ sight.old.at →
-        let x = context_in (T.lines lines.now) context.now in
-        IsSeen (followed (visits x (external (shape_of part.now) number) w) (marks_behind x rest.now))
-        sight.old sight.new result }
-    ensures goes { GoesOn (T.lines lines.now) sight.old sight.new }
-{
-    let rest = Rest::CloseExternal(number, sight.at, &*rest);
-    look_at(lines, context, part, &rest, sight)
-}
-
-/// A short look at a count.
-#[cycle(look)]
-fn look_at_repeat<T: Lines>(
-    lines: &T,
-    context: &Context<'_>,
-    part: &Step,
-    least: u32,
-    most: Option<u32>,
-    lazy: bool,
-    rest: &Rest<'_>,
-    sight: &mut Sight,
-) -> Saw
-    requires { Stands (T.lines lines.now) sight.old }
-    ensures seen { (w : Way) → w.at ≡ sight.old.at →
-        let x = context_in (T.lines lines.now) context.now in
-        IsSeen (followed (visits x (repeat (shape_of part.now) least most lazy) w)
-        (marks_behind x rest.now))
-        sight.old sight.new result }
-    ensures goes { GoesOn (T.lines lines.now) sight.old sight.new }
-{
-    let turns = Turns::new(part, least, most, lazy);
-    look_at_count(lines, context, &turns, rest, sight)
 }
 
 /// Goes on with what follows.

@@ -50,17 +50,31 @@ look_at-returns-in-Optional-clause-seen g t c =
 pub look_at-returns-in-Group-clause-seen : goal.look_at-returns-in-Group-clause-seen
 look_at-returns-in-Group-clause-seen g t c =
     let x : AnyContext = context_in (g.T.Lines.lines c.args.lines.now) c.args.context.now in
-    λ w e. rw c.in-Group.is (rw c.deref-in-Group.ensures at c.look_at_group.ensures.seen w e)
+    let f = marks_behind x c.args.rest.now in
+    let s : Shape = shape_of c.in-Group.part.value in
+    λ w e. rw c.in-Group.is
+    (seen_as _ _ c.args.sight.now c.look_at.new.sight c.look_at.result
+    (group_is x s c.in-Group.number w f)
+    (subst (λ p. IsSeen (followed (visits x s w) (λ v. followed (noted c.in-Group.number p v) f))
+    c.args.sight.now c.look_at.new.sight c.look_at.result)
+    (sym e) (rw c.deref-in-Group.ensures at c.look_at.ensures.seen w e)))
 
 pub look_at-returns-in-External-clause-seen : goal.look_at-returns-in-External-clause-seen
 look_at-returns-in-External-clause-seen g t c =
     let x : AnyContext = context_in (g.T.Lines.lines c.args.lines.now) c.args.context.now in
-    λ w e. rw c.in-External.is (rw c.deref-in-External.ensures at c.look_at_external.ensures.seen w e)
+    let f = marks_behind x c.args.rest.now in
+    let s : Shape = shape_of c.in-External.part.value in
+    λ w e. rw c.in-External.is
+    (seen_as _ _ c.args.sight.now c.look_at-in-External.new.sight c.look_at-in-External.result
+    (external_is x s c.in-External.number w f)
+    (subst (λ p. IsSeen (followed (visits x s w) (λ v. followed (noted_external c.in-External.number p v) f))
+    c.args.sight.now c.look_at-in-External.new.sight c.look_at-in-External.result)
+    (sym e) (rw c.deref-in-External.ensures at c.look_at-in-External.ensures.seen w e)))
 
 pub look_at-returns-in-Repeat-clause-seen : goal.look_at-returns-in-Repeat-clause-seen
 look_at-returns-in-Repeat-clause-seen g t c =
     let x : AnyContext = context_in (g.T.Lines.lines c.args.lines.now) c.args.context.now in
-    λ w e. rw c.in-Repeat.is (rw c.deref-in-Repeat.ensures at c.look_at_repeat.ensures.seen w e)
+    λ w e. rw c.in-Repeat.is (rw (c.new-turns.ensures, c.deref-in-Repeat.ensures) at c.look_at_count.ensures.seen w e)
 
 pub look_at-returns-in-Ahead-clause-seen : goal.look_at-returns-in-Ahead-clause-seen
 look_at-returns-in-Ahead-clause-seen g t c =
@@ -447,11 +461,6 @@ look_at_lazy_atoms-loop-preserved g t c =
           (λ v e. rw c.in-Reached.is at c.look_at_atom.ensures.seen v e) moves);
     }
 
-pub look_at_repeat-returns-clause-seen : goal.look_at_repeat-returns-clause-seen
-look_at_repeat-returns-clause-seen g t c =
-    let x : AnyContext = context_in (g.T.Lines.lines c.args.lines.now) c.args.context.now in
-    λ w e. rw c.new-turns.ensures at c.look_at_count.ensures.seen w e
-
 pub go_on-returns-in-Close-clause-seen : goal.go_on-returns-in-Close-clause-seen
 go_on-returns-in-Close-clause-seen g t c =
     let x : AnyContext = context_in (g.T.Lines.lines c.args.lines.now) c.args.context.now in
@@ -472,26 +481,6 @@ look_after_turn-returns-in-None-clause-seen g t c =
     λ w e.
     ap (λ m. answer_from c.args.sight.now.spent.cost c.args.sight.now.spent.looked
     (followed m (marks_behind x c.args.rest.now))) ((rw c.in-None.is at c.next_turns.ensures) x w e)
-
-pub look_at_group-returns-clause-seen : goal.look_at_group-returns-clause-seen
-look_at_group-returns-clause-seen g t c =
-    let x : AnyContext = context_in (g.T.Lines.lines c.args.lines.now) c.args.context.now in
-    let f = marks_behind x c.args.rest.now in
-    λ w e. seen_as _ _ c.args.sight.now c.look_at.new.sight c.look_at.result
-    (group_is x (shape_of c.args.part.now) c.args.number w f)
-    (subst (λ p. IsSeen (followed (visits x (shape_of c.args.part.now) w)
-    (λ v. followed (noted c.args.number p v) f)) c.args.sight.now c.look_at.new.sight c.look_at.result)
-    (sym e) (c.look_at.ensures.seen w e))
-
-pub look_at_external-returns-clause-seen : goal.look_at_external-returns-clause-seen
-look_at_external-returns-clause-seen g t c =
-    let x : AnyContext = context_in (g.T.Lines.lines c.args.lines.now) c.args.context.now in
-    let f = marks_behind x c.args.rest.now in
-    λ w e. seen_as _ _ c.args.sight.now c.look_at.new.sight c.look_at.result
-    (external_is x (shape_of c.args.part.now) c.args.number w f)
-    (subst (λ p. IsSeen (followed (visits x (shape_of c.args.part.now) w)
-    (λ v. followed (noted_external c.args.number p v) f)) c.args.sight.now c.look_at.new.sight c.look_at.result)
-    (sym e) (c.look_at.ensures.seen w e))
 
 pub look_at_turn-returns-in_default : goal.look_at_turn-returns-in_default
 look_at_turn-returns-in_default g t c =

@@ -28,20 +28,11 @@ decreases-look_at_either g l = 8 * l.sight.now.left + 1
 abbrev pub decreases-look_at_optional : goal.decreases-look_at_optional
 decreases-look_at_optional g l = 8 * l.sight.now.left + 1
 
-abbrev pub decreases-look_at_group : goal.decreases-look_at_group
-decreases-look_at_group g l = 8 * l.sight.now.left + 1
-
-abbrev pub decreases-look_at_external : goal.decreases-look_at_external
-decreases-look_at_external g l = 8 * l.sight.now.left + 1
-
 abbrev pub decreases-look_at_turn : goal.decreases-look_at_turn
 decreases-look_at_turn g l = 8 * l.sight.now.left + 1
 
 abbrev pub decreases-look_at_count : goal.decreases-look_at_count
 decreases-look_at_count g l = 8 * l.sight.now.left + 4
-
-abbrev pub decreases-look_at_repeat : goal.decreases-look_at_repeat
-decreases-look_at_repeat g l = 8 * l.sight.now.left + 5
 
 abbrev pub decreases-look_ahead : goal.decreases-look_ahead
 decreases-look_ahead g l = 8 * l.sight.now.left + 1
