@@ -1,7 +1,7 @@
 //! The match of a way that an attempt has found.
-ghost use Rattle.std.specs.Prelude.{◌≡◌, ◌∷◌, ◌++◌, [], List, map, replicate, None, IfOk, IsTrue, OnOk};
+ghost use Rattle.std.specs.Prelude.{◌≡◌, List, map, replicate, None, IfOk, IsTrue};
 ghost use Rattle.match_rules.specs.Ways.{Text, Capture, way_from};
-ghost use Rattle.match_rules.specs.Attempt.{not_before, external_of, externals_of, match_from, match_to};
+ghost use Rattle.match_rules.specs.Attempt.{not_before, external_of, externals_of};
 ghost use Rattle.pattern_match.specs.Ways.{found_way};
 ghost use Rattle.pattern_match.specs.Answers.{match_of};
 
@@ -49,25 +49,14 @@ fn noted_match<T: Lines>(
     ensures { IfOk result (λ found. found ≡ match_of (T.lines lines.now) start
         (found_way way.now)) }
 {
-    let (from, to) = ends_of(start, way);
-    let caps = caps_of(alloc, &way.captures)?;
-    let externals = externals_of(alloc, lines, &way.externals)?;
+    let from = way.start.unwrap_or(start);
+    let to = not_before(from, way.stop.unwrap_or(way.at));
     Ok(Match {
         from,
         to,
-        caps,
-        externals,
+        caps: caps_of(alloc, &way.captures)?,
+        externals: externals_of(alloc, lines, &way.externals)?,
     })
-}
-
-/// Where the match of a way begins and ends.
-fn ends_of(start: Place, way: &FoundWay) -> (Place, Place)
-    ensures from { result.0 ≡ match_from start (found_way way.now) }
-    ensures to { result.1 ≡ match_to start (found_way way.now) }
-{
-    let from = way.start.unwrap_or(start);
-    let to = not_before(from, way.stop.unwrap_or(way.at));
-    (from, to)
 }
 
 /// The end of a match, or its beginning where that comes later.
@@ -113,22 +102,9 @@ fn externals_of<T: Lines>(
     }
     let mut texts = List::new(alloc);
     for group in groups {
-        push_external(alloc, lines, *group, &mut texts)?;
+        texts.push(external_of(alloc, lines, *group)?)?;
     }
     Ok(Externals::from_parts(texts))
-}
-
-/// Puts the text of an external group behind others.
-fn push_external<T: Lines>(
-    alloc: Global,
-    lines: &T,
-    group: Option<(Place, Place)>,
-    texts: &mut List<List<char>>,
-) -> Result<(), Memory>
-    ensures { OnOk result (texts.new ≡ texts.old ++ external_of (T.lines lines.now) group ∷ []) }
-{
-    let text = external_of(alloc, lines, group)?;
-    texts.push(text)
 }
 
 /// The text of an external group: empty where it goes over a line end, or didn't match.
