@@ -1,6 +1,7 @@
 //! The page as a whole.
-ghost use Rattle.std.specs.Prelude.{◌≡◌, ◌++◌, length, IfOk, OnOk};
-ghost use Rattle.html_writer.specs.Page.{body_end, body_start, element, head_text, page_text, start_text};
+ghost use Rattle.std.specs.Prelude.{◌≡◌, ◌++◌, [], length, IfOk, OnOk};
+ghost use Rattle.std.specs.List.{flat_map};
+ghost use Rattle.html_writer.specs.Page.{body_end, body_start, element, head_text, page_text, shown_groups, start_text, style_line};
 ghost use Rattle.syn_base.specs.SpansFit.{FitLines};
 
 use crate::PageOptions;
@@ -28,14 +29,52 @@ pub fn page<P: Lines + Colours>(
         ≡ page_text title.now (P.lines painting.now) (P.coloured painting.now)
         groups.now links.now options) }
 {
-    let shown = shown_groups(alloc, painting, links)?;
     let mut page = Vec::new(alloc);
-    push_head(&mut page, title, options.number)?;
-    push_style_lines(&mut page, groups, links, shown.as_slice())?;
-    push_body_start(&mut page, options.pre)?;
-    push_lines(&mut page, painting, groups, links, options)?;
-    push_body_end(&mut page, options.pre)?;
+    push_page(alloc, &mut page, title, painting, groups, links, options)?;
     Ok(List::from_vec(page))
+}
+
+/// Appends the page of a painting.
+fn push_page<P: Lines + Colours>(
+    alloc: Global,
+    page: &mut Vec<u8>,
+    title: &str,
+    painting: &P,
+    groups: &Groups,
+    links: &Links,
+    options: PageOptions,
+) -> Result<(), Memory>
+    requires as_many { length (P.coloured painting.now) ≡ length (P.lines painting.now) }
+    requires fit { FitLines (P.lines painting.now) (P.coloured painting.now) }
+    requires empty { page.old.items ≡ [] }
+    ensures { OnOk result (page.new.items
+        ≡ page_text title.now (P.lines painting.now) (P.coloured painting.now)
+        groups.now links.now options) }
+{
+    push_head(page, title, options.number)?;
+    push_styles(alloc, page, painting, groups, links)?;
+    push_body_start(page, options.pre)?;
+    push_lines(page, painting, groups, links, options)?;
+    push_body_end(page, options.pre)?;
+    Ok(())
+}
+
+/// Appends the style lines of the groups that are shown.
+fn push_styles<P: Lines + Colours>(
+    alloc: Global,
+    page: &mut Vec<u8>,
+    painting: &P,
+    groups: &Groups,
+    links: &Links,
+) -> Result<(), Memory>
+    requires { length (P.coloured painting.now) ≡ length (P.lines painting.now) }
+    ensures { OnOk result (page.new.items ≡ page.old.items
+        ++ flat_map (style_line groups.now links.now)
+        (shown_groups links.now (P.coloured painting.now))) }
+{
+    let shown = shown_groups(alloc, painting, links)?;
+    push_style_lines(page, groups, links, shown.as_slice())?;
+    Ok(())
 }
 
 /// Appends the page up to the style lines of groups.
