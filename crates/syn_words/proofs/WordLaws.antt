@@ -1,5 +1,6 @@
 -- Words that stand in a line as they are spelled, and how much of a line is left behind them.
-use Rattle.std.proofs.Common.{◌≡◌, ℕ, ◌≤◌, Bool, true, false, List, [], ◌∷◌, ◌++◌, length, refl, ap, ◌∙◌, arith, cond}
+use Rattle.std.proofs.Common.{◌≡◌, ℕ, zero, suc, ◌≤◌, ◌-◌, Bool, true, false, List, [], ◌∷◌, ◌++◌}
+use Rattle.std.proofs.Common.{length, take, refl, ap, ◌∙◌, arith, cond}
 use Rattle.std.specs.Prelude.{not, ◌&&◌}
 use Rattle.std.specs.List.{list_all}
 use Rattle.text_scan.specs.Characters.{is_blank, past_blanks}
@@ -67,6 +68,24 @@ past_shorter u [] = omega arith
 past_shorter u (c ∷ cs) =
     let h = past_shorter u cs in
     shorter_of (stops u c) (c ∷ cs) (past u cs) (length (c ∷ cs)) (omega arith) (omega arith)
+
+-- what such a run takes is the front of the text, up to what is left
+
+first_by : (b : Bool) (c : ℕ) (cs left word : List ℕ) → length left ≤ length cs
+    → take (length cs - length left) cs ≡ word
+    → take (length (c ∷ cs) - length (cond b (c ∷ cs) left)) (c ∷ cs) ≡ cond b [] (c ∷ word)
+first_by true c cs left word fits is =
+    let none : suc (length cs) - suc (length cs) ≡ zero = omega arith in
+    ap (λ n. take n (c ∷ cs)) none
+first_by false c cs left word fits is =
+    let one : suc (length cs) - length left ≡ suc (length cs - length left) = omega (arith, fits) in
+    ap (λ n. take n (c ∷ cs)) one ∙ ap (λ w. c ∷ w) is
+
+pub run_first : (u : Until) (text : List ℕ)
+    → take (length text - length (past u text)) text ≡ run u text
+run_first u [] = refl
+run_first u (c ∷ cs) =
+    first_by (stops u c) c cs (past u cs) (run u cs) (past_shorter u cs) (run_first u cs)
 
 pub blanks_shorter : (text : List ℕ) → length (past_blanks text) ≤ length text
 blanks_shorter [] = omega arith

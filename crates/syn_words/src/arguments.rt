@@ -1,5 +1,6 @@
 //! Words that a command needs, and where it may take none.
 ghost use Rattle.std.specs.Prelude.{◌≡◌};
+ghost use Rattle.word_reader.specs.Words as words;
 ghost use Rattle.syn_words.specs.Answers.{LeavesAs, TakesAs};
 ghost use Rattle.syn_words.specs.Arguments as spec;
 
@@ -7,7 +8,16 @@ use crate::Cause;
 use crate::refusal::WordRefusal;
 use std::alloc::Global;
 use syn_base::List;
-use word_reader::{Reader, Until};
+use word_reader::{Reader, Until, past};
+
+/// The run of characters at the front of a text.
+#[tactic(auto, using(crate::proofs::WordLaws::run_first, crate::proofs::WordLaws::past_shorter))]
+pub(crate) fn front_run(until: Until, text: &[char]) -> &[char]
+    ensures { result.now ≡ words.run until text.now }
+{
+    let rest = past(until, text);
+    &text[..text.len() - rest.len()]
+}
 
 /// Goes to where the next word begins.
 pub(crate) fn word_start(reader: &mut Reader<'_>) -> Result<(), WordRefusal>

@@ -3,6 +3,7 @@ ghost use Rattle.std.specs.Prelude.{◌≡◌, ◌∷◌, ◌++◌, []};
 ghost use Rattle.syn_words.specs.Answers.{AnswersAs, TakesAs};
 ghost use Rattle.syn_words.specs.Clusters as spec;
 
+use crate::arguments::front_run;
 use crate::lists::list_value;
 use crate::refusal::WordRefusal;
 use crate::{Cause, NamedList};
@@ -30,10 +31,10 @@ fn change_of(key: &[char]) -> Option<Change>
 fn change_piece(alloc: Global, reader: &mut Reader<'_>) -> Result<(Change, NamedList), WordRefusal>
     ensures { TakesAs result reader.new (spec.change_piece reader.old) }
 {
-    let word = reader.run(alloc, Until::Key)?;
-    let Some(how) = change_of(word.as_slice()) else {
+    let Some(how) = change_of(front_run(Until::Key, reader.rest())) else {
         return Err(WordRefusal::Fault(Cause::UnknownOption));
     };
+    reader.skip_run(Until::Key);
     if !reader.has_equals() {
         return Err(WordRefusal::Fault(Cause::UnknownOption));
     }

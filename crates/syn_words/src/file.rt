@@ -99,7 +99,6 @@ fn read_outside(
 
 /// Behind the guard's `if`.
 fn read_finish(
-    alloc: Global,
     progress: Progress,
     opened: usize,
     number: usize,
@@ -107,7 +106,7 @@ fn read_finish(
 ) -> Result<Progress, Memory>
     ensures { IfOk result (λ p. spec.finish progress opened number reader.old ≡ (p, reader.new)) }
 {
-    match awaited(alloc, "finish", reader) {
+    match awaited("finish", reader) {
         Ok(()) => Ok(with_guard(progress, Guard::AwaitsEndif(opened))),
         Err(WordRefusal::Fault(cause)) => {
             reader.leave();
@@ -119,7 +118,6 @@ fn read_finish(
 
 /// Behind the guard's `finish`.
 fn read_endif(
-    alloc: Global,
     progress: Progress,
     opened: usize,
     number: usize,
@@ -127,7 +125,7 @@ fn read_endif(
 ) -> Result<Progress, Memory>
     ensures { IfOk result (λ p. spec.endif progress opened number reader.old ≡ (p, reader.new)) }
 {
-    match awaited(alloc, "endif", reader) {
+    match awaited("endif", reader) {
         Ok(()) => Ok(with_command(progress, opened, What::Nothing)?),
         Err(WordRefusal::Fault(cause)) => {
             reader.leave();
@@ -152,8 +150,8 @@ fn read_one(
     }
     match progress.guard {
         Guard::Outside => read_outside(alloc, progress, number, reader),
-        Guard::AwaitsFinish(opened) => read_finish(alloc, progress, opened, number, reader),
-        Guard::AwaitsEndif(opened) => read_endif(alloc, progress, opened, number, reader),
+        Guard::AwaitsFinish(opened) => read_finish(progress, opened, number, reader),
+        Guard::AwaitsEndif(opened) => read_endif(progress, opened, number, reader),
     }
 }
 

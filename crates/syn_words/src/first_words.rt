@@ -3,11 +3,11 @@ ghost use Rattle.std.specs.Prelude.{◌≡◌, Some, None};
 ghost use Rattle.syn_words.specs.Answers.{LeavesAs, TakesAs};
 ghost use Rattle.syn_words.specs.Commands as spec;
 
-use crate::arguments::{no_more, word_start};
+use crate::arguments::{front_run, no_more, word_start};
 use crate::file_names::file_argument;
 use crate::highlight::highlight_command;
 use crate::refusal::WordRefusal;
-use crate::syntax::{alone, quiet, syntax_command};
+use crate::syntax::{quiet, syntax_command};
 use crate::{Cause, What};
 use std::alloc::Global;
 use text_scan::front;
@@ -78,18 +78,19 @@ fn runtime_command(alloc: Global, reader: &mut Reader<'_>) -> Result<What, WordR
     ensures { TakesAs result reader.new (spec.runtime_command reader.old) }
 {
     let name = file_argument(alloc, reader)?;
-    alone(What::Runtime(name), reader)
+    no_more(reader)?;
+    Ok(What::Runtime(name))
 }
 
 /// Takes the guard's condition behind `if`.
-fn guard(alloc: Global, reader: &mut Reader<'_>) -> Result<Said, WordRefusal>
+fn guard(reader: &mut Reader<'_>) -> Result<Said, WordRefusal>
     ensures { TakesAs result reader.new (spec.guard reader.old) }
 {
     reader.skip_blanks();
-    let word = reader.run(alloc, Until::Word)?;
-    if !is_guard(word.as_slice()) {
+    if !is_guard(front_run(Until::Word, reader.rest())) {
         return Err(WordRefusal::Fault(Cause::UnknownCommand));
     }
+    reader.skip_run(Until::Word);
     no_more(reader)?;
     Ok(Said::OpensGuard)
 }
@@ -118,10 +119,11 @@ fn plain_command(
 pub(crate) fn command(alloc: Global, reader: &mut Reader<'_>) -> Result<Said, WordRefusal>
     ensures { TakesAs result reader.new (spec.command reader.old) }
 {
-    let word = reader.run(alloc, Until::Word)?;
-    match command_name(word.as_slice()) {
+    let word = front_run(Until::Word, reader.rest());
+    reader.skip_run(Until::Word);
+    match command_name(word) {
         None => Err(WordRefusal::Fault(Cause::UnknownCommand)),
-        Some(CommandName::If) => guard(alloc, reader),
+        Some(CommandName::If) => guard(reader),
         Some(name) => {
             let what = plain_command(alloc, name, reader)?;
             Ok(Said::Does(what))
@@ -130,12 +132,12 @@ pub(crate) fn command(alloc: Global, reader: &mut Reader<'_>) -> Result<Said, Wo
 }
 
 /// Takes a command of the guard, where this word is awaited.
-pub(crate) fn awaited(alloc: Global, word: &str, reader: &mut Reader<'_>) -> Result<(), WordRefusal>
+pub(crate) fn awaited(word: &str, reader: &mut Reader<'_>) -> Result<(), WordRefusal>
     ensures { LeavesAs result reader.new (spec.awaited word.now reader.old) }
 {
-    let found = reader.run(alloc, Until::Word)?;
-    if !is_word(found.as_slice(), word) {
+    if !is_word(front_run(Until::Word, reader.rest()), word) {
         return Err(WordRefusal::Fault(Cause::GuardUnfinished));
     }
+    reader.skip_run(Until::Word);
     no_more(reader)
 }

@@ -3,11 +3,10 @@ ghost use Rattle.std.specs.Prelude.{◌≡◌, true, false};
 ghost use Rattle.syn_words.specs.Answers.{TakesAs};
 ghost use Rattle.syn_words.specs.Highlight as spec;
 
-use crate::arguments::argument;
+use crate::arguments::{argument, no_more};
 use crate::names::{group_argument, group_name};
 use crate::refusal::WordRefusal;
 use crate::styles::style_parts;
-use crate::syntax::alone;
 use crate::{Cause, What};
 use std::alloc::Global;
 use syn_base::List;
@@ -38,15 +37,13 @@ fn link_command(
     let from = group_argument(alloc, reader)?;
     let word = argument(alloc, reader)?;
     let to = link_target(word)?;
-    alone(
-        What::Link {
-            from,
-            to,
-            unset,
-            force,
-        },
-        reader,
-    )
+    no_more(reader)?;
+    Ok(What::Link {
+        from,
+        to,
+        unset,
+        force,
+    })
 }
 
 fn style_command(

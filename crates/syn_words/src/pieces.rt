@@ -3,7 +3,7 @@ ghost use Rattle.std.specs.Prelude.{◌≡◌, ◌∷◌, ◌++◌, [], None, So
 ghost use Rattle.syn_words.specs.Answers.{AnswersAs, LeavesAs, TakesAs};
 ghost use Rattle.syn_words.specs.Pieces as spec;
 
-use crate::arguments::value_start;
+use crate::arguments::{front_run, value_start};
 use crate::lists::list_value;
 use crate::names::group_name;
 use crate::options::{OptionWord, option_of};
@@ -13,7 +13,7 @@ use crate::{Cause, Field, Flag, ItemCommand, Piece, Role};
 use std::alloc::Global;
 use syn_base::List;
 use text_scan::front;
-use word_reader::{Reader, Until, begins, can_delimit, past, run};
+use word_reader::{Reader, Until, begins, can_delimit, past};
 use word_values::is_none;
 
 /// Which patterns an item has so far.
@@ -96,12 +96,12 @@ fn only_character(word: &[char]) -> Result<char, Cause>
     }
 }
 
-fn cchar(alloc: Global, reader: &mut Reader<'_>) -> Result<Piece, WordRefusal>
+fn cchar(reader: &mut Reader<'_>) -> Result<Piece, WordRefusal>
     ensures { TakesAs result reader.new (spec.cchar reader.old) }
 {
     value_start(reader)?;
-    let word = reader.run(alloc, Until::Word)?;
-    let c = only_character(word.as_slice())?;
+    let c = only_character(front_run(Until::Word, reader.rest()))?;
+    reader.skip_run(Until::Word);
     Ok(Piece::Cchar(c))
 }
 
@@ -285,11 +285,11 @@ fn names_piece(
     names(alloc, field, reader)
 }
 
-fn cchar_piece(alloc: Global, reader: &mut Reader<'_>) -> Result<Piece, WordRefusal>
+fn cchar_piece(reader: &mut Reader<'_>) -> Result<Piece, WordRefusal>
     ensures { TakesAs result reader.new (spec.cchar_piece reader.old) }
 {
     skip_key(reader)?;
-    cchar(alloc, reader)
+    cchar(reader)
 }
 
 fn matchgroup_piece(
@@ -332,11 +332,10 @@ fn piece_at(
 ) -> Result<Piece, WordRefusal>
     ensures { TakesAs result reader.new (spec.piece_at kind seen reader.old) }
 {
-    let key = run(alloc, Until::Key, reader.rest())?;
-    match option_of(key.as_slice()) {
+    match option_of(front_run(Until::Key, reader.rest())) {
         None => plain_piece(alloc, kind, seen, reader),
         Some(OptionWord::Has(flag)) => flag_piece(alloc, kind, seen, flag, reader),
-        Some(OptionWord::Cchar) => cchar_piece(alloc, reader),
+        Some(OptionWord::Cchar) => cchar_piece(reader),
         Some(OptionWord::Names(field)) => names_piece(alloc, kind, field, reader),
         Some(OptionWord::Matchgroup) => matchgroup_piece(alloc, kind, seen, reader),
         Some(OptionWord::Quote(role)) => quote_piece(alloc, kind, seen, role, reader),

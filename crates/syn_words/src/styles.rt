@@ -4,7 +4,7 @@ ghost use Rattle.std.specs.Option.{option_to_list};
 ghost use Rattle.syn_words.specs.Answers.{AnswersAs, TakesAs};
 ghost use Rattle.syn_words.specs.Styles as spec;
 
-use crate::arguments::value_start;
+use crate::arguments::{front_run, value_start};
 use crate::refusal::WordRefusal;
 use crate::{Cause, StylePart};
 use std::alloc::Global;
@@ -69,32 +69,28 @@ fn style_part(key: StyleKey, value: &[char]) -> Result<Option<StylePart>, Cause>
 }
 
 /// The part of a key, whose value begins here.
-fn keyed(
-    alloc: Global,
-    key: StyleKey,
-    reader: &mut Reader<'_>,
-) -> Result<Option<StylePart>, WordRefusal>
+fn keyed(key: StyleKey, reader: &mut Reader<'_>) -> Result<Option<StylePart>, WordRefusal>
     ensures { TakesAs result reader.new (spec.keyed key reader.old) }
 {
     value_start(reader)?;
-    let value = reader.run(alloc, Until::Word)?;
-    let part = style_part(key, value.as_slice())?;
+    let part = style_part(key, front_run(Until::Word, reader.rest()))?;
+    reader.skip_run(Until::Word);
     Ok(part)
 }
 
 /// Takes one key with its value.
-fn style_piece(alloc: Global, reader: &mut Reader<'_>) -> Result<Option<StylePart>, WordRefusal>
+fn style_piece(reader: &mut Reader<'_>) -> Result<Option<StylePart>, WordRefusal>
     ensures { TakesAs result reader.new (spec.style_piece reader.old) }
 {
-    let word = reader.run(alloc, Until::Key)?;
-    let Some(key) = style_key(word.as_slice()) else {
+    let Some(key) = style_key(front_run(Until::Key, reader.rest())) else {
         return Err(WordRefusal::Fault(Cause::UnknownOption));
     };
+    reader.skip_run(Until::Key);
     if !reader.has_equals() {
         return Err(WordRefusal::Fault(Cause::UnknownOption));
     }
     reader.skip_equals();
-    keyed(alloc, key, reader)
+    keyed(key, reader)
 }
 
 fn push_some(parts: &mut List<StylePart>, part: Option<StylePart>) -> Result<(), Memory>
@@ -132,7 +128,7 @@ pub(crate) fn style_parts(
         if reader.is_over() {
             break;
         }
-        let part = style_piece(alloc, reader)?;
+        let part = style_piece(reader)?;
         push_some(&mut so_far, part)?;
         some = true;
         turns = fewer;

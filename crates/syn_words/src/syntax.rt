@@ -1,10 +1,9 @@
 //! Syntax commands.
-ghost use Rattle.std.specs.Prelude.{◌≡◌, ◌∷◌, ◌++◌, [], Some, None, IfOk};
+ghost use Rattle.std.specs.Prelude.{◌≡◌, ◌∷◌, ◌++◌, [], Some, None};
 ghost use Rattle.syn_words.specs.Answers.{TakesAs};
-ghost use Rattle.syn_words.specs.Alone as alone_spec;
 ghost use Rattle.syn_words.specs.Commands as spec;
 
-use crate::arguments::{argument, no_more, word_start};
+use crate::arguments::{argument, front_run, no_more, word_start};
 use crate::clusters::changes;
 use crate::file_names::file_argument;
 use crate::names::{group_argument, group_name};
@@ -12,9 +11,9 @@ use crate::pieces::pieces;
 use crate::refusal::WordRefusal;
 use crate::{Cause, ItemCommand, Named, What};
 use std::alloc::Global;
-use syn_base::{List, Memory};
+use syn_base::List;
 use text_scan::{front, past_blanks};
-use word_reader::{Reader, Until, is_over, is_word, past, run};
+use word_reader::{Reader, Until, is_over, is_word, past};
 
 /// The word behind `syntax`.
 #[derive(Clone, Copy)]
@@ -32,14 +31,6 @@ pub(crate) enum Subcommand {
     LeftOut,
 }
 
-/// A command that takes no more words.
-pub(crate) fn alone(what: What, reader: &mut Reader<'_>) -> Result<What, WordRefusal>
-    ensures { TakesAs result reader.new (alone_spec.alone what reader.old) }
-{
-    no_more(reader)?;
-    Ok(what)
-}
-
 fn ignored_case(word: &[char]) -> Result<bool, Cause>
     ensures { result ≡ spec.ignored_case word.now }
 {
@@ -52,12 +43,14 @@ fn ignored_case(word: &[char]) -> Result<bool, Cause>
     }
 }
 
-fn case_command(alloc: Global, reader: &mut Reader<'_>) -> Result<What, WordRefusal>
+fn case_command(reader: &mut Reader<'_>) -> Result<What, WordRefusal>
     ensures { TakesAs result reader.new (spec.case_command reader.old) }
 {
-    let word = argument(alloc, reader)?;
-    let ignore = ignored_case(word.as_slice())?;
-    alone(What::CaseIgnore(ignore), reader)
+    word_start(reader)?;
+    let ignore = ignored_case(front_run(Until::Word, reader.rest()))?;
+    reader.skip_run(Until::Word);
+    no_more(reader)?;
+    Ok(What::CaseIgnore(ignore))
 }
 
 fn keyword_set(word: List<char>) -> Option<List<char>>
@@ -73,7 +66,8 @@ fn iskeyword_command(alloc: Global, reader: &mut Reader<'_>) -> Result<What, Wor
     ensures { TakesAs result reader.new (spec.iskeyword_command reader.old) }
 {
     let word = argument(alloc, reader)?;
-    alone(What::Iskeyword(keyword_set(word)), reader)
+    no_more(reader)?;
+    Ok(What::Iskeyword(keyword_set(word)))
 }
 
 fn item_command(
@@ -108,7 +102,8 @@ fn included(
     ensures { TakesAs result reader.new (spec.included cluster reader.old) }
 {
     let name = file_argument(alloc, reader)?;
-    alone(What::Include { cluster, name }, reader)
+    no_more(reader)?;
+    Ok(What::Include { cluster, name })
 }
 
 /// Behind the at sign of the cluster.
@@ -132,18 +127,18 @@ fn include_command(alloc: Global, reader: &mut Reader<'_>) -> Result<What, WordR
 }
 
 /// Whether the only word is `fromstart`.
-fn is_fromstart(alloc: Global, text: &[char]) -> Result<bool, Memory>
-    ensures { IfOk result (λ answer. answer ≡ spec.is_fromstart text.now) }
+fn is_fromstart(text: &[char]) -> bool
+    ensures { result ≡ spec.is_fromstart text.now }
 {
-    let word = run(alloc, Until::Word, text)?;
-    Ok(is_word(word.as_slice(), "fromstart") && is_over(past_blanks(past(Until::Word, text))))
+    is_word(front_run(Until::Word, text), "fromstart")
+        && is_over(past_blanks(past(Until::Word, text)))
 }
 
-fn sync_command(alloc: Global, reader: &mut Reader<'_>) -> Result<What, WordRefusal>
+fn sync_command(reader: &mut Reader<'_>) -> Result<What, WordRefusal>
     ensures { TakesAs result reader.new (spec.sync_command reader.old) }
 {
     word_start(reader)?;
-    let fromstart = is_fromstart(alloc, reader.rest())?;
+    let fromstart = is_fromstart(reader.rest());
     reader.skip_command();
     Ok(What::Sync { fromstart })
 }
@@ -269,17 +264,22 @@ fn subcommand_of(word: &[char]) -> Option<Subcommand>
 pub(crate) fn syntax_command(alloc: Global, reader: &mut Reader<'_>) -> Result<What, WordRefusal>
     ensures { TakesAs result reader.new (spec.syntax_command reader.old) }
 {
-    let word = argument(alloc, reader)?;
-    match subcommand_of(word.as_slice()) {
+    word_start(reader)?;
+    let word = front_run(Until::Word, reader.rest());
+    reader.skip_run(Until::Word);
+    match subcommand_of(word) {
         None => Err(WordRefusal::Fault(Cause::UnknownSubcommand)),
         Some(Subcommand::Item(kind)) => item_command(alloc, kind, reader),
         Some(Subcommand::Cluster) => cluster_command(alloc, reader),
-        Some(Subcommand::Case) => case_command(alloc, reader),
+        Some(Subcommand::Case) => case_command(reader),
         Some(Subcommand::Iskeyword) => iskeyword_command(alloc, reader),
         Some(Subcommand::Include) => include_command(alloc, reader),
-        Some(Subcommand::Sync) => sync_command(alloc, reader),
+        Some(Subcommand::Sync) => sync_command(reader),
         Some(Subcommand::Clear) => clear_command(alloc, reader),
         Some(Subcommand::Quiet) => Ok(quiet(reader)),
-        Some(Subcommand::LeftOut) => Err(WordRefusal::Fault(Cause::NotInProfile { word })),
+        Some(Subcommand::LeftOut) => {
+            let word = List::from_slice(alloc, word)?;
+            Err(WordRefusal::Fault(Cause::NotInProfile { word }))
+        }
     }
 }
