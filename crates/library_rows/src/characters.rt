@@ -7,49 +7,48 @@
 //!     option VALUE TEXT    the characters of the text that are in the set of an option's value, or the place
 //!                          of its fault, from 0
 
-use crate::fault::{Fault, character_of, told};
+use crate::answer::add_whether;
+use crate::fault::{Fault, character_of};
 use char_class::{CharSet, Sets, class_has, fold, range_has, same};
-use std::alloc::Global;
 use syn_base::Class;
 
-pub(crate) fn fold_case(alloc: Global, arguments: &[&str]) -> Result<String, Fault> {
+pub(crate) fn fold_case(arguments: &[&str], answer: &mut String) -> Result<(), Fault> {
     let [c] = arguments else {
         return Err(Fault::BadCase);
     };
-    let folded = fold(character_of(c)?);
-    Ok(format!(in alloc; "{folded}")?)
+    answer.push(fold(character_of(c)?))?;
+    Ok(())
 }
 
-pub(crate) fn are_same(alloc: Global, arguments: &[&str]) -> Result<String, Fault> {
+pub(crate) fn are_same(arguments: &[&str], answer: &mut String) -> Result<(), Fault> {
     let [c, d, ignoring @ ..] = arguments else {
         return Err(Fault::BadCase);
     };
     let holds = same(character_of(c)?, character_of(d)?, !ignoring.is_empty());
-    told(alloc, holds)
+    add_whether(answer, holds)
 }
 
-pub(crate) fn is_in_range(alloc: Global, arguments: &[&str]) -> Result<String, Fault> {
+pub(crate) fn is_in_range(arguments: &[&str], answer: &mut String) -> Result<(), Fault> {
     let [low, high, c, ignoring @ ..] = arguments else {
         return Err(Fault::BadCase);
     };
     let (low, high) = (character_of(low)?, character_of(high)?);
     let holds = range_has(low, high, character_of(c)?, !ignoring.is_empty());
-    told(alloc, holds)
+    add_whether(answer, holds)
 }
 
-pub(crate) fn in_class(alloc: Global, arguments: &[&str]) -> Result<String, Fault> {
+pub(crate) fn in_class(arguments: &[&str], members: &mut String) -> Result<(), Fault> {
     let [letter, text] = arguments else {
         return Err(Fault::BadCase);
     };
     let class = class_of(letter)?;
     let sets = Sets::usual();
-    let mut members = String::new(alloc);
     for c in text.chars() {
         if class_has(class, c, &sets) {
             members.push(c)?;
         }
     }
-    Ok(members)
+    Ok(())
 }
 
 /// The class of a letter.
@@ -76,26 +75,26 @@ fn class_of(letter: &str) -> Result<Class, Fault> {
     })
 }
 
-pub(crate) fn in_option(alloc: Global, arguments: &[&str]) -> Result<String, Fault> {
+pub(crate) fn in_option(arguments: &[&str], answer: &mut String) -> Result<(), Fault> {
     let [value, text] = arguments else {
         return Err(Fault::BadCase);
     };
     match CharSet::from_option(value) {
-        Ok(set) => members_of(alloc, &set, text),
+        Ok(set) => write_members(answer, &set, text),
         Err(bad) => {
             let at = bad.at;
-            Ok(format!(in alloc; "bad at {at}")?)
+            write!(answer, "bad at {at}")?;
+            Ok(())
         }
     }
 }
 
-/// The characters of a text that a set has.
-fn members_of(alloc: Global, set: &CharSet, text: &str) -> Result<String, Fault> {
-    let mut members = String::new(alloc);
+/// Writes the characters of a text that a set has.
+fn write_members(members: &mut String, set: &CharSet, text: &str) -> Result<(), Fault> {
     for c in text.chars() {
         if set.has(c) {
             members.push(c)?;
         }
     }
-    Ok(members)
+    Ok(())
 }

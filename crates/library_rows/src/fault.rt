@@ -1,8 +1,11 @@
 //! Why a line has no answer, and what arguments stand for.
 
-use std::alloc::{AllocError, AllocFailed, Global};
-use syn_base::{List, Memory};
+use keyword_table::KeywordError;
+use std::alloc::{AllocError, AllocFailed};
+use syn_base::Memory;
 use syntax_set::SetError;
+use text_buffer::TextError;
+use vim_pattern::PatternError;
 
 /// Why a line has no answer: it is no call, or for want of memory.
 #[derive(Clone, Copy, Debug)]
@@ -39,6 +42,33 @@ impl From<SetError> for Fault {
     }
 }
 
+impl From<KeywordError> for Fault {
+    fn from(error: KeywordError) -> Fault {
+        match error {
+            KeywordError::TooLongWord => Fault::BadCase,
+            KeywordError::Memory => Fault::Memory,
+        }
+    }
+}
+
+impl From<TextError> for Fault {
+    fn from(error: TextError) -> Fault {
+        match error {
+            TextError::Memory => Fault::Memory,
+            _ => Fault::BadCase,
+        }
+    }
+}
+
+impl From<PatternError> for Fault {
+    fn from(error: PatternError) -> Fault {
+        match error {
+            PatternError::At { .. } => Fault::BadCase,
+            PatternError::Memory => Fault::Memory,
+        }
+    }
+}
+
 /// A number.
 pub(crate) fn number_of(text: &str) -> Result<usize, Fault> {
     text.parse().ok().ok_or(Fault::BadCase)
@@ -61,24 +91,4 @@ pub(crate) fn character_of(text: &str) -> Result<char, Fault> {
 /// The two words of a text with one blank.
 pub(crate) fn two_of(text: &str) -> Result<(&str, &str), Fault> {
     text.split_once(' ').ok_or(Fault::BadCase)
-}
-
-/// The answer `yes` or `no`.
-pub(crate) fn told(alloc: Global, holds: bool) -> Result<String, Fault> {
-    Ok(String::from_str(alloc, if holds { "yes" } else { "no" })?)
-}
-
-/// Bytes as they are printed.
-pub(crate) fn printed(alloc: Global, bytes: &List<u8>) -> Result<String, Fault> {
-    let escaped = bytes.as_slice().escape_ascii();
-    Ok(format!(in alloc; "{escaped}")?)
-}
-
-/// Adds one more answer of a line, a dash for an empty one, behind a blank if it isn't the first.
-pub(crate) fn add_answer(answers: &mut String, answer: &str) -> Result<(), Fault> {
-    if !answers.is_empty() {
-        answers.push_str(" ")?;
-    }
-    answers.push_str(if answer.is_empty() { "-" } else { answer })?;
-    Ok(())
 }

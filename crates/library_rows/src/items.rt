@@ -17,7 +17,8 @@
 
 ghost use Rattle.std.specs.Prelude.{◌<◌, IfOk, length};
 
-use crate::fault::{Fault, add_answer, short_number_of, told, two_of};
+use crate::answer::{add_found, add_number, add_whether, begin_answer};
+use crate::fault::{Fault, short_number_of, two_of};
 use std::alloc::Global;
 use syn_base::{GroupId, ItemId, List, Memory};
 use syntax_set::{Change, Clusters, Entry, GroupList, Item, ItemKind, ItemSet, Special};
@@ -30,64 +31,71 @@ struct Sets {
 }
 
 impl Sets {
-    /// What a call answers, or nothing where it changes something.
-    fn carry_out(&mut self, alloc: Global, call: &str) -> Result<Option<String>, Fault> {
+    /// Makes a call: it changes something, or adds an answer.
+    fn carry_out(&mut self, alloc: Global, call: &str, answers: &mut String) -> Result<(), Fault> {
         let (name, rest) = two_of(call)?;
         match name {
-            "set" => self.set(alloc, rest)?,
-            "clear" => self.items.clear(Some(GroupId(short_number_of(rest)?))),
-            "settle" => self.clusters.settle()?,
-            _ => return Ok(Some(self.asked(alloc, name, rest)?)),
+            "set" => self.set(alloc, rest),
+            "free" => self.add(alloc, rest, false, answers),
+            "contained" => self.add(alloc, rest, true, answers),
+            "clear" => self.clear(rest),
+            "settle" => Ok(self.clusters.settle()?),
+            "cluster" => add_number(answers, self.clusters.number(rest)? as usize),
+            "next" => self.is_next(alloc, rest, answers),
+            _ => self.ask(name, rest, answers),
         }
-        Ok(None)
     }
 
     fn set(&mut self, alloc: Global, rest: &str) -> Result<(), Fault> {
         let (cluster, group) = two_of(rest)?;
-        let cluster = short_number_of(cluster)?;
-        let list = list_of(alloc, Entry::Group(GroupId(short_number_of(group)?)))?;
+        let (cluster, group) = (short_number_of(cluster)?, short_number_of(group)?);
         if cluster as usize >= self.clusters.len() {
             return Err(Fault::BadCase);
         }
+        let list = list_of(alloc, Entry::Group(GroupId(group)))?;
         self.clusters.cluster_change(cluster, Change::Set, list)?;
         Ok(())
     }
 
-    /// What a call that asks answers.
-    fn asked(&mut self, alloc: Global, name: &str, rest: &str) -> Result<String, Fault> {
+    fn clear(&mut self, rest: &str) -> Result<(), Fault> {
+        self.items.clear(Some(GroupId(short_number_of(rest)?)));
+        Ok(())
+    }
+
+    fn add(
+        &mut self,
+        alloc: Global,
+        rest: &str,
+        contained: bool,
+        answers: &mut String,
+    ) -> Result<(), Fault> {
+        let (group, cluster) = two_of(rest)?;
+        let (group, cluster) = (short_number_of(group)?, short_number_of(cluster)?);
+        let contains = list_of(alloc, Entry::Cluster(cluster))?;
+        let id = self.items.add_item(item(group, contained, contains))?;
+        add_number(answers, id.0 as usize)
+    }
+
+    /// Makes a call that changes nothing.
+    fn ask(&self, name: &str, rest: &str, answers: &mut String) -> Result<(), Fault> {
         match name {
-            "cluster" => {
-                let number = self.clusters.number(rest)?;
-                Ok(format!(in alloc; "{number}")?)
-            }
-            "find" => self.find(alloc, rest),
-            "free" => self.add(alloc, rest, false),
-            "contained" => self.add(alloc, rest, true),
-            "group" => {
-                let group = self.items.item(self.item_of(rest)?).group.0;
-                Ok(format!(in alloc; "{group}")?)
-            }
-            "allowed" => self.is_allowed(alloc, rest),
-            "next" => self.is_next(alloc, rest),
-            "live" => told(alloc, self.items.live(self.item_of(rest)?)),
-            "count" => self.counts(alloc),
+            "find" => self.find(rest, answers),
+            "group" => add_number(
+                answers,
+                self.items.item(self.item_of(rest)?).group.0 as usize,
+            ),
+            "allowed" => self.is_allowed(rest, answers),
+            "live" => add_whether(answers, self.items.live(self.item_of(rest)?)),
+            "count" => self.count(answers),
             _ => Err(Fault::BadCase),
         }
     }
 
-    fn find(&self, alloc: Global, name: &str) -> Result<String, Fault> {
+    fn find(&self, name: &str, answers: &mut String) -> Result<(), Fault> {
         match self.clusters.find(name)? {
-            Some(number) => Ok(format!(in alloc; "{number}")?),
-            None => Ok(String::from_str(alloc, "none")?),
+            Some(number) => add_number(answers, number as usize),
+            None => add_found(answers, None),
         }
-    }
-
-    fn add(&mut self, alloc: Global, rest: &str, contained: bool) -> Result<String, Fault> {
-        let (group, cluster) = two_of(rest)?;
-        let group = short_number_of(group)?;
-        let contains = list_of(alloc, Entry::Cluster(short_number_of(cluster)?))?;
-        let number = self.items.add_item(item(group, contained, contains))?.0;
-        Ok(format!(in alloc; "{number}")?)
     }
 
     /// The item of a number.
@@ -101,28 +109,29 @@ impl Sets {
         Ok(ItemId(number))
     }
 
-    fn is_allowed(&self, alloc: Global, rest: &str) -> Result<String, Fault> {
+    fn is_allowed(&self, rest: &str, answers: &mut String) -> Result<(), Fault> {
         let (id, container) = two_of(rest)?;
         let id = self.item_of(id)?;
         let container = self.item_of(container)?;
-        told(
-            alloc,
-            self.items.allowed(&self.clusters, id, Some(container)),
-        )
+        let holds = self.items.allowed(&self.clusters, id, Some(container));
+        add_whether(answers, holds)
     }
 
-    fn is_next(&self, alloc: Global, rest: &str) -> Result<String, Fault> {
+    fn is_next(&self, alloc: Global, rest: &str, answers: &mut String) -> Result<(), Fault> {
         let (id, group) = two_of(rest)?;
         let id = self.item_of(id)?;
-        let list = list_of(alloc, Entry::Group(GroupId(short_number_of(group)?)))?;
-        told(alloc, self.items.in_next(&self.clusters, id, &list))
+        let group = GroupId(short_number_of(group)?);
+        let list = list_of(alloc, Entry::Group(group))?;
+        add_whether(answers, self.items.in_next(&self.clusters, id, &list))
     }
 
-    fn counts(&self, alloc: Global) -> Result<String, Fault> {
+    fn count(&self, answers: &mut String) -> Result<(), Fault> {
         let clusters = self.clusters.len();
         let added = self.items.added();
         let live = self.items.len();
-        Ok(format!(in alloc; "{clusters},{added},{live}")?)
+        begin_answer(answers)?;
+        write!(answers, "{clusters},{added},{live}")?;
+        Ok(())
     }
 }
 
@@ -161,16 +170,17 @@ fn item(group: u32, contained: bool, contains: GroupList) -> Item {
     }
 }
 
-pub(crate) fn asked(alloc: Global, calls: &[&str]) -> Result<String, Fault> {
+pub(crate) fn carry_out_all(
+    alloc: Global,
+    calls: &[&str],
+    answers: &mut String,
+) -> Result<(), Fault> {
     let mut sets = Sets {
         clusters: Clusters::new(alloc),
         items: ItemSet::new(alloc),
     };
-    let mut answers = String::new(alloc);
     for call in calls {
-        if let Some(answer) = sets.carry_out(alloc, call)? {
-            add_answer(&mut answers, answer.as_str())?;
-        }
+        sets.carry_out(alloc, call, answers)?;
     }
-    Ok(answers)
+    Ok(())
 }

@@ -7,87 +7,120 @@
 
 ghost use Rattle.std.specs.Prelude.{◌≤◌};
 
-use crate::fault::{Fault, add_answer, number_of};
+use crate::answer::{add_found, begin_answer};
+use crate::fault::{Fault, number_of};
 use char_class::Sets;
-use keyword_table::{ExpandError, KeywordError, Keywords, expand, word_end};
+use keyword_table::{ExpandError, Keywords, expand, word_end};
 use std::alloc::Global;
 use syn_base::{ItemId, List};
 
-pub(crate) fn candidates(alloc: Global, arguments: &[&str]) -> Result<String, Fault> {
+pub(crate) fn candidates(
+    alloc: Global,
+    arguments: &[&str],
+    answers: &mut String,
+) -> Result<(), Fault> {
     let mut keywords = Keywords::new(alloc);
-    let mut answers = String::new(alloc);
     for argument in arguments {
-        match argument.strip_prefix('?') {
-            Some(word) => {
-                let items = items_of(alloc, &keywords, word)?;
-                add_answer(&mut answers, items.as_str())?;
-            }
-            None => define(alloc, &mut keywords, argument)?,
-        }
+        define_or_ask(alloc, &mut keywords, argument, answers)?;
     }
-    let count = keywords.len();
-    let count = format!(in alloc; "words={count}")?;
-    add_answer(&mut answers, count.as_str())?;
-    Ok(answers)
+    write_count(answers, keywords.len())
+}
+
+/// Writes how many words there are.
+fn write_count(answers: &mut String, count: usize) -> Result<(), Fault> {
+    begin_answer(answers)?;
+    write!(answers, "words={count}")?;
+    Ok(())
+}
+
+/// Adds a word, or asks for the candidates of one.
+fn define_or_ask(
+    alloc: Global,
+    keywords: &mut Keywords,
+    argument: &str,
+    answers: &mut String,
+) -> Result<(), Fault> {
+    if let Some(word) = argument.strip_prefix('?') {
+        return ask(alloc, keywords, word, answers);
+    }
+    match argument.strip_prefix('~') {
+        Some(word) => define(alloc, keywords, word, true),
+        None => define(alloc, keywords, argument, false),
+    }
 }
 
 /// Adds a word for the next item.
-fn define(alloc: Global, keywords: &mut Keywords, argument: &str) -> Result<(), Fault> {
-    let (word, ignore) = match argument.strip_prefix('~') {
-        Some(word) => (word, true),
-        None => (argument, false),
-    };
+fn define(alloc: Global, keywords: &mut Keywords, word: &str, ignore: bool) -> Result<(), Fault> {
     let Ok(item) = u32::try_from(keywords.len()) else {
         return Err(Fault::BadCase);
     };
-    match keywords.add(List::from_chars(alloc, word)?, ItemId(item), ignore) {
-        Ok(()) => Ok(()),
-        Err(KeywordError::TooLongWord) => Err(Fault::BadCase),
-        Err(KeywordError::Memory) => Err(Fault::Memory),
-    }
+    let word = List::from_chars(alloc, word)?;
+    keywords.add(word, ItemId(item), ignore)?;
+    Ok(())
 }
 
-/// A word, and the numbers of the items that it starts.
-fn items_of(alloc: Global, keywords: &Keywords, word: &str) -> Result<String, Fault> {
+/// Tells a word, and the numbers of the items that it starts.
+fn ask(alloc: Global, keywords: &Keywords, word: &str, answers: &mut String) -> Result<(), Fault> {
     let characters = List::from_chars(alloc, word)?;
     let items = keywords.candidates(alloc, characters.as_slice())?;
-    let mut told = format!(in alloc; "{word}=")?;
-    let mut between = "";
-    for item in items.as_slice() {
-        let number = item.0;
-        write!(told, "{between}{number}")?;
-        between = ",";
-    }
-    Ok(told)
+    write_items(answers, word, items.as_slice())
 }
 
-pub(crate) fn expansions(alloc: Global, arguments: &[&str]) -> Result<String, Fault> {
+fn write_items(answers: &mut String, word: &str, items: &[ItemId]) -> Result<(), Fault> {
+    begin_answer(answers)?;
+    write!(answers, "{word}=")?;
+    let mut between = "";
+    for item in items {
+        let number = item.0;
+        write!(answers, "{between}{number}")?;
+        between = ",";
+    }
+    Ok(())
+}
+
+pub(crate) fn expansions(
+    alloc: Global,
+    arguments: &[&str],
+    answer: &mut String,
+) -> Result<(), Fault> {
     let [text] = arguments else {
         return Err(Fault::BadCase);
     };
     let text = List::from_chars(alloc, text)?;
-    match expand(alloc, text.as_slice()) {
-        Ok(words) => words_of(alloc, &words),
-        Err(ExpandError::BadBrackets) => Ok(String::from_str(alloc, "bad brackets")?),
-        Err(ExpandError::Memory) => Err(Fault::Memory),
-    }
+    let words = expand(alloc, text.as_slice());
+    write_words(answer, &words)
 }
 
-/// Words with a blank between any two.
-fn words_of(alloc: Global, words: &List<List<char>>) -> Result<String, Fault> {
-    let mut told = String::new(alloc);
-    for word in words.as_slice() {
-        if !told.is_empty() {
-            told.push(' ')?;
+/// Writes words with a blank between any two, or that there are none.
+fn write_words(
+    answer: &mut String,
+    words: &Result<List<List<char>>, ExpandError>,
+) -> Result<(), Fault> {
+    match words {
+        Ok(words) => {
+            for word in words.as_slice() {
+                begin_answer(answer)?;
+                write_word(answer, word.as_slice())?;
+            }
         }
-        for c in word.as_slice() {
-            told.push(*c)?;
-        }
+        Err(ExpandError::BadBrackets) => answer.push_str("bad brackets")?,
+        Err(ExpandError::Memory) => return Err(Fault::Memory),
     }
-    Ok(told)
+    Ok(())
 }
 
-pub(crate) fn end_of_word(alloc: Global, arguments: &[&str]) -> Result<String, Fault> {
+fn write_word(answer: &mut String, word: &[char]) -> Result<(), Fault> {
+    for c in word {
+        answer.push(*c)?;
+    }
+    Ok(())
+}
+
+pub(crate) fn end_of_word(
+    alloc: Global,
+    arguments: &[&str],
+    answer: &mut String,
+) -> Result<(), Fault> {
     let [line, column] = arguments else {
         return Err(Fault::BadCase);
     };
@@ -96,8 +129,6 @@ pub(crate) fn end_of_word(alloc: Global, arguments: &[&str]) -> Result<String, F
     if column > line.len() {
         return Err(Fault::BadCase);
     }
-    match word_end(line.as_slice(), column, &Sets::usual().keyword) {
-        Some(end) => Ok(format!(in alloc; "{end}")?),
-        None => Ok(String::from_str(alloc, "none")?),
-    }
+    let end = word_end(line.as_slice(), column, &Sets::usual().keyword);
+    add_found(answer, end)
 }

@@ -12,7 +12,8 @@
 //!     final A          the group that A's links lead to
 //!     style A          front, back, whether bold, italic, underlined
 
-use crate::fault::{Fault, add_answer, number_of, short_number_of, two_of};
+use crate::answer::{add_found, add_number, add_word, begin_answer};
+use crate::fault::{Fault, number_of, short_number_of, two_of};
 use hi_links::{Links, Style};
 use std::alloc::Global;
 use syn_base::GroupId;
@@ -65,92 +66,83 @@ impl Shown {
         Ok(())
     }
 
-    /// What a call answers, or nothing where it changes something.
-    fn carry_out(&mut self, alloc: Global, call: &str) -> Result<Option<String>, Fault> {
+    /// Makes a call: it changes something, or adds an answer.
+    fn carry_out(&mut self, call: &str, answers: &mut String) -> Result<(), Fault> {
         let (name, rest) = two_of(call)?;
         match name {
             "link" | "default" => {
                 let (from, to) = two_of(rest)?;
-                self.link(from, to, name == "default")?;
-                Ok(None)
+                self.link(from, to, name == "default")
             }
             "bold" => {
                 let (group, back) = two_of(rest)?;
-                self.set_bold(group, back)?;
-                Ok(None)
+                self.set_bold(group, back)
             }
-            _ => Ok(Some(self.asked(alloc, name, rest)?)),
+            "find" => self.find(rest, answers),
+            "name" => add_word(answers, self.groups.name(GroupId(short_number_of(rest)?))),
+            "count" => {
+                let more = self.groups.len().saturating_sub(number_of(rest)?);
+                add_number(answers, more)
+            }
+            _ => {
+                let group = self.groups.number(rest)?;
+                self.tell(name, group, answers)
+            }
         }
     }
 
-    /// What a call that asks answers.
-    fn asked(&mut self, alloc: Global, name: &str, rest: &str) -> Result<String, Fault> {
+    fn find(&self, name: &str, answers: &mut String) -> Result<(), Fault> {
+        match self.groups.find(name)? {
+            Some(group) => add_number(answers, group.0 as usize),
+            None => add_found(answers, None),
+        }
+    }
+
+    /// Tells something of a group.
+    fn tell(&self, name: &str, group: GroupId, answers: &mut String) -> Result<(), Fault> {
         match name {
-            "number" => {
-                let number = self.groups.number(rest)?.0;
-                Ok(format!(in alloc; "{number}")?)
-            }
-            "find" => self.find(alloc, rest),
-            "name" => {
-                let name = self.groups.name(GroupId(short_number_of(rest)?));
-                Ok(String::from_str(alloc, name)?)
-            }
-            "count" => {
-                let more = self.groups.len().saturating_sub(number_of(rest)?);
-                Ok(format!(in alloc; "{more}")?)
-            }
-            "final" => {
-                let group = self.groups.number(rest)?;
-                let name = self.groups.name(self.links.final_group(group));
-                Ok(String::from_str(alloc, name)?)
-            }
-            "style" => {
-                let group = self.groups.number(rest)?;
-                style_text(alloc, &self.links.style(group))
-            }
+            "number" => add_number(answers, group.0 as usize),
+            "final" => add_word(answers, self.groups.name(self.links.final_group(group))),
+            "style" => add_style(answers, &self.links.style(group)),
             _ => Err(Fault::BadCase),
         }
     }
-
-    fn find(&self, alloc: Global, name: &str) -> Result<String, Fault> {
-        match self.groups.find(name)? {
-            Some(group) => {
-                let number = group.0;
-                Ok(format!(in alloc; "{number}")?)
-            }
-            None => Ok(String::from_str(alloc, "none")?),
-        }
-    }
 }
 
-/// A style's parts.
-fn style_text(alloc: Global, style: &Style) -> Result<String, Fault> {
-    let front = colour_text(alloc, style.front)?;
-    let back = colour_text(alloc, style.back)?;
+/// Adds a style's parts.
+fn add_style(answers: &mut String, style: &Style) -> Result<(), Fault> {
+    begin_answer(answers)?;
+    write_colour(answers, style.front)?;
+    answers.push(',')?;
+    write_colour(answers, style.back)?;
     let bold = u8::from(style.bold);
     let italic = u8::from(style.italic);
     let underline = u8::from(style.underline);
-    Ok(format!(in alloc; "{front},{back},{bold},{italic},{underline}")?)
+    write!(answers, ",{bold},{italic},{underline}")?;
+    Ok(())
 }
 
-fn colour_text(alloc: Global, colour: Option<u32>) -> Result<String, Fault> {
+fn write_colour(answer: &mut String, colour: Option<u32>) -> Result<(), Fault> {
     match colour {
-        Some(colour) => Ok(format!(in alloc; "{colour:06x}")?),
-        None => Ok(String::from_str(alloc, "-")?),
+        Some(colour) => write!(answer, "{colour:06x}")?,
+        None => answer.push('-')?,
     }
+    Ok(())
 }
 
-pub(crate) fn asked(alloc: Global, calls: &[&str], is_usual: bool) -> Result<String, Fault> {
-    let mut shown = if is_usual {
-        Shown::usual(alloc)?
-    } else {
-        Shown::none(alloc)
-    };
-    let mut answers = String::new(alloc);
+pub(crate) fn of_none(alloc: Global, calls: &[&str], answers: &mut String) -> Result<(), Fault> {
+    let mut shown = Shown::none(alloc);
+    carry_out_all(&mut shown, calls, answers)
+}
+
+pub(crate) fn of_usual(alloc: Global, calls: &[&str], answers: &mut String) -> Result<(), Fault> {
+    let mut shown = Shown::usual(alloc)?;
+    carry_out_all(&mut shown, calls, answers)
+}
+
+fn carry_out_all(shown: &mut Shown, calls: &[&str], answers: &mut String) -> Result<(), Fault> {
     for call in calls {
-        if let Some(answer) = shown.carry_out(alloc, call)? {
-            add_answer(&mut answers, answer.as_str())?;
-        }
+        shown.carry_out(call, answers)?;
     }
-    Ok(answers)
+    Ok(())
 }

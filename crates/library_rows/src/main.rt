@@ -7,6 +7,7 @@
 //! answered by `bad case`.
 #![tactic(auto)]
 
+mod answer;
 mod characters;
 mod fault;
 mod items;
@@ -27,54 +28,74 @@ fn main(rt: HostRuntime) -> io::Result<()> {
     let input = BufReader::new(rt.alloc(), rt.reader())?;
     let mut output = BufWriter::new(rt.alloc(), io::writer(&rt))?;
     for line in input.lines(rt.alloc()) {
-        let line = line?;
-        match answer_of(&rt, line.as_str()) {
-            Ok(answer) => writeln!(output, "{answer}")?,
-            Err(Fault::BadCase) => writeln!(output, "bad case")?,
-            Err(Fault::Memory) => return Err(io::Error::from(io::ErrorKind::OutOfMemory)),
-        }
+        write_answer(&rt, &mut output, line?.as_str())?;
     }
     output.flush()
 }
 
-/// What the call of a line answers.
-fn answer_of(rt: &HostRuntime, line: &str) -> Result<String, Fault> {
-    let parts: Vec<&str> = line.split('\t').collect(rt.alloc())?;
-    let Some((name, arguments)) = parts.as_slice().split_first() else {
-        return Err(Fault::BadCase);
-    };
-    if *name == "fetch" {
-        return outside::fetch(rt, arguments);
+/// Writes the line of what a call answers.
+fn write_answer<W: Write>(rt: &HostRuntime, output: &mut W, line: &str) -> io::Result<()> {
+    let mut answer = String::new(rt.alloc());
+    match answer_line(rt, line, &mut answer) {
+        Ok(()) => writeln!(output, "{answer}"),
+        Err(Fault::BadCase) => writeln!(output, "bad case"),
+        Err(Fault::Memory) => Err(io::Error::from(io::ErrorKind::OutOfMemory)),
     }
-    answer_to(rt.alloc(), name, arguments)
 }
 
-/// What a call without the machine's files answers.
-fn answer_to(alloc: Global, name: &str, arguments: &[&str]) -> Result<String, Fault> {
+/// Answers the call of a line.
+fn answer_line(rt: &HostRuntime, line: &str, answer: &mut String) -> Result<(), Fault> {
+    let parts: Vec<&str> = line.split('\t').collect(rt.alloc())?;
+    match parts.as_slice().split_first() {
+        Some((name, arguments)) => answer_call(rt, name, arguments, answer),
+        None => Err(Fault::BadCase),
+    }
+}
+
+fn answer_call(
+    rt: &HostRuntime,
+    name: &str,
+    arguments: &[&str],
+    answer: &mut String,
+) -> Result<(), Fault> {
+    if name == "fetch" {
+        outside::fetch(rt, arguments, answer)
+    } else {
+        answer_inside(rt.alloc(), name, arguments, answer)
+    }
+}
+
+/// Answers a call without the machine's files.
+fn answer_inside(
+    alloc: Global,
+    name: &str,
+    arguments: &[&str],
+    answer: &mut String,
+) -> Result<(), Fault> {
     match name {
-        "fold" => characters::fold_case(alloc, arguments),
-        "same" => characters::are_same(alloc, arguments),
-        "range" => characters::is_in_range(alloc, arguments),
-        "class" => characters::in_class(alloc, arguments),
-        "option" => characters::in_option(alloc, arguments),
-        "keywords" => keywords::candidates(alloc, arguments),
-        "expand" => keywords::expansions(alloc, arguments),
-        "word_end" => keywords::end_of_word(alloc, arguments),
-        "links" => links::asked(alloc, arguments, false),
-        "usual" => links::asked(alloc, arguments, true),
-        "spans" => printed::spans(alloc, arguments),
-        "head" => printed::head(alloc, arguments),
-        "refusal" => printed::refusal(alloc, arguments),
-        "page" => printed::page_of_line(alloc, arguments),
-        "collection" => patterns::collection(alloc, arguments),
-        "copy" => patterns::copied(alloc, arguments),
-        "items" => items::asked(alloc, arguments),
-        "reader" => streams::reader(alloc, arguments),
-        "source" => streams::source(alloc, arguments),
-        "writer" => streams::writer(alloc, arguments),
-        "places" => streams::places(alloc, arguments),
-        "text" => texts::changed(alloc, arguments),
-        "bytes" => texts::bytes(alloc, arguments),
+        "fold" => characters::fold_case(arguments, answer),
+        "same" => characters::are_same(arguments, answer),
+        "range" => characters::is_in_range(arguments, answer),
+        "class" => characters::in_class(arguments, answer),
+        "option" => characters::in_option(arguments, answer),
+        "keywords" => keywords::candidates(alloc, arguments, answer),
+        "expand" => keywords::expansions(alloc, arguments, answer),
+        "word_end" => keywords::end_of_word(alloc, arguments, answer),
+        "links" => links::of_none(alloc, arguments, answer),
+        "usual" => links::of_usual(alloc, arguments, answer),
+        "spans" => printed::spans(alloc, arguments, answer),
+        "head" => printed::head(alloc, arguments, answer),
+        "refusal" => printed::refusal(alloc, arguments, answer),
+        "page" => printed::page_of_line(alloc, arguments, answer),
+        "collection" => patterns::collection(alloc, arguments, answer),
+        "copy" => patterns::copied(alloc, arguments, answer),
+        "items" => items::carry_out_all(alloc, arguments, answer),
+        "reader" => streams::reader(arguments, answer),
+        "source" => streams::source(alloc, arguments, answer),
+        "writer" => streams::writer(alloc, arguments, answer),
+        "places" => streams::places(arguments, answer),
+        "text" => texts::changed(alloc, arguments, answer),
+        "bytes" => texts::bytes(alloc, arguments, answer),
         _ => Err(Fault::BadCase),
     }
 }

@@ -10,14 +10,15 @@
 ghost use Rattle.std.specs.Prelude.{◌<◌, [], ◌∷◌, length, All, IsTrue};
 ghost use Rattle.syn_base.specs.SpansFit.{IsFromColumn};
 
-use crate::fault::{Fault, number_of, printed, two_of};
+use crate::answer::print_bytes;
+use crate::fault::{Fault, number_of, two_of};
 use crate::links::Shown;
 use html_writer::{PageOptions, page};
 use span_print::{head_text, refusal_text, span_text};
 use std::alloc::Global;
 use syn_base::{Colours, Lines, List, Span};
 
-pub(crate) fn spans(alloc: Global, arguments: &[&str]) -> Result<String, Fault> {
+pub(crate) fn spans(alloc: Global, arguments: &[&str], answer: &mut String) -> Result<(), Fault> {
     let [number, dash, more @ ..] = arguments else {
         return Err(Fault::BadCase);
     };
@@ -25,12 +26,24 @@ pub(crate) fn spans(alloc: Global, arguments: &[&str]) -> Result<String, Fault> 
     let mut shown = Shown::none(alloc);
     let mut spans = Vec::new(alloc);
     for argument in more {
-        match argument.split_once('>') {
-            Some((from, to)) => shown.link(from, to, false)?,
-            None => spans.push(span_of(&mut shown, argument)?)?,
-        }
+        link_or_add(&mut shown, &mut spans, argument)?;
     }
-    lines_of(alloc, number, spans.as_slice(), &shown, *dash == "dash")
+    write_lines(
+        alloc,
+        number,
+        spans.as_slice(),
+        &shown,
+        *dash == "dash",
+        answer,
+    )
+}
+
+/// Makes a link, or adds a span.
+fn link_or_add(shown: &mut Shown, spans: &mut Vec<Span>, argument: &str) -> Result<(), Fault> {
+    match argument.split_once('>') {
+        Some((from, to)) => shown.link(from, to, false),
+        None => Ok(spans.push(span_of(shown, argument)?)?),
+    }
 }
 
 /// The span of columns, from 0, and the name of a group, as `1-11 A`.
@@ -58,37 +71,39 @@ fn are_countable(number: usize, spans: &[Span]) -> bool
             .all(|span| span.first < usize::MAX && span.last < usize::MAX)
 }
 
-fn lines_of(
+fn write_lines(
     alloc: Global,
     number: usize,
     spans: &[Span],
     shown: &Shown,
     dash: bool,
-) -> Result<String, Fault> {
+    answer: &mut String,
+) -> Result<(), Fault> {
     if !are_countable(number, spans) {
         return Err(Fault::BadCase);
     }
     let lines = span_text(alloc, number, spans, &shown.groups, &shown.links, dash)?;
-    printed(alloc, &lines)
+    print_bytes(answer, lines.as_slice())
 }
 
-pub(crate) fn head(alloc: Global, arguments: &[&str]) -> Result<String, Fault> {
+pub(crate) fn head(alloc: Global, arguments: &[&str], answer: &mut String) -> Result<(), Fault> {
     let [number] = arguments else {
         return Err(Fault::BadCase);
     };
-    printed(alloc, &head_text(alloc, number_of(number)?)?)
+    let text = head_text(alloc, number_of(number)?)?;
+    print_bytes(answer, text.as_slice())
 }
 
-pub(crate) fn refusal(alloc: Global, arguments: &[&str]) -> Result<String, Fault> {
+pub(crate) fn refusal(alloc: Global, arguments: &[&str], answer: &mut String) -> Result<(), Fault> {
     let [number, line, cause] = arguments else {
         return Err(Fault::BadCase);
     };
-    let line = number_of(line)?;
+    let (number, line) = (number_of(number)?, number_of(line)?);
     if line == usize::MAX {
         return Err(Fault::BadCase);
     }
-    let text = refusal_text(alloc, number_of(number)?, line, cause.as_bytes())?;
-    printed(alloc, &text)
+    let text = refusal_text(alloc, number, line, cause.as_bytes())?;
+    print_bytes(answer, text.as_slice())
 }
 
 /// A text of one line, painted.
@@ -118,55 +133,65 @@ impl Colours for OneLine<'_> {
     }
 }
 
-/// The page of a line.
-fn page_text(
+/// Writes the page of a line.
+fn write_page(
     alloc: Global,
-    characters: &[char],
-    spans: &[Span],
+    painting: OneLine,
     shown: &Shown,
     options: PageOptions,
-) -> Result<List<u8>, Fault>
-    requires fit { IsFromColumn 0 (length characters.now) spans.now }
+    answer: &mut String,
+) -> Result<(), Fault>
+    requires fit { IsFromColumn 0 (length painting.characters.now) painting.spans.now }
 {
-    let painting = OneLine { characters, spans };
-    Ok(page(alloc, "t", &painting, &shown.groups, &shown.links, options)?)
+    let text = page(alloc, "t", &painting, &shown.groups, &shown.links, options)?;
+    print_bytes(answer, text.as_slice())
 }
 
-pub(crate) fn page_of_line(alloc: Global, arguments: &[&str]) -> Result<String, Fault> {
+pub(crate) fn page_of_line(
+    alloc: Global,
+    arguments: &[&str],
+    answer: &mut String,
+) -> Result<(), Fault> {
     let [line, link, option] = arguments else {
         return Err(Fault::BadCase);
     };
-    let line = List::from_chars(alloc, line)?;
-    let mut shown = Shown::usual(alloc)?;
     let options = PageOptions {
         number: *option == "number",
         pre: *option == "pre",
     };
-    let text = match link.split_once('>') {
-        Some((from, to)) => {
-            shown.link(from, to, true)?;
-            whole_page(alloc, line.as_slice(), from, &mut shown, options)?
-        }
-        None => page_text(alloc, line.as_slice(), &[], &shown, options)?,
-    };
-    printed(alloc, &text)
+    let line = List::from_chars(alloc, line)?;
+    let mut shown = Shown::usual(alloc)?;
+    write_linked_page(alloc, line.as_slice(), link, &mut shown, options, answer)
 }
 
-/// The page of a line in one span of a group.
-fn whole_page(
+/// Writes the page of a line in one span of the group of a link, or in none.
+fn write_linked_page(
     alloc: Global,
-    line: &[char],
-    group: &str,
+    characters: &[char],
+    link: &str,
     shown: &mut Shown,
     options: PageOptions,
-) -> Result<List<u8>, Fault> {
-    if line.is_empty() {
+    answer: &mut String,
+) -> Result<(), Fault> {
+    let Some((from, to)) = link.split_once('>') else {
+        let plain = OneLine {
+            characters,
+            spans: &[],
+        };
+        return write_page(alloc, plain, shown, options, answer);
+    };
+    if characters.is_empty() {
         return Err(Fault::BadCase);
     }
+    shown.link(from, to, true)?;
     let span = Span {
         first: 0,
-        last: line.len() - 1,
-        group: shown.groups.number(group)?,
+        last: characters.len() - 1,
+        group: shown.groups.number(from)?,
     };
-    page_text(alloc, line, &[span], shown, options)
+    let painted = OneLine {
+        characters,
+        spans: &[span],
+    };
+    write_page(alloc, painted, shown, options, answer)
 }

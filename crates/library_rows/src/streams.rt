@@ -8,98 +8,101 @@
 
 ghost use Rattle.std.specs.Prelude.{◌<◌, length};
 
-use crate::fault::{Fault, add_answer, number_of, told};
+use crate::answer::{add_bytes, add_number, add_whether, add_word};
+use crate::fault::{Fault, number_of};
 use std::alloc::Global;
 use syn_base::{List, MemorySource, Place, Put, Sink, Source, StdSink, StdSource, Taken, put_all};
 
 /// How many bytes a buffer has at most.
 const MOST: usize = 1000;
 
-/// What one call gives.
-fn taken<S: Source>(alloc: Global, source: &mut S, size: &str) -> Result<String, Fault> {
+/// Tells what one call gives.
+fn add_taken<S: Source>(source: &mut S, size: &str, answers: &mut String) -> Result<(), Fault> {
     let mut buffer = [0u8; MOST];
     let size = number_of(size)?;
     if size == 0 || size > MOST {
         return Err(Fault::BadCase);
     }
     match source.take(&mut buffer[..size]) {
-        Taken::Bytes(count) => {
-            let bytes = buffer[..count].escape_ascii();
-            Ok(format!(in alloc; "{bytes}")?)
-        }
-        Taken::Failed => Ok(String::from_str(alloc, "failed")?),
+        Taken::Bytes(count) => add_bytes(answers, &buffer[..count]),
+        Taken::Failed => add_word(answers, "failed"),
     }
 }
 
-/// What the calls of a source give.
-fn all_taken<S: Source>(alloc: Global, source: &mut S, sizes: &[&str]) -> Result<String, Fault> {
-    let mut answers = String::new(alloc);
+/// Tells what the calls of a source give.
+fn add_all_taken<S: Source>(
+    source: &mut S,
+    sizes: &[&str],
+    answers: &mut String,
+) -> Result<(), Fault> {
     for size in sizes {
-        add_answer(&mut answers, taken(alloc, source, size)?.as_str())?;
+        add_taken(source, size, answers)?;
     }
-    Ok(answers)
+    Ok(())
 }
 
-pub(crate) fn reader(alloc: Global, arguments: &[&str]) -> Result<String, Fault> {
+pub(crate) fn reader(arguments: &[&str], answers: &mut String) -> Result<(), Fault> {
     let [text, sizes @ ..] = arguments else {
         return Err(Fault::BadCase);
     };
     let mut source = StdSource::new(text.as_bytes());
-    all_taken(alloc, &mut source, sizes)
+    add_all_taken(&mut source, sizes, answers)
 }
 
-pub(crate) fn source(alloc: Global, arguments: &[&str]) -> Result<String, Fault> {
+pub(crate) fn source(alloc: Global, arguments: &[&str], answers: &mut String) -> Result<(), Fault> {
     let [text, most, failing, sizes @ ..] = arguments else {
         return Err(Fault::BadCase);
     };
-    let most = number_of(most)?;
+    let (most, failing) = (number_of(most)?, number_of(failing)?);
     if most == 0 {
         return Err(Fault::BadCase);
     }
     let bytes = List::from_slice(alloc, text.as_bytes())?;
-    let failing = List::from_slice(alloc, &[number_of(failing)? as u64])?;
+    let failing = List::from_slice(alloc, &[failing as u64])?;
     let mut source = MemorySource::new(bytes, most, failing);
-    all_taken(alloc, &mut source, sizes)
+    add_all_taken(&mut source, sizes, answers)
 }
 
-pub(crate) fn writer(alloc: Global, arguments: &[&str]) -> Result<String, Fault> {
+pub(crate) fn writer(alloc: Global, arguments: &[&str], answers: &mut String) -> Result<(), Fault> {
     let [text, more @ ..] = arguments else {
         return Err(Fault::BadCase);
     };
     let mut written = Vec::new(alloc);
-    let mut answers = puts(alloc, &mut StdSink::new(&mut written), text, more)?;
-    let written = written.as_slice().escape_ascii();
-    let written = format!(in alloc; "{written}")?;
-    add_answer(&mut answers, written.as_str())?;
-    Ok(answers)
+    put(&mut StdSink::new(&mut written), text, more, answers)?;
+    add_bytes(answers, written.as_slice())
 }
 
-/// Whether a sink takes all of a text, and how many bytes of each more text.
-fn puts<S: Sink>(alloc: Global, sink: &mut S, text: &str, more: &[&str]) -> Result<String, Fault> {
-    let mut answers = told(alloc, put_all(sink, text.as_bytes()))?;
+/// Tells whether a sink takes all of a text, and how many bytes of each more text.
+fn put<S: Sink>(
+    sink: &mut S,
+    text: &str,
+    more: &[&str],
+    answers: &mut String,
+) -> Result<(), Fault> {
+    add_whether(answers, put_all(sink, text.as_bytes()))?;
     for piece in more {
-        add_answer(&mut answers, taking(alloc, sink, piece)?.as_str())?;
+        put_piece(sink, piece, answers)?;
     }
-    Ok(answers)
+    Ok(())
 }
 
-/// How many bytes of a text one call takes.
-fn taking<S: Sink>(alloc: Global, sink: &mut S, text: &str) -> Result<String, Fault> {
+/// Tells how many bytes of a text one call takes.
+fn put_piece<S: Sink>(sink: &mut S, text: &str, answers: &mut String) -> Result<(), Fault> {
     if text.is_empty() {
         return Err(Fault::BadCase);
     }
     match sink.put(text.as_bytes()) {
-        Put::Bytes(count) => Ok(format!(in alloc; "{count}")?),
-        Put::Failed => Ok(String::from_str(alloc, "failed")?),
+        Put::Bytes(count) => add_number(answers, count),
+        Put::Failed => add_word(answers, "failed"),
     }
 }
 
-pub(crate) fn places(alloc: Global, arguments: &[&str]) -> Result<String, Fault> {
+pub(crate) fn places(arguments: &[&str], answer: &mut String) -> Result<(), Fault> {
     let [first, second] = arguments else {
         return Err(Fault::BadCase);
     };
     let holds = place_of(first)? < place_of(second)?;
-    told(alloc, holds)
+    add_whether(answer, holds)
 }
 
 /// A place, as `line:column`.

@@ -8,10 +8,11 @@
 ghost use Rattle.std.specs.Prelude.{◌≡◌, ◌<◌, ◌≤◌, length, IfOk};
 ghost use Rattle.text_buffer.specs.TextSeen.{replaced};
 
-use crate::fault::{Fault, add_answer, number_of, printed};
+use crate::answer::add_bytes;
+use crate::fault::{Fault, number_of};
 use std::alloc::Global;
 use syn_base::{Lines, List};
-use text_buffer::{Line, MOST_LINES, Text, TextError};
+use text_buffer::{Line, MOST_LINES, Text};
 
 /// A change: lines `a` to `b - 1` become `count` lines.
 #[derive(Clone, Copy)]
@@ -36,19 +37,14 @@ fn change_of(text: &str) -> Result<Change, Fault> {
 fn lines_of(alloc: Global, change: usize, count: usize) -> Result<Vec<Line>, Fault> {
     let mut lines = Vec::new(alloc);
     for number in 0..count {
-        let line = format!(in alloc; "{change}.{number}")?;
-        lines.push(List::from_chars(alloc, line.as_str())?)?;
+        lines.push(line_of(alloc, change, number)?)?;
     }
     Ok(lines)
 }
 
-/// The text of these bytes.
-fn text_of(alloc: Global, bytes: &[u8]) -> Result<Text, Fault> {
-    match Text::from_bytes(alloc, bytes) {
-        Ok(text) => Ok(text),
-        Err(TextError::Memory) => Err(Fault::Memory),
-        Err(_) => Err(Fault::BadCase),
-    }
+fn line_of(alloc: Global, change: usize, number: usize) -> Result<Line, Fault> {
+    let line = format!(in alloc; "{change}.{number}")?;
+    Ok(List::from_chars(alloc, line.as_str())?)
 }
 
 /// Changes a text, where the change is possible.
@@ -89,51 +85,81 @@ fn first_difference(text: &Text, lines: &[Line]) -> Option<usize> {
     }
 }
 
-pub(crate) fn changed(alloc: Global, arguments: &[&str]) -> Result<String, Fault> {
+pub(crate) fn changed(alloc: Global, arguments: &[&str], answer: &mut String) -> Result<(), Fault> {
     let [count, changes @ ..] = arguments else {
         return Err(Fault::BadCase);
     };
     let mut lines = lines_of(alloc, 0, number_of(count)?)?;
-    let mut text = text_of(alloc, bytes_of(alloc, &lines)?.as_bytes())?;
+    let mut text = text_of_lines(alloc, &lines)?;
     for (i, change) in changes.iter().enumerate() {
-        let Change { a, b, count } = change_of(change)?;
-        let new = List::from_vec(lines_of(alloc, i + 1, count)?);
-        change_text(&mut text, a, b, new)?;
-        change_list(&mut lines, a, b, lines_of(alloc, i + 1, count)?)?;
+        change_both(alloc, &mut text, &mut lines, i + 1, change_of(change)?)?;
     }
-    let count = text.len();
-    match first_difference(&text, &lines) {
-        None => Ok(format!(in alloc; "{count} lines")?),
-        Some(line) => Ok(format!(in alloc; "they differ at {line}")?),
-    }
+    write_difference(answer, &text, lines.as_slice())
 }
 
-/// The bytes of a plain list of lines.
-fn bytes_of(alloc: Global, lines: &Vec<Line>) -> Result<String, Fault> {
+/// Makes a change of this number in a text and in a plain list.
+fn change_both(
+    alloc: Global,
+    text: &mut Text,
+    lines: &mut Vec<Line>,
+    number: usize,
+    change: Change,
+) -> Result<(), Fault> {
+    let Change { a, b, count } = change;
+    let new = List::from_vec(lines_of(alloc, number, count)?);
+    change_text(text, a, b, new)?;
+    let new = lines_of(alloc, number, count)?;
+    change_list(lines, a, b, new)
+}
+
+/// Writes how many lines both have, or where they differ.
+fn write_difference(answer: &mut String, text: &Text, lines: &[Line]) -> Result<(), Fault> {
+    let count = text.len();
+    match first_difference(text, lines) {
+        None => write!(answer, "{count} lines")?,
+        Some(line) => write!(answer, "they differ at {line}")?,
+    }
+    Ok(())
+}
+
+/// The text of a plain list of lines.
+fn text_of_lines(alloc: Global, lines: &Vec<Line>) -> Result<Text, Fault> {
     let mut bytes = String::new(alloc);
     for line in lines {
-        for c in line.as_slice() {
-            bytes.push(*c)?;
-        }
-        bytes.push('\n')?;
+        write_line(&mut bytes, line.as_slice())?;
     }
-    Ok(bytes)
+    Ok(Text::from_bytes(alloc, bytes.as_bytes())?)
 }
 
-pub(crate) fn bytes(alloc: Global, arguments: &[&str]) -> Result<String, Fault> {
+fn write_line(bytes: &mut String, line: &[char]) -> Result<(), Fault> {
+    for c in line {
+        bytes.push(*c)?;
+    }
+    bytes.push('\n')?;
+    Ok(())
+}
+
+pub(crate) fn bytes(alloc: Global, arguments: &[&str], answers: &mut String) -> Result<(), Fault> {
     let [lines] = arguments else {
         return Err(Fault::BadCase);
     };
-    let mut text = String::new(alloc);
-    for c in lines.chars() {
-        text.push(if c == '/' { '\n' } else { c })?;
-    }
-    let text = text_of(alloc, text.as_bytes())?;
-    let mut answers = printed(alloc, &text.to_bytes(alloc)?)?;
+    let text = text_of(alloc, lines)?;
+    add_text(alloc, &text, answers)?;
     let copy = text.copy(alloc)?;
-    add_answer(
-        &mut answers,
-        printed(alloc, &copy.to_bytes(alloc)?)?.as_str(),
-    )?;
-    Ok(answers)
+    add_text(alloc, &copy, answers)
+}
+
+/// The text of lines with a slash between any two.
+fn text_of(alloc: Global, lines: &str) -> Result<Text, Fault> {
+    let mut bytes = String::new(alloc);
+    for c in lines.chars() {
+        bytes.push(if c == '/' { '\n' } else { c })?;
+    }
+    Ok(Text::from_bytes(alloc, bytes.as_bytes())?)
+}
+
+/// Adds the bytes of a text.
+fn add_text(alloc: Global, text: &Text, answers: &mut String) -> Result<(), Fault> {
+    let bytes = text.to_bytes(alloc)?;
+    add_bytes(answers, bytes.as_slice())
 }
