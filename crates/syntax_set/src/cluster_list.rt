@@ -74,9 +74,7 @@ impl ClusterList {
 
     /// Takes the entries out.
     fn remove(&mut self, alloc: Global, entries: &List<Entry>) -> Result<(), Memory>
-        ensures ok {
-            OnOk result (self.new ≡ less self.old (with_entries no_list entries.now))
-        }
+        ensures ok { OnOk result (self.new ≡ less self.old (with_entries no_list entries.now)) }
         ensures err { OnErr result (self.new ≡ self.old) }
     {
         *self = self.without(alloc, entries)?;
@@ -85,9 +83,7 @@ impl ClusterList {
 
     /// The list without the entries.
     fn without(&self, alloc: Global, entries: &List<Entry>) -> Result<ClusterList, Memory>
-        ensures {
-            IfOk result (λ list. list ≡ less self.now (with_entries no_list entries.now))
-        }
+        ensures { IfOk result (λ list. list ≡ less self.now (with_entries no_list entries.now)) }
     {
         let other = ClusterList::of(alloc, entries)?;
         self.less(alloc, &other)
