@@ -31,7 +31,14 @@ pub(crate) fn print_page<F: Files, L: Ledger>(
         steps.new ≤ steps.old + lines_in (text_told words.now.painting.text known)) }
 {
     let painted = paint(alloc, files, words.painting(), steps)?;
-    Ok(page_bytes(alloc, words, &painted)?)
+    Ok(print_painted(alloc, words, painted)?)
+}
+
+/// The page of a painted text, which isn't needed behind it.
+fn print_painted(alloc: Global, words: &PageWords<'_>, painted: Painted) -> Result<List<u8>, Memory>
+    ensures { IfOk result (λ bytes. bytes ≡ page_bytes words.now painted) }
+{
+    page_bytes(alloc, words, &painted)
 }
 
 /// The page of a painted text.

@@ -35,7 +35,14 @@ pub(crate) fn print_spans<F: Files, L: Ledger>(
         steps.new ≤ steps.old + lines_in (text_told words.now.text known)) }
 {
     let painted = paint(alloc, files, words, steps)?;
-    Ok(spans_bytes(alloc, &painted)?)
+    Ok(print_painted(alloc, painted)?)
+}
+
+/// The span lines of a painted text, which isn't needed behind them.
+fn print_painted(alloc: Global, painted: Painted) -> Result<List<u8>, Memory>
+    ensures { IfOk result (λ bytes. bytes ≡ spans_bytes painted) }
+{
+    spans_bytes(alloc, &painted)
 }
 
 /// The span lines of a painted text.

@@ -8,27 +8,27 @@ use Rattle.vimsyn_cli.proofs.PlanLaws.{out_of_memory}
 use Rattle.vimsyn_cli.proofs.PaintLaws.{memory_uncounted, memory_untold}
 use Rattle.vimsyn_cli.proofs.spans.print_spans.Goals as goal
 
-pub returns-in_err-spans_bytes-clause-told : goal.returns-in_err-spans_bytes-clause-told
-returns-in_err-spans_bytes-clause-told g c =
-    let p = err_from_is_err_and c.from_residual-in_err-spans_bytes.result c.from_residual-in_err-spans_bytes.ensures.1 in
-    memory_untold c.from_residual-in_err-spans_bytes.result (IsPaintFault c.args.words.now) (p.1 ∙ ap Err p.2)
+pub returns-in_err-print_painted-clause-told : goal.returns-in_err-print_painted-clause-told
+returns-in_err-print_painted-clause-told g c =
+    let p = err_from_is_err_and c.from_residual-in_err-print_painted.result c.from_residual-in_err-print_painted.ensures.1 in
+    memory_untold c.from_residual-in_err-print_painted.result (IsPaintFault c.args.words.now) (p.1 ∙ ap Err p.2)
 
-pub returns-in_err-spans_bytes-clause-faults : goal.returns-in_err-spans_bytes-clause-faults
-returns-in_err-spans_bytes-clause-faults g c =
-    let p = err_from_is_err_and c.from_residual-in_err-spans_bytes.result c.from_residual-in_err-spans_bytes.ensures.1 in
-    memory_uncounted is_unread c.from_residual-in_err-spans_bytes.result (g.F.Files.faults c.args.files.now) (g.F.Files.faults c.paint.new.files) (p.1 ∙ ap Err p.2)
+pub returns-in_err-print_painted-clause-faults : goal.returns-in_err-print_painted-clause-faults
+returns-in_err-print_painted-clause-faults g c =
+    let p = err_from_is_err_and c.from_residual-in_err-print_painted.result c.from_residual-in_err-print_painted.ensures.1 in
+    memory_uncounted is_unread c.from_residual-in_err-print_painted.result (g.F.Files.faults c.args.files.now) (g.F.Files.faults c.paint.new.files) (p.1 ∙ ap Err p.2)
 
-pub returns-in_err-spans_bytes-clause-misses : goal.returns-in_err-spans_bytes-clause-misses
-returns-in_err-spans_bytes-clause-misses g c =
-    let p = err_from_is_err_and c.from_residual-in_err-spans_bytes.result c.from_residual-in_err-spans_bytes.ensures.1 in
-    memory_uncounted is_missing c.from_residual-in_err-spans_bytes.result (g.F.Files.misses c.args.files.now) (g.F.Files.misses c.paint.new.files) (p.1 ∙ ap Err p.2)
+pub returns-in_err-print_painted-clause-misses : goal.returns-in_err-print_painted-clause-misses
+returns-in_err-print_painted-clause-misses g c =
+    let p = err_from_is_err_and c.from_residual-in_err-print_painted.result c.from_residual-in_err-print_painted.ensures.1 in
+    memory_uncounted is_missing c.from_residual-in_err-print_painted.result (g.F.Files.misses c.args.files.now) (g.F.Files.misses c.paint.new.files) (p.1 ∙ ap Err p.2)
 
-pub returns-in_err-spans_bytes-clause-longs : goal.returns-in_err-spans_bytes-clause-longs
-returns-in_err-spans_bytes-clause-longs g c =
-    let p = err_from_is_err_and c.from_residual-in_err-spans_bytes.result c.from_residual-in_err-spans_bytes.ensures.1 in
-    memory_uncounted is_too_long c.from_residual-in_err-spans_bytes.result (g.F.Files.longs c.args.files.now) (g.F.Files.longs c.paint.new.files) (p.1 ∙ ap Err p.2)
+pub returns-in_err-print_painted-clause-longs : goal.returns-in_err-print_painted-clause-longs
+returns-in_err-print_painted-clause-longs g c =
+    let p = err_from_is_err_and c.from_residual-in_err-print_painted.result c.from_residual-in_err-print_painted.ensures.1 in
+    memory_uncounted is_too_long c.from_residual-in_err-print_painted.result (g.F.Files.longs c.args.files.now) (g.F.Files.longs c.paint.new.files) (p.1 ∙ ap Err p.2)
 
-pub returns-in_err-spans_bytes-clause-planned : goal.returns-in_err-spans_bytes-clause-planned
-returns-in_err-spans_bytes-clause-planned g c =
-    let p = err_from_is_err_and c.from_residual-in_err-spans_bytes.result c.from_residual-in_err-spans_bytes.ensures.1 in
-    out_of_memory (g.F.Files.told c.args.files.now) (spans_told c.args.words.now) (IsUnreadPaint c.args.words.now) c.from_residual-in_err-spans_bytes.result (p.1 ∙ ap Err p.2)
+pub returns-in_err-print_painted-clause-planned : goal.returns-in_err-print_painted-clause-planned
+returns-in_err-print_painted-clause-planned g c =
+    let p = err_from_is_err_and c.from_residual-in_err-print_painted.result c.from_residual-in_err-print_painted.ensures.1 in
+    out_of_memory (g.F.Files.told c.args.files.now) (spans_told c.args.words.now) (IsUnreadPaint c.args.words.now) c.from_residual-in_err-print_painted.result (p.1 ∙ ap Err p.2)
