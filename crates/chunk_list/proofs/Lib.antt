@@ -3,3 +3,4 @@ pub mod EndLaws
 pub mod FillLaws
 pub mod FlatLaws
 pub mod ReplacedLaws
+pub mod SetLaws

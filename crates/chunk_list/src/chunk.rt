@@ -1,5 +1,5 @@
 //! A chunk: up to 512 elements, with room for all of them from the start.
-ghost use Rattle.std.specs.Prelude.{◌≡◌, ◌==◌, ◌+◌, ◌<◌, ◌≤◌, [], ◌∷◌, ◌++◌, length, take, drop, slice_get, Some, IfOk, vec_capacity, vec_len};
+ghost use Rattle.std.specs.Prelude.{◌≡◌, ◌==◌, ◌+◌, ◌<◌, ◌≤◌, [], ◌∷◌, ◌++◌, length, take, drop, set, slice_get, Some, IfOk, vec_capacity, vec_len};
 
 use crate::moves::{cut, join, turn_over};
 use std::alloc::Global;
@@ -84,6 +84,14 @@ impl<T> Chunk<T> {
 }
 
 impl<T: Drop> Chunk<T> {
+    /// Puts an element in the place of the one at `i`, from 0, which is dropped.
+    pub(crate) fn set(&mut self, i: usize, x: T)
+        requires { i < length self.old }
+        ensures { self.new ≡ set self.old i x }
+    {
+        self.items[i] = x;
+    }
+
     /// Puts the elements of another chunk at the end. It takes no memory.
     pub(crate) fn append(&mut self, other: Chunk<T>)
         requires { length self.old + length other ≤ 512 }

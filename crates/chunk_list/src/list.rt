@@ -1,5 +1,5 @@
 //! The list.
-ghost use Rattle.std.specs.Prelude.{◌≡◌, ◌+◌, ◌*◌, ◌-◌, ◌<◌, ◌≤◌, ◌^◌, [], length, slice_get, vec_capacity, vec_len, Some, IfOk, OnOk, OnErr};
+ghost use Rattle.std.specs.Prelude.{◌≡◌, ◌+◌, ◌*◌, ◌-◌, ◌<◌, ◌≤◌, ◌^◌, [], length, set, slice_get, vec_capacity, vec_len, Some, IfOk, OnOk, OnErr};
 ghost use Rattle.chunk_list.specs.Replaced.{replaced};
 
 use crate::chunk::{Chunk, MOST};
@@ -94,6 +94,17 @@ impl<T: Drop> ChunkList<T> {
             self.spare = extra;
         }
         Ok(())
+    }
+
+    /// Puts another element in the place of the one at `i`, from 0. It takes no memory.
+    pub fn set(&mut self, i: usize, x: T)
+        requires { i < length self.old.0 }
+        ensures list { self.new.0 ≡ set self.old.0 i x }
+        ensures spare { self.new.1 ≡ self.old.1 }
+    {
+        let chunk = chunk_of(&self.ends, i);
+        let start = start_of(&self.ends, chunk);
+        self.chunks[chunk].set(i - start, x);
     }
 
     /// Elements `a` to `b - 1` become `new`. It takes no memory: the room was made before.
