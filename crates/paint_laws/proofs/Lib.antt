@@ -8,3 +8,9 @@ pub mod SpanLaws
 pub mod ClosingLaws
 pub mod NothingLaws
 pub mod OneSpansLaws
+pub mod MemberLaws
+pub mod CauseLaws
+pub mod EndCauses
+pub mod CloseCauses
+pub mod PickCauses
+pub mod LineCauses

@@ -27,7 +27,7 @@ pub record IsNew (h : Here) (s : Standing) (i : ItemId) : Type 0 where
   pub untried : is_tried s i ≡ false
   pub added : i.0 < length h.rules.items
 
-not_true : (b : Bool) → not b ≡ true → b ≡ false
+pub not_true : (b : Bool) → not b ≡ true → b ≡ false
 not_true true e = absurd (cc)
 not_true false e = refl
 
@@ -48,7 +48,7 @@ kept_by : {A : Type 0} (test : A → Bool) (x : A) (xs : List A) (b : Bool) → 
 kept_by test x xs true e h = (e, h)
 kept_by test x xs false e h = h
 
-kept_pass : {A : Type 0} (test : A → Bool) (xs : List A) →
+pub kept_pass : {A : Type 0} (test : A → Bool) (xs : List A) →
     AllByRecursion (λ y. test y ≡ true) (filter test xs)
 kept_pass test [] = tt
 kept_pass test (x ∷ xs) = kept_by test x xs (test x) refl (kept_pass test xs)

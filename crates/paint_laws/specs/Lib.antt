@@ -6,3 +6,4 @@ pub mod Shown
 pub mod NothingStarts
 pub mod LineByLine
 pub mod Refusals
+pub mod Accepted

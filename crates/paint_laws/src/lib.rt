@@ -6,6 +6,7 @@
 //! functions make nothing; each one's contract is a law.
 #![tactic(auto)]
 
+ghost use Rattle.paint_laws.specs.Accepted.{RefusedLinesHaveCauses, RefusedTextsHaveCauses, TextsWithinLimitsAreAccepted};
 ghost use Rattle.paint_laws.specs.Closings.{ClosingEnds};
 ghost use Rattle.paint_laws.specs.LineByLine.{RefusedPaintings, WholePaintings};
 ghost use Rattle.paint_laws.specs.NothingStarts.{NothingIsPainted};
@@ -52,4 +53,23 @@ pub fn a_text_is_painted_line_by_line()
 /// those behind it don't matter.
 pub fn a_refusal_changes_nothing()
     ensures { RefusalsChangeNothing }
+{}
+
+/// A line, or a text, that is refused has the cause that is told: an attempt for the item that is
+/// told, at the column that is told, which costs more than the budget; or a start there with which
+/// more than 1,000 frames would stand. There is no other cause.
+pub fn refusals_have_causes()
+    ensures lines { RefusedLinesHaveCauses }
+    ensures texts { RefusedTextsHaveCauses }
+{}
+
+/// A text is accepted where no attempt that its painting may make costs more than the budget, and
+/// at most 1,000 frames stand wherever something starts.
+///
+/// What it may make is asked for along its own way: at the lines and columns that it comes to, for
+/// what stands there. An attempt that it leaves out there, since an earlier one has given what was
+/// looked for, has to be within the budget too; so this says when a text is accepted, and not when
+/// alone.
+pub fn texts_within_limits_are_accepted()
+    ensures { TextsWithinLimitsAreAccepted }
 {}
