@@ -54,6 +54,13 @@ module _ {E : Type 0} (P : E → Type 0) where
   test_comes true h k = h
   test_comes false h k = k
 
+  -- what a test says is known of what follows it
+  pub tested_comes : {A : Type 0} {Q : A → Type 0} (b : Bool) {p q : Painted E A} →
+      (b ≡ true → ComesTo P Q p) → ComesTo P Q q →
+      ComesTo P Q (elim b as (λ _. Painted E A) [ true ↦ p | false ↦ q ])
+  tested_comes true h k = h refl
+  tested_comes false h k = k
+
   pub choice_comes : {A B : Type 0} {R : B → Type 0} (o : Option A) {p : Painted E B}
       {f : A → Painted E B} → ComesTo P R p → ((a : A) → o ≡ Some a → ComesTo P R (f a)) →
       ComesTo P R (elim o as (λ _. Painted E B) [ None ↦ p | Some a ↦ f a ])

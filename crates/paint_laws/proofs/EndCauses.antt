@@ -24,7 +24,7 @@ use Rattle.paint_rules.specs.EndInLine.{ends_of, tried_at, end_made, end_at, ski
 use Rattle.paint_rules.specs.EndInLine.{end_from, end_in_present, end_in_line}
 use Rattle.paint_laws.specs.Accepted.{cost_of, IsLookedForFrom, IsOfEnd}
 use Rattle.paint_laws.proofs.CauseLaws.{ComesTo, Any, then_comes, done_comes, test_comes}
-use Rattle.paint_laws.proofs.CauseLaws.{choice_comes, found_comes, looks_comes}
+use Rattle.paint_laws.proofs.CauseLaws.{choice_comes, found_comes, looks_comes, tested_comes}
 use Rattle.paint_laws.proofs.MemberLaws.{columns_between, reversed_members}
 
 module _ (r : Rules) (t : Text) (P : Cause → Type 0) where
@@ -53,15 +53,16 @@ module _ (r : Rules) (t : Text) (P : Cause → Type 0) where
   -- the match of an item at a place
   module _ (i : ItemId) (pattern : Pattern) (p : Place) (floor : ℕ)
       (costly : (place : Place) → IsLookedForFrom t p.line floor pattern place →
+      may_start t pattern p place ≡ true →
       r.budget < cost_of r t i pattern no_externals place → P (TooCostly i)) where
     from_comes : (c : ℕ) → (floor - pattern.lc ≤ c) × (c ≤ length (line_at t p.line)) →
         ComesTo P Any (match_from r t i pattern p c)
     from_comes c on =
-        test_comes P (may_start t pattern p (place_at p.line c))
-        (then_comes P Any Any
+        tested_comes P (may_start t pattern p (place_at p.line c))
+        (λ here. then_comes P Any Any
         (attempted_comes i no_externals pattern (place_at p.line c)
         (costly (place_at p.line c)
-        (record { in_line = refl; from = omega (arith, on.0); to = on.1 })))
+        (record { in_line = refl; from = omega (arith, on.0); to = on.1 }) here))
         (λ m _ _. test_comes P (starts_at t pattern p m) (end_looks m)
         (done_comes P Any None tt)))
         (done_comes P Any None tt)

@@ -25,8 +25,8 @@ use Rattle.paint_laws.specs.Starts.{come_to}
 use Rattle.paint_laws.specs.Shown.{StandsAt, at_first as stands_first, at_next as stands_next}
 use Rattle.paint_laws.specs.LineByLine.{line_of, state_before}
 use Rattle.paint_laws.specs.Accepted.{cost_of, Comes, at_first, at_next, after_start, IsClear}
-use Rattle.paint_laws.specs.Accepted.{IsOfEnd, frames_of, LooksForEnd, MayTry, open_before, open_there, may_start}
-use Rattle.paint_laws.specs.Accepted.{may_end, IsCauseAt, RefusedLinesHaveCauses}
+use Rattle.paint_laws.specs.Accepted.{IsOfEnd, frames_of, LooksForEnd, MayTry, open_before, open_there, to_start}
+use Rattle.paint_laws.specs.Accepted.{to_end, IsCauseAt, RefusedLinesHaveCauses}
 use Rattle.paint_laws.specs.Accepted.{RefusedTextsHaveCauses, ComesToLine, IsWithinLimits}
 use Rattle.paint_laws.specs.Accepted.{IsAcceptedPainting, TextsWithinLimitsAreAccepted}
 use Rattle.paint_laws.specs.Accepted.{CostsTooMuch}
@@ -133,14 +133,14 @@ module _ (h : Here) where
           pattern = pattern;
           externals = no_externals;
           place = place;
-          tried = may_start clear looks;
+          tried = to_start clear looks;
           costs = over;
         })
         (λ i m pattern place starts end at over. record {
           pattern = pattern;
           externals = m.externals;
           place = place;
-          tried = may_end clear starts end at;
+          tried = to_end clear starts end at;
           costs = over;
         })
 

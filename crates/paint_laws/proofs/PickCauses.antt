@@ -37,7 +37,7 @@ use Rattle.paint_laws.proofs.PickedLaws.{kept_pass, not_true}
 -- where an attempt for what may start at a column, or for the end of a region that may start there,
 -- has a cause
 module _ (h : Here) (c : ℕ) (P : Cause → Type 0) (s : Standing)
-    (costly : (i : ItemId) (pattern : Pattern) (place : Place) → LooksForStart h s i pattern place →
+    (costly : (i : ItemId) (pattern : Pattern) (place : Place) → LooksForStart h c s i pattern place →
     h.rules.budget < cost_of h.rules h.text i pattern no_externals place → P (TooCostly i))
     (ending : (i : ItemId) (m : Matched) (pattern : Pattern) (place : Place) →
     MatchesStart h c s i m → IsOfEnd (item_of h.rules.items i).kind pattern →
@@ -51,7 +51,8 @@ module _ (h : Here) (c : ℕ) (P : Cause → Type 0) (s : Standing)
       ComesTo P Any (item_match h.rules h.text i pattern (place_at h.line c) s.floor)
   match_comes i may pattern of =
       item_match_comes h.rules h.text P i pattern (place_at h.line c) s.floor
-      (λ place at over. costly i pattern place (record { may = may; of_start = of; at = at }) over)
+      (λ place at here over. costly i pattern place
+      (record { may = may; of_start = of; at = at; here = here }) over)
 
   region_comes : (i : ItemId) → MayStart h s i → (pattern : Pattern) →
       Contains (starts_of (kind_of i)) pattern → (o : Option Matched) →

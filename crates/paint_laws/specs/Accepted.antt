@@ -17,7 +17,7 @@ use Rattle.paint_rules.specs.Rules.{no_externals, place_at, this_line}
 use Rattle.paint_rules.specs.States.{State, Standing}
 use Rattle.paint_rules.specs.Lists.{is_next}
 use Rattle.paint_rules.specs.EndInLine.{ends_of, skip_of}
-use Rattle.paint_rules.specs.ItemMatch.{item_match}
+use Rattle.paint_rules.specs.ItemMatch.{item_match, may_start}
 use Rattle.paint_rules.specs.Close.{closed, line_start}
 use Rattle.paint_rules.specs.Pick.{Starting, AWord, AMatch, AnEmpty, ARegion, Start, is_allowed}
 use Rattle.paint_rules.specs.Pick.{is_tried, picked, started}
@@ -92,12 +92,14 @@ pub record MayStart (h : Here) (s : Standing) (i : ItemId) : Type 0 where
   pub untried : is_tried s i ≡ false
   pub admitted : (is_allowed h.rules s.stack i ≡ true) ⊎ IsAwaited h.rules s.waiting i
 
--- an attempt of a pattern by which an item may start
-pub record LooksForStart (h : Here) (s : Standing) (i : ItemId) (pattern : Pattern) (place : Place)
-    : Type 0 where
+-- an attempt of a pattern by which an item may start at a column; a pattern that starts where its
+-- match does, or so many columns from there, is tried where that may be this column
+pub record LooksForStart (h : Here) (c : ℕ) (s : Standing) (i : ItemId) (pattern : Pattern)
+    (place : Place) : Type 0 where
   pub may : MayStart h s i
   pub of_start : Contains (starts_of (item_of h.rules.items i).kind) pattern
   pub at : IsLookedForFrom h.text h.line s.floor pattern place
+  pub here : may_start h.text pattern (place_at h.line c) place ≡ true
 
 -- a region may start at a column, by this match of one of its start patterns
 pub record MatchesStart (h : Here) (c : ℕ) (s : Standing) (i : ItemId) (m : Matched) : Type 0 where
@@ -117,11 +119,11 @@ pub data MayTry (h : Here) (before : State) : ℕ → ItemId → Pattern → Lis
       Comes h before c s → Contains s.stack f → LooksForEnd h c f pattern place →
       MayTry h before c f.item pattern f.externals place
   -- for an item that may start there
-  may_start : {c : ℕ} {s : Standing} {i : ItemId} {pattern : Pattern} {place : Place} →
-      IsClear h before c s → LooksForStart h s i pattern place →
+  to_start : {c : ℕ} {s : Standing} {i : ItemId} {pattern : Pattern} {place : Place} →
+      IsClear h before c s → LooksForStart h c s i pattern place →
       MayTry h before c i pattern no_externals place
   -- for the end of a region that may start there, behind the match of its start
-  may_end : {c : ℕ} {s : Standing} {i : ItemId} {m : Matched} {pattern : Pattern} {place : Place} →
+  to_end : {c : ℕ} {s : Standing} {i : ItemId} {m : Matched} {pattern : Pattern} {place : Place} →
       IsClear h before c s → MatchesStart h c s i m →
       IsOfEnd (item_of h.rules.items i).kind pattern →
       IsLookedForFrom h.text m.to.line m.to.col pattern place →
