@@ -12,11 +12,11 @@ use Rattle.edit_script.specs.Kept.{Kept}
 use Rattle.edit_script.proofs.StandingLaws.{end_two, entries_two, kept_two}
 use Rattle.edit_session.specs.Ends.{SinkChange, SourceChange, Takes}
 use Rattle.edit_session.specs.Painter.{Painter}
-use Rattle.edit_session.specs.Session.{Answer, Standing, behind, entries_read, is_too_long, most_bytes, session}
+use Rattle.edit_session.specs.Session.{Answer, Standing, behind, entries_read, is_too_long, most_bytes, session, session_costs}
 use Rattle.edit_session.specs.declared.reading.End.{End}
 use Rattle.edit_session.specs.declared.reading.End.TheVariants.{Done, Refused, TooLong, Unread, Unwritten, Memory}
-use Rattle.edit_session.specs.Steps.{Answers, EndsReading, HasRead, ReachesEnd, ReadsPiece, ReadsPieces, StandsAt, StopsSo, WritesPart}
-use Rattle.edit_session.proofs.SessionLaws.{appended_nothing, appended_twice, appends_all, appends_behind, appends_of_more, session_joined}
+use Rattle.edit_session.specs.Steps.{Answers, EndsReading, HasRead, ReachesEnd, ReadsPiece, ReadsPieces, StandsAt, StaysWithin, StepsChange, StopsSo}
+use Rattle.edit_session.proofs.SessionLaws.{appended_nothing, appended_twice, appends_all, appends_behind, appends_of_more, costs_joined, session_joined}
 
 -- ---- sources
 
@@ -86,6 +86,33 @@ end_written p s (Some all) (Some rest) out out' bytes few taken ended part =
     let Q : List Entry → Type 0 = λ es. AppendsPrefix out out' (session p s es).text in
     subst P (sym whole) (subst Q (sym (entries_read_all bytes few)) part)
 
+-- ---- and as many lines were painted as it may paint, at most
+
+painted_told : (p : Painter) (s : Standing) (bytes rest : List ℕ) (n n' : ℕ) → length bytes ≤ most_bytes → n' ≤ n + session_costs p s (entries_of 0 bytes) → n' ≤ n + session_costs p s (entries_read (bytes ++ rest))
+painted_told p s bytes rest n n' few painted =
+    let more = entries_read_more bytes rest few in
+    let joined : session_costs p s (entries_read (bytes ++ rest)) ≡ session_costs p s (entries_of 0 bytes) + session_costs p (session p s (entries_of 0 bytes)).stands more.0 =
+    ap (session_costs p s) more.1 ∙ costs_joined p s (entries_of 0 bytes) more.0 in
+    omega arith
+
+painted_part : (p : Painter) (s : Standing) (left left' : Option (List ℕ)) (n n' : ℕ) (bytes : List ℕ) → length bytes ≤ most_bytes → Takes bytes left left' → n' ≤ n + session_costs p s (entries_of 0 bytes) → IfSome left (λ all. n' ≤ n + session_costs p s (entries_read all))
+painted_part p s None left' n n' bytes few taken painted = tt
+painted_part p s (Some all) None n n' bytes few taken painted = absurd (cc)
+painted_part p s (Some all) (Some rest) n n' bytes few taken painted =
+    let is : all ≡ bytes ++ rest = cc in
+    let P : List ℕ → Type 0 = λ a. n' ≤ n + session_costs p s (entries_read a) in
+    subst P (sym is) (painted_told p s bytes rest n n' few painted)
+
+painted_whole : (p : Painter) (s : Standing) (left left' : Option (List ℕ)) (n n' : ℕ) (bytes : List ℕ) → length bytes ≤ most_bytes → Takes bytes left left' → IfSome left' (λ rest. rest ≡ []) → n' ≤ n + session_costs p s (entries_at_end 0 bytes) → IfSome left (λ all. n' ≤ n + session_costs p s (entries_read all))
+painted_whole p s None left' n n' bytes few taken ended painted = tt
+painted_whole p s (Some all) None n n' bytes few taken ended painted = absurd (cc)
+painted_whole p s (Some all) (Some rest) n n' bytes few taken ended painted =
+    let is : all ≡ bytes ++ rest = cc in
+    let whole : all ≡ bytes = is ∙ ap (λ r. bytes ++ r) ended ∙ append-nil bytes in
+    let P : List ℕ → Type 0 = λ a. n' ≤ n + session_costs p s (entries_read a) in
+    let Q : List Entry → Type 0 = λ es. n' ≤ n + session_costs p s es in
+    subst P (sym whole) (subst Q (sym (entries_read_all bytes few)) painted)
+
 -- ---- steps
 
 abbrev pub source_of : Option (List ℕ) → Option (List ℕ) → ℕ → ℕ → SourceChange
@@ -94,20 +121,78 @@ source_of before after faults faults_after = record { before = before; after = a
 abbrev pub sink_of : Option (List ℕ) → Option (List ℕ) → ℕ → ℕ → SinkChange
 sink_of before after faults faults_after = record { before = before; after = after; faults = faults; faults_after = faults_after }
 
+abbrev pub steps_of : ℕ → ℕ → StepsChange
+steps_of before after = record { before = before; after = after }
+
+-- nothing happened yet
+pub within_nothing : (p : Painter) (s : Standing) (left out : Option (List ℕ)) (f f' g g' n : ℕ) → StaysWithin p s (source_of left left f f') (sink_of out out g g') (steps_of n n)
+within_nothing p s left out f f' g g' n = record {
+  part = nothing_written p s left out;
+  painted = nothing_painted p s left n;
+  taken = record { bytes = []; taken = takes_nothing left; few = omega arith };
+}
+  where
+    nothing_written : (p : Painter) (s : Standing) (left out : Option (List ℕ)) → IfSome left (λ all. AppendsPrefix out out (session p s (entries_read all)).text)
+    nothing_written p s None out = tt
+    nothing_written p s (Some all) out = (0, appended_nothing out)
+
+    nothing_painted : (p : Painter) (s : Standing) (left : Option (List ℕ)) (n : ℕ) → IfSome left (λ all. n ≤ n + session_costs p s (entries_read all))
+    nothing_painted p s None n = tt
+    nothing_painted p s (Some all) n = omega arith
+
+-- the commands whose last line is whole in the bytes that were taken were answered, or a part of them
+within_part : (p : Painter) (s : Standing) (left left' out out' : Option (List ℕ)) (f f' g g' n n' : ℕ) (bytes : List ℕ) → length bytes ≤ most_bytes → Takes bytes left left' → AppendsPrefix out out' (session p s (entries_of 0 bytes)).text → n' ≤ n + session_costs p s (entries_of 0 bytes) → StaysWithin p s (source_of left left' f f') (sink_of out out' g g') (steps_of n n')
+within_part p s left left' out out' f f' g g' n n' bytes few taken part painted = record {
+  part = part_written p s left left' out out' bytes few taken part;
+  painted = painted_part p s left left' n n' bytes few taken painted;
+  taken = record { bytes = bytes; taken = taken; few = omega arith };
+}
+
+-- all commands were answered, or a part of them
+within_whole : (p : Painter) (s : Standing) (left left' out out' : Option (List ℕ)) (f f' g g' n n' : ℕ) (bytes : List ℕ) → length bytes ≤ most_bytes → Takes bytes left left' → IfSome left' (λ rest. rest ≡ []) → AppendsPrefix out out' (session p s (entries_at_end 0 bytes)).text → n' ≤ n + session_costs p s (entries_at_end 0 bytes) → StaysWithin p s (source_of left left' f f') (sink_of out out' g g') (steps_of n n')
+within_whole p s left left' out out' f f' g g' n n' bytes few taken ended part painted = record {
+  part = end_written p s left left' out out' bytes few taken ended part;
+  painted = painted_whole p s left left' n n' bytes few taken ended painted;
+  taken = record { bytes = bytes; taken = taken; few = omega arith };
+}
+
 -- nothing was read yet
-pub read_start : (p : Painter) (s : Standing) (kept : Kept) (left out : Option (List ℕ)) (f f' g : ℕ) → kept ≡ record { lines = 0; bytes = [] } → HasRead p s s kept (source_of left left f f') (sink_of out out g g) []
-read_start p s kept left out f f' g fresh = record {
+pub read_start : (p : Painter) (s : Standing) (kept : Kept) (left out : Option (List ℕ)) (f f' g n : ℕ) → kept ≡ record { lines = 0; bytes = [] } → HasRead p s s kept (source_of left left f f') (sink_of out out g g) (steps_of n n) []
+read_start p s kept left out f f' g n fresh = record {
   few = omega arith;
   taken = takes_nothing left;
   keeps = fresh;
   stands = refl;
   written = appended_nothing out;
   writable = refl;
+  painted = omega arith;
 }
 
+-- what the commands may paint that a piece more makes whole
+costs_further : (p : Painter) (s now : Standing) (kept : Kept) (source : SourceChange) (sink : SinkChange) (steps : StepsChange) (bytes piece : List ℕ) → HasRead p s now kept source sink steps bytes → session_costs p s (entries_of 0 (bytes ++ piece)) ≡ session_costs p s (entries_of 0 bytes) + session_costs p now (entries_of kept.lines (kept.bytes ++ piece))
+costs_further p s now kept source sink steps bytes piece read =
+    let E : Kept → List Entry = λ k. entries_of k.lines (k.bytes ++ piece) in
+    let first = session_costs p s (entries_of 0 bytes) in
+    ap (session_costs p s) (entries_two 0 bytes piece)
+    ∙ costs_joined p s (entries_of 0 bytes) (E (kept_of 0 bytes))
+    ∙ ap (λ k. first + session_costs p (session p s (entries_of 0 bytes)).stands (E k)) (sym read.keeps)
+    ∙ ap (λ t. first + session_costs p t (E kept)) (sym read.stands)
+
+-- and those that are left at the end
+costs_at_end : (p : Painter) (s now : Standing) (kept : Kept) (source : SourceChange) (sink : SinkChange) (steps : StepsChange) (bytes : List ℕ) → HasRead p s now kept source sink steps bytes → session_costs p s (entries_at_end 0 bytes) ≡ session_costs p s (entries_of 0 bytes) + session_costs p now (entries_at_end kept.lines kept.bytes)
+costs_at_end p s now kept source sink steps bytes read =
+    let E : Kept → List Entry = λ k. entries_at_end k.lines k.bytes in
+    let first = session_costs p s (entries_of 0 bytes) in
+    ap (session_costs p s) (end_two 0 bytes)
+    ∙ costs_joined p s (entries_of 0 bytes) (E (kept_of 0 bytes))
+    ∙ ap (λ k. first + session_costs p (session p s (entries_of 0 bytes)).stands (E k)) (sym read.keeps)
+    ∙ ap (λ t. first + session_costs p t (E kept)) (sym read.stands)
+
 -- a piece was read, and the commands that it made whole were answered
-pub read_further : (p : Painter) (s now next : Standing) (kept kept' : Kept) (left left' left'' out out' out'' : Option (List ℕ)) (f f' f'' g g' g'' : ℕ) (bytes piece : List ℕ) → HasRead p s now kept (source_of left left' f f') (sink_of out out' g g') bytes → Takes piece left' left'' → length (bytes ++ piece) ≤ most_bytes → kept' ≡ kept_of kept.lines (kept.bytes ++ piece) → next ≡ (session p now (entries_of kept.lines (kept.bytes ++ piece))).stands → out'' ≡ appended out' (session p now (entries_of kept.lines (kept.bytes ++ piece))).text → g'' ≡ g' → HasRead p s next kept' (source_of left left'' f f'') (sink_of out out'' g g'') (bytes ++ piece)
-read_further p s now next kept kept' left left' left'' out out' out'' f f' f'' g g' g'' bytes piece read taken few keeps stands written writable =
+pub read_further : (p : Painter) (s now next : Standing) (kept kept' : Kept) (left left' left'' out out' out'' : Option (List ℕ)) (f f' f'' g g' g'' n n' n'' : ℕ) (bytes piece : List ℕ) → HasRead p s now kept (source_of left left' f f') (sink_of out out' g g') (steps_of n n') bytes → Takes piece left' left'' → length (bytes ++ piece) ≤ most_bytes → kept' ≡ kept_of kept.lines (kept.bytes ++ piece) → next ≡ (session p now (entries_of kept.lines (kept.bytes ++ piece))).stands → out'' ≡ appended out' (session p now (entries_of kept.lines (kept.bytes ++ piece))).text → g'' ≡ g' → n'' ≤ n' + session_costs p now (entries_of kept.lines (kept.bytes ++ piece)) → HasRead p s next kept' (source_of left left'' f f'') (sink_of out out'' g g'') (steps_of n n'') (bytes ++ piece)
+read_further p s now next kept kept' left left' left'' out out' out'' f f' f'' g g' g'' n n' n'' bytes piece read taken few keeps stands written writable painted =
+    let costs = costs_further p s now kept (source_of left left' f f') (sink_of out out' g g') (steps_of n n') bytes piece read in
+    let so_far = read.painted in
     let K : Kept → Kept = λ k. kept_of k.lines (k.bytes ++ piece) in
     let E : Kept → List Entry = λ k. entries_of k.lines (k.bytes ++ piece) in
     let same : E kept ≡ E (kept_of 0 bytes) = ap E read.keeps in
@@ -123,11 +208,14 @@ read_further p s now next kept kept' left left' left'' out out' out'' f f' f'' g
       stands = stands ∙ ap (λ (a : Answer). a.stands) (sym joined);
       written = written ∙ ap (λ o. appended o (session p now (E kept)).text) read.written ∙ appended_twice out _ _ ∙ ap (λ (a : Answer). appended out a.text) (sym joined);
       writable = writable ∙ read.writable;
+      painted = omega arith;
     }
 
 -- an answer stopped in the middle of a piece
-pub part_further : (p : Painter) (s now : Standing) (kept : Kept) (left left' left'' out out' out'' : Option (List ℕ)) (f f' g g' : ℕ) (bytes piece : List ℕ) → HasRead p s now kept (source_of left left' f f') (sink_of out out' g g') bytes → Takes piece left' left'' → length (bytes ++ piece) ≤ most_bytes → AppendsPrefix out' out'' (session p now (entries_of kept.lines (kept.bytes ++ piece))).text → IfSome left (λ all. AppendsPrefix out out'' (session p s (entries_read all)).text)
-part_further p s now kept left left' left'' out out' out'' f f' g g' bytes piece read taken few part =
+within_further : (p : Painter) (s now : Standing) (kept : Kept) (left left' left'' out out' out'' : Option (List ℕ)) (f f' f'' g g' g'' n n' n'' : ℕ) (bytes piece : List ℕ) → HasRead p s now kept (source_of left left' f f') (sink_of out out' g g') (steps_of n n') bytes → Takes piece left' left'' → length (bytes ++ piece) ≤ most_bytes → AppendsPrefix out' out'' (session p now (entries_of kept.lines (kept.bytes ++ piece))).text → n'' ≤ n' + session_costs p now (entries_of kept.lines (kept.bytes ++ piece)) → StaysWithin p s (source_of left left'' f f'') (sink_of out out'' g g'') (steps_of n n'')
+within_further p s now kept left left' left'' out out' out'' f f' f'' g g' g'' n n' n'' bytes piece read taken few part painted =
+    let costs = costs_further p s now kept (source_of left left' f f') (sink_of out out' g g') (steps_of n n') bytes piece read in
+    let so_far = read.painted in
     let E : Kept → List Entry = λ k. entries_of k.lines (k.bytes ++ piece) in
     let same : E kept ≡ E (kept_of 0 bytes) = ap E read.keeps in
     let joined : session p s (entries_of 0 (bytes ++ piece)) ≡ behind (session p s (entries_of 0 bytes)).text (session p now (E kept)) =
@@ -136,17 +224,17 @@ part_further p s now kept left left' left'' out out' out'' f f' g g' bytes piece
     ∙ ap (λ es. behind (session p s (entries_of 0 bytes)).text (session p (session p s (entries_of 0 bytes)).stands es)) (sym same)
     ∙ ap (λ t. behind (session p s (entries_of 0 bytes)).text (session p t (E kept))) (sym read.stands) in
     let P : Answer → Type 0 = λ a. AppendsPrefix out out'' a.text in
-    part_written p s left left'' out out'' (bytes ++ piece) few (takes_more bytes piece left left' left'' read.taken taken)
-    (subst P (sym joined) (appends_behind out out' out'' _ (session p now (E kept)).text read.written part))
+    within_part p s left left'' out out'' f f'' g g'' n n'' (bytes ++ piece) few (takes_more bytes piece left left' left'' read.taken taken)
+    (subst P (sym joined) (appends_behind out out' out'' _ (session p now (E kept)).text read.written part)) (omega arith)
 
--- what was written of it so far, where nothing more is read
-pub part_so_far : (p : Painter) (s now : Standing) (kept : Kept) (left left' out out' : Option (List ℕ)) (f f' g g' : ℕ) (bytes : List ℕ) → HasRead p s now kept (source_of left left' f f') (sink_of out out' g g') bytes → IfSome left (λ all. AppendsPrefix out out' (session p s (entries_read all)).text)
-part_so_far p s now kept left left' out out' f f' g g' bytes read =
-    part_written p s left left' out out' bytes read.few read.taken (appends_all out out' _ read.written)
+-- nothing more is read
+within_so_far : (p : Painter) (s now : Standing) (kept : Kept) (left left' out out' : Option (List ℕ)) (f f' f'' g g' n n' : ℕ) (bytes : List ℕ) → HasRead p s now kept (source_of left left' f f') (sink_of out out' g g') (steps_of n n') bytes → StaysWithin p s (source_of left left' f f'') (sink_of out out' g g') (steps_of n n')
+within_so_far p s now kept left left' out out' f f' f'' g g' n n' bytes read =
+    within_part p s left left' out out' f f'' g g' n n' bytes read.few read.taken (appends_all out out' _ read.written) read.painted
 
 -- the commands that are left at the end
-pub joined_at_end : (p : Painter) (s now : Standing) (kept : Kept) (left left' out out' : Option (List ℕ)) (f f' g g' : ℕ) (bytes : List ℕ) → HasRead p s now kept (source_of left left' f f') (sink_of out out' g g') bytes → session p s (entries_at_end 0 bytes) ≡ behind (session p s (entries_of 0 bytes)).text (session p now (entries_at_end kept.lines kept.bytes))
-joined_at_end p s now kept left left' out out' f f' g g' bytes read =
+joined_at_end : (p : Painter) (s now : Standing) (kept : Kept) (left left' out out' : Option (List ℕ)) (f f' g g' n n' : ℕ) (bytes : List ℕ) → HasRead p s now kept (source_of left left' f f') (sink_of out out' g g') (steps_of n n') bytes → session p s (entries_at_end 0 bytes) ≡ behind (session p s (entries_of 0 bytes)).text (session p now (entries_at_end kept.lines kept.bytes))
+joined_at_end p s now kept left left' out out' f f' g g' n n' bytes read =
     let E : Kept → List Entry = λ k. entries_at_end k.lines k.bytes in
     let same : E kept ≡ E (kept_of 0 bytes) = ap E read.keeps in
     ap (session p s) (end_two 0 bytes)
@@ -157,127 +245,143 @@ joined_at_end p s now kept left left' out out' f f' g g' bytes read =
 -- ---- pieces
 
 -- a piece more was read
-pub pieces_further : (p p' : Painter) → p' ≡ p → (s now next : Standing) (kept kept' : Kept) (room count taken : ℕ) (left left' left'' out out' out'' : Option (List ℕ)) (f f' f'' g g' g'' : ℕ) (bytes : List ℕ) → HasRead p s now kept (source_of left left' f f') (sink_of out out' g g') bytes → length bytes ≡ taken → ReadsPiece p' now next kept kept' room (source_of left' left'' f' f'') (sink_of out' out'' g' g'') (Ok count) → taken + room ≤ most_bytes → (more : List ℕ) × HasRead p s next kept' (source_of left left'' f f'') (sink_of out out'' g g'') more × (length more ≡ taken + count)
-pieces_further p p' painters s now next kept kept' room count taken left left' left'' out out' out'' f f' f'' g g' g'' bytes read size given fits =
-    let R : Painter → Type 0 = λ q. ReadsPiece q now next kept kept' room (source_of left' left'' f' f'') (sink_of out' out'' g' g'') (Ok count) in
+pub pieces_further : (p p' : Painter) → p' ≡ p → (s now next : Standing) (kept kept' : Kept) (room count taken : ℕ) (left left' left'' out out' out'' : Option (List ℕ)) (f f' f'' g g' g'' n n' n'' : ℕ) (bytes : List ℕ) → HasRead p s now kept (source_of left left' f f') (sink_of out out' g g') (steps_of n n') bytes → length bytes ≡ taken → ReadsPiece p' now next kept kept' room (source_of left' left'' f' f'') (sink_of out' out'' g' g'') (steps_of n' n'') (Ok count) → taken + room ≤ most_bytes → (more : List ℕ) × HasRead p s next kept' (source_of left left'' f f'') (sink_of out out'' g g'') (steps_of n n'') more × (length more ≡ taken + count)
+pieces_further p p' painters s now next kept kept' room count taken left left' left'' out out' out'' f f' f'' g g' g'' n n' n'' bytes read size given fits =
+    let R : Painter → Type 0 = λ q. ReadsPiece q now next kept kept' room (source_of left' left'' f' f'') (sink_of out' out'' g' g'') (steps_of n' n'') (Ok count) in
     let piece : R p = subst R painters given in
     let joined = length-append bytes piece.0 in
     let total : length (bytes ++ piece.0) ≡ taken + count = omega (arith, piece.2) in (
       bytes ++ piece.0,
-      read_further p s now next kept kept' left left' left'' out out' out'' f f' f'' g g' g'' bytes piece.0 read piece.1 (omega (arith, total, piece.3)) piece.5 piece.6 piece.7 piece.9,
+      read_further p s now next kept kept' left left' left'' out out' out'' f f' f'' g g' g'' n n' n'' bytes piece.0 read piece.1 (omega (arith, total, piece.3)) piece.5 piece.6 piece.7 piece.9 piece.10,
       total,
     )
 
 -- reading stopped in a piece
-stopped_by : (p : Painter) (s now next : Standing) (kept kept' : Kept) (room taken : ℕ) (left left' left'' out out' out'' : Option (List ℕ)) (f f' f'' g g' g'' : ℕ) (bytes : List ℕ) (end : End) → HasRead p s now kept (source_of left left' f f') (sink_of out out' g g') bytes → length bytes ≡ taken → taken + room ≤ most_bytes → f' ≡ f → ReadsPiece p now next kept kept' room (source_of left' left'' f' f'') (sink_of out' out'' g' g'') (Err end) → StopsSo p s (source_of left left'' f f'') (sink_of out out'' g g'') end
-stopped_by p s now next kept kept' room taken left left' left'' out out' out'' f f' f'' g g' g'' bytes Unread read size fits readable piece =
+stopped_by : (p : Painter) (s now next : Standing) (kept kept' : Kept) (room taken : ℕ) (left left' left'' out out' out'' : Option (List ℕ)) (f f' f'' g g' g'' n n' n'' : ℕ) (bytes : List ℕ) (end : End) → HasRead p s now kept (source_of left left' f f') (sink_of out out' g g') (steps_of n n') bytes → length bytes ≡ taken → taken + room ≤ most_bytes → f' ≡ f → ReadsPiece p now next kept kept' room (source_of left' left'' f' f'') (sink_of out' out'' g' g'') (steps_of n' n'') (Err end) → StopsSo p s (source_of left left'' f f'') (sink_of out out'' g g'') (steps_of n n'') end
+stopped_by p s now next kept kept' room taken left left' left'' out out' out'' f f' f'' g g' g'' n n' n'' bytes Unread read size fits readable piece =
     let same_left : left'' ≡ left' = piece.0 in
     let same_out : out'' ≡ out' = piece.2 in
-    let T : Option (List ℕ) → Type 0 = λ l. Takes bytes left l in
-    let W : Option (List ℕ) → Type 0 = λ o. WritesPart p s left out o in (
+    let same_steps : n'' ≡ n' = piece.4 in
+    let so_far = read.painted in
+    let taken : Takes bytes left left'' = let T : Option (List ℕ) → Type 0 = λ l. Takes bytes left l in subst T (sym same_left) read.taken in
+    let written : out'' ≡ appended out (session p s (entries_of 0 bytes)).text = same_out ∙ read.written in (
       record {
         bytes = bytes;
         few = read.few;
-        taken = subst T (sym same_left) read.taken;
-        written = same_out ∙ read.written;
+        taken = taken;
+        written = written;
         writable = piece.3 ∙ read.writable;
-        unreadable = subst (λ (n : ℕ). Rose n f'') readable piece.1;
+        unreadable = subst (λ (m : ℕ). Rose m f'') readable piece.1;
       },
-      subst W (sym same_out) (part_so_far p s now kept left left' out out' f f' g g' bytes read),
+      within_part p s left left'' out out'' f f'' g g'' n n'' bytes read.few taken (appends_all out out'' _ written) (omega arith),
     )
-stopped_by p s now next kept kept' room taken left left' left'' out out' out'' f f' f'' g g' g'' bytes Unwritten read size fits readable piece =
+stopped_by p s now next kept kept' room taken left left' left'' out out' out'' f f' f'' g g' g'' n n' n'' bytes Unwritten read size fits readable piece =
     let joined = length-append bytes piece.0 in (
       piece.4 ∙ readable,
-      subst (λ (n : ℕ). Rose n g'') read.writable piece.5,
-      part_further p s now kept left left' left'' out out' out'' f f' g g' bytes piece.0 read piece.1 (omega (arith, joined, piece.2)) piece.3,
+      subst (λ (m : ℕ). Rose m g'') read.writable piece.5,
+      within_further p s now kept left left' left'' out out' out'' f f' f'' g g' g'' n n' n'' bytes piece.0 read piece.1 (omega (arith, joined, piece.2)) piece.3 piece.6,
     )
-stopped_by p s now next kept kept' room taken left left' left'' out out' out'' f f' f'' g g' g'' bytes Memory read size fits readable piece =
+stopped_by p s now next kept kept' room taken left left' left'' out out' out'' f f' f'' g g' g'' n n' n'' bytes Memory read size fits readable piece =
     let joined = length-append bytes piece.0 in (
       piece.4 ∙ readable,
       piece.5 ∙ read.writable,
-      part_further p s now kept left left' left'' out out' out'' f f' g g' bytes piece.0 read piece.1 (omega (arith, joined, piece.2)) piece.3,
+      within_further p s now kept left left' left'' out out' out'' f f' f'' g g' g'' n n' n'' bytes piece.0 read piece.1 (omega (arith, joined, piece.2)) piece.3 piece.6,
     )
-stopped_by p s now next kept kept' room taken left left' left'' out out' out'' f f' f'' g g' g'' bytes Done read size fits readable piece = absurd piece
-stopped_by p s now next kept kept' room taken left left' left'' out out' out'' f f' f'' g g' g'' bytes Refused read size fits readable piece = absurd piece
-stopped_by p s now next kept kept' room taken left left' left'' out out' out'' f f' f'' g g' g'' bytes TooLong read size fits readable piece = absurd piece
+stopped_by p s now next kept kept' room taken left left' left'' out out' out'' f f' f'' g g' g'' n n' n'' bytes Done read size fits readable piece = absurd piece
+stopped_by p s now next kept kept' room taken left left' left'' out out' out'' f f' f'' g g' g'' n n' n'' bytes Refused read size fits readable piece = absurd piece
+stopped_by p s now next kept kept' room taken left left' left'' out out' out'' f f' f'' g g' g'' n n' n'' bytes TooLong read size fits readable piece = absurd piece
 
-pub pieces_stopped : (p p' : Painter) → p' ≡ p → (s now next : Standing) (kept kept' : Kept) (room taken : ℕ) (left left' left'' out out' out'' : Option (List ℕ)) (f f' f'' g g' g'' : ℕ) (bytes : List ℕ) (end : End) (result : Result Bool End) → HasRead p s now kept (source_of left left' f f') (sink_of out out' g g') bytes → length bytes ≡ taken → f' ≡ f → ReadsPiece p' now next kept kept' room (source_of left' left'' f' f'') (sink_of out' out'' g' g'') (Err end) → taken + room ≤ most_bytes → result ≡ Err end → ReadsPieces p s next kept' (source_of left left'' f f'') (sink_of out out'' g g'') result
-pieces_stopped p p' painters s now next kept kept' room taken left left' left'' out out' out'' f f' f'' g g' g'' bytes end result read size readable given fits at =
-    let R : Painter → Type 0 = λ q. ReadsPiece q now next kept kept' room (source_of left' left'' f' f'') (sink_of out' out'' g' g'') (Err end) in
-    rw at (stopped_by p s now next kept kept' room taken left left' left'' out out' out'' f f' f'' g g' g'' bytes end read size fits readable (subst R painters given))
+pub pieces_stopped : (p p' : Painter) → p' ≡ p → (s now next : Standing) (kept kept' : Kept) (room taken : ℕ) (left left' left'' out out' out'' : Option (List ℕ)) (f f' f'' g g' g'' n n' n'' : ℕ) (bytes : List ℕ) (end : End) (result : Result Bool End) → HasRead p s now kept (source_of left left' f f') (sink_of out out' g g') (steps_of n n') bytes → length bytes ≡ taken → f' ≡ f → ReadsPiece p' now next kept kept' room (source_of left' left'' f' f'') (sink_of out' out'' g' g'') (steps_of n' n'') (Err end) → taken + room ≤ most_bytes → result ≡ Err end → ReadsPieces p s next kept' (source_of left left'' f f'') (sink_of out out'' g g'') (steps_of n n'') result
+pieces_stopped p p' painters s now next kept kept' room taken left left' left'' out out' out'' f f' f'' g g' g'' n n' n'' bytes end result read size readable given fits at =
+    let R : Painter → Type 0 = λ q. ReadsPiece q now next kept kept' room (source_of left' left'' f' f'') (sink_of out' out'' g' g'') (steps_of n' n'') (Err end) in
+    rw at (stopped_by p s now next kept kept' room taken left left' left'' out out' out'' f f' f'' g g' g'' n n' n'' bytes end read size fits readable (subst R painters given))
 
 -- ---- the end
 
-pub stops_end : (U : Type 0) (p : Painter) (s : Standing) (refused : Bool) (source : SourceChange) (sink : SinkChange) (end : End) → StopsSo p s source sink end → EndsReading {U = U} p s refused source sink (Err end)
-stops_end U p s refused source sink Unread stops = stops.0
-stops_end U p s refused source sink Unwritten stops = (stops.0, stops.1)
-stops_end U p s refused source sink Memory stops = (stops.0, stops.1)
-stops_end U p s refused source sink Done stops = absurd stops
-stops_end U p s refused source sink Refused stops = absurd stops
-stops_end U p s refused source sink TooLong stops = absurd stops
+pub stops_end : (U : Type 0) (p : Painter) (s : Standing) (refused : Bool) (source : SourceChange) (sink : SinkChange) (steps : StepsChange) (end : End) → StopsSo p s source sink steps end → EndsReading {U = U} p s refused source sink (Err end)
+stops_end U p s refused source sink steps Unread stops = stops.0
+stops_end U p s refused source sink steps Unwritten stops = (stops.0, stops.1)
+stops_end U p s refused source sink steps Memory stops = (stops.0, stops.1)
+stops_end U p s refused source sink steps Done stops = absurd stops
+stops_end U p s refused source sink steps Refused stops = absurd stops
+stops_end U p s refused source sink steps TooLong stops = absurd stops
 
-pub stops_part : (p : Painter) (s : Standing) (source : SourceChange) (sink : SinkChange) (end : End) → StopsSo p s source sink end → WritesPart p s source.before sink.before sink.after
-stops_part p s source sink Unread stops = stops.1
-stops_part p s source sink Unwritten stops = stops.2
-stops_part p s source sink Memory stops = stops.2
-stops_part p s source sink Done stops = absurd stops
-stops_part p s source sink Refused stops = absurd stops
-stops_part p s source sink TooLong stops = absurd stops
+pub stops_within : (p : Painter) (s : Standing) (source : SourceChange) (sink : SinkChange) (steps : StepsChange) (end : End) → StopsSo p s source sink steps end → StaysWithin p s source sink steps
+stops_within p s source sink steps Unread stops = stops.1
+stops_within p s source sink steps Unwritten stops = stops.2
+stops_within p s source sink steps Memory stops = stops.2
+stops_within p s source sink steps Done stops = absurd stops
+stops_within p s source sink steps Refused stops = absurd stops
+stops_within p s source sink steps TooLong stops = absurd stops
 
 takes_none : (before after : Option (List ℕ)) → Takes [] before after → before ≡ after
 takes_none before None taken = taken
 takes_none before (Some rest) taken = taken
 
 -- the end wasn't reached: there are more bytes, or the next read failed
-pub over_end : (U V : Type 0) (p : Painter) (s now : Standing) (refused ended : Bool) (kept : Kept) (left left' left'' out out' : Option (List ℕ)) (f f' f'' g g' : ℕ) (bytes : List ℕ) (end : End) → HasRead p s now kept (source_of left left' f f') (sink_of out out' g g') bytes → StandsAt ended (source_of left left' f f') bytes → f' ≡ f → ReachesEnd {U = V} ended left' left'' f' f'' (Err end) → EndsReading {U = U} p s refused (source_of left left'' f f'') (sink_of out out' g g') (Err end)
-over_end U V p s now refused true kept left left' left'' out out' f f' f'' g g' bytes end read at readable reached = absurd reached
-over_end U V p s now refused false kept left left' left'' out out' f f' f'' g g' bytes TooLong read at readable reached = record {
-  bytes = bytes;
-  more = reached.0;
-  most = at;
-  some = reached.1;
-  taken = takes_more bytes reached.0 left left' left'' read.taken reached.2;
-  written = read.written;
-  readable = reached.3 ∙ readable;
-  writable = read.writable;
-}
-over_end U V p s now refused false kept left left' left'' out out' f f' f'' g g' bytes Unread read at readable reached =
-    let T : Option (List ℕ) → Type 0 = λ l. Takes bytes left l in
-    record {
-      bytes = bytes;
-      few = read.few;
-      taken = subst T (sym reached.0) read.taken;
-      written = read.written;
-      writable = read.writable;
-      unreadable = subst (λ (n : ℕ). Rose n f'') readable reached.1;
-    }
-over_end U V p s now refused false kept left left' left'' out out' f f' f'' g g' bytes Done read at readable reached = absurd reached
-over_end U V p s now refused false kept left left' left'' out out' f f' f'' g g' bytes Refused read at readable reached = absurd reached
-over_end U V p s now refused false kept left left' left'' out out' f f' f'' g g' bytes Unwritten read at readable reached = absurd reached
-over_end U V p s now refused false kept left left' left'' out out' f f' f'' g g' bytes Memory read at readable reached = absurd reached
+pub over_end : (U V : Type 0) (p : Painter) (s now : Standing) (refused ended : Bool) (kept : Kept) (left left' left'' out out' : Option (List ℕ)) (f f' f'' g g' n n' : ℕ) (bytes : List ℕ) (end : End) → HasRead p s now kept (source_of left left' f f') (sink_of out out' g g') (steps_of n n') bytes → StandsAt ended (source_of left left' f f') bytes → f' ≡ f → ReachesEnd {U = V} ended left' left'' f' f'' (Err end) → EndsReading {U = U} p s refused (source_of left left'' f f'') (sink_of out out' g g') (Err end) × StaysWithin p s (source_of left left'' f f'') (sink_of out out' g g') (steps_of n n')
+over_end U V p s now refused true kept left left' left'' out out' f f' f'' g g' n n' bytes end read at readable reached = absurd reached
+over_end U V p s now refused false kept left left' left'' out out' f f' f'' g g' n n' bytes TooLong read at readable reached =
+    let within = within_so_far p s now kept left left' out out' f f' f'' g g' n n' bytes read in
+    let taken = takes_more bytes reached.0 left left' left'' read.taken reached.2 in
+    let joined = length-append bytes reached.0 in (
+      record {
+        bytes = bytes;
+        more = reached.0;
+        most = at;
+        one = reached.1;
+        taken = taken;
+        written = read.written;
+        readable = reached.3 ∙ readable;
+        writable = read.writable;
+      },
+      record {
+        part = within.part;
+        painted = within.painted;
+        taken = record { bytes = bytes ++ reached.0; taken = taken; few = omega (arith, joined, at, reached.1) };
+      },
+    )
+over_end U V p s now refused false kept left left' left'' out out' f f' f'' g g' n n' bytes Unread read at readable reached =
+    let taken : Takes bytes left left'' = let T : Option (List ℕ) → Type 0 = λ l. Takes bytes left l in subst T (sym reached.0) read.taken in (
+      record {
+        bytes = bytes;
+        few = read.few;
+        taken = taken;
+        written = read.written;
+        writable = read.writable;
+        unreadable = subst (λ (m : ℕ). Rose m f'') readable reached.1;
+      },
+      within_part p s left left'' out out' f f'' g g' n n' bytes read.few taken (appends_all out out' _ read.written) read.painted,
+    )
+over_end U V p s now refused false kept left left' left'' out out' f f' f'' g g' n n' bytes Done read at readable reached = absurd reached
+over_end U V p s now refused false kept left left' left'' out out' f f' f'' g g' n n' bytes Refused read at readable reached = absurd reached
+over_end U V p s now refused false kept left left' left'' out out' f f' f'' g g' n n' bytes Unwritten read at readable reached = absurd reached
+over_end U V p s now refused false kept left left' left'' out out' f f' f'' g g' n n' bytes Memory read at readable reached = absurd reached
 
 -- the end was reached
-pub reached_end : (V : Type 0) (p : Painter) (s now : Standing) (ended : Bool) (kept : Kept) (left left' left'' out out' : Option (List ℕ)) (f f' f'' g g' : ℕ) (bytes : List ℕ) (done : V) → HasRead p s now kept (source_of left left' f f') (sink_of out out' g g') bytes → StandsAt ended (source_of left left' f f') bytes → f' ≡ f → ReachesEnd ended left' left'' f' f'' (Ok done) → HasRead p s now kept (source_of left left'' f f'') (sink_of out out' g g') bytes × IfSome left'' (λ rest. rest ≡ []) × (f'' ≡ f)
-reached_end V p s now true kept left left' left'' out out' f f' f'' g g' bytes done read at readable reached =
+pub reached_end : (V : Type 0) (p : Painter) (s now : Standing) (ended : Bool) (kept : Kept) (left left' left'' out out' : Option (List ℕ)) (f f' f'' g g' n n' : ℕ) (bytes : List ℕ) (done : V) → HasRead p s now kept (source_of left left' f f') (sink_of out out' g g') (steps_of n n') bytes → StandsAt ended (source_of left left' f f') bytes → f' ≡ f → ReachesEnd ended left' left'' f' f'' (Ok done) → HasRead p s now kept (source_of left left'' f f'') (sink_of out out' g g') (steps_of n n') bytes × IfSome left'' (λ rest. rest ≡ []) × (f'' ≡ f)
+reached_end V p s now true kept left left' left'' out out' f f' f'' g g' n n' bytes done read at readable reached =
     let same : left'' ≡ left' = reached.0 in
     let T : Option (List ℕ) → Type 0 = λ l. Takes bytes left l in
     let E : Option (List ℕ) → Type 0 = λ l. IfSome l (λ rest. rest ≡ []) in
-    (record { few = read.few; taken = subst T (sym same) read.taken; keeps = read.keeps; stands = read.stands; written = read.written; writable = read.writable }, subst E (sym same) at, reached.1 ∙ readable)
-reached_end V p s now false kept left left' left'' out out' f f' f'' g g' bytes done read at readable reached =
+    (record { few = read.few; taken = subst T (sym same) read.taken; keeps = read.keeps; stands = read.stands; written = read.written; writable = read.writable; painted = read.painted }, subst E (sym same) at, reached.1 ∙ readable)
+reached_end V p s now false kept left left' left'' out out' f f' f'' g g' n n' bytes done read at readable reached =
     let same : left' ≡ left'' = takes_none left' left'' reached.0 in
     let T : Option (List ℕ) → Type 0 = λ l. Takes bytes left l in
-    (record { few = read.few; taken = subst T same read.taken; keeps = read.keeps; stands = read.stands; written = read.written; writable = read.writable }, reached.1, reached.2 ∙ readable)
+    (record { few = read.few; taken = subst T same read.taken; keeps = read.keeps; stands = read.stands; written = read.written; writable = read.writable; painted = read.painted }, reached.1, reached.2 ∙ readable)
 
-end_part : (p : Painter) (s now : Standing) (kept : Kept) (left left' out out' out'' : Option (List ℕ)) (f f' g g' : ℕ) (bytes : List ℕ) → HasRead p s now kept (source_of left left' f f') (sink_of out out' g g') bytes → IfSome left' (λ rest. rest ≡ []) → AppendsPrefix out' out'' (session p now (entries_at_end kept.lines kept.bytes)).text → WritesPart p s left out out''
-end_part p s now kept left left' out out' out'' f f' g g' bytes read ended part =
+within_end : (p : Painter) (s now : Standing) (kept : Kept) (left left' out out' out'' : Option (List ℕ)) (f f' g g' g'' n n' n'' : ℕ) (bytes : List ℕ) → HasRead p s now kept (source_of left left' f f') (sink_of out out' g g') (steps_of n n') bytes → IfSome left' (λ rest. rest ≡ []) → AppendsPrefix out' out'' (session p now (entries_at_end kept.lines kept.bytes)).text → n'' ≤ n' + session_costs p now (entries_at_end kept.lines kept.bytes) → StaysWithin p s (source_of left left' f f') (sink_of out out'' g g'') (steps_of n n'')
+within_end p s now kept left left' out out' out'' f f' g g' g'' n n' n'' bytes read ended part painted =
+    let costs = costs_at_end p s now kept (source_of left left' f f') (sink_of out out' g g') (steps_of n n') bytes read in
+    let so_far = read.painted in
     let P : Answer → Type 0 = λ a. AppendsPrefix out out'' a.text in
-    end_written p s left left' out out'' bytes read.few read.taken ended
-    (subst P (sym (joined_at_end p s now kept left left' out out' f f' g g' bytes read)) (appends_behind out out' out'' _ (session p now (entries_at_end kept.lines kept.bytes)).text read.written part))
+    within_whole p s left left' out out'' f f' g g'' n n'' bytes read.few read.taken ended
+    (subst P (sym (joined_at_end p s now kept left left' out out' f f' g g' n n' bytes read)) (appends_behind out out' out'' _ (session p now (entries_at_end kept.lines kept.bytes)).text read.written part)) (omega arith)
 
 -- the commands that are left were answered
-finished_by : (U : Type 0) (p : Painter) (s now next : Standing) (kept : Kept) (left left' out out' out'' : Option (List ℕ)) (f f' g g' g'' : ℕ) (bytes : List ℕ) (result : Result U End) → HasRead p s now kept (source_of left left' f f') (sink_of out out' g g') bytes → IfSome left' (λ rest. rest ≡ []) → f' ≡ f → Answers (session p now (entries_at_end kept.lines kept.bytes)) next (sink_of out' out'' g' g'') result → EndsReading p s next.refused (source_of left left' f f') (sink_of out out'' g g'') result × WritesPart p s left out out''
-finished_by U p s now next kept left left' out out' out'' f f' g g' g'' bytes (Ok done) read ended readable answered =
-    let joined = joined_at_end p s now kept left left' out out' f f' g g' bytes read in
+finished_by : (U : Type 0) (p : Painter) (s now next : Standing) (kept : Kept) (left left' out out' out'' : Option (List ℕ)) (f f' g g' g'' n n' n'' : ℕ) (bytes : List ℕ) (result : Result U End) → HasRead p s now kept (source_of left left' f f') (sink_of out out' g g') (steps_of n n') bytes → IfSome left' (λ rest. rest ≡ []) → f' ≡ f → Answers (session p now (entries_at_end kept.lines kept.bytes)) next (sink_of out' out'' g' g'') result → n'' ≤ n' + session_costs p now (entries_at_end kept.lines kept.bytes) → EndsReading p s next.refused (source_of left left' f f') (sink_of out out'' g g'') result × StaysWithin p s (source_of left left' f f') (sink_of out out'' g g'') (steps_of n n'')
+finished_by U p s now next kept left left' out out' out'' f f' g g' g'' n n' n'' bytes (Ok done) read ended readable answered painted =
+    let joined = joined_at_end p s now kept left left' out out' f f' g g' n n' bytes read in
     let rest = session p now (entries_at_end kept.lines kept.bytes) in
     let whole : out'' ≡ appended out (session p s (entries_at_end 0 bytes)).text =
     answered.0 ∙ ap (λ o. appended o rest.text) read.written ∙ appended_twice out _ _ ∙ ap (λ (a : Answer). appended out a.text) (sym joined) in (
@@ -291,23 +395,19 @@ finished_by U p s now next kept left left' out out' out'' f f' g g' g'' bytes (O
         readable = readable;
         writable = answered.2 ∙ read.writable;
       },
-      end_written p s left left' out out'' bytes read.few read.taken ended (appends_all out out'' _ whole),
+      within_end p s now kept left left' out out' out'' f f' g g' g'' n n' n'' bytes read ended (appends_all out' out'' _ answered.0) painted,
     )
-finished_by U p s now next kept left left' out out' out'' f f' g g' g'' bytes (Err Unwritten) read ended readable answered =
-    ((readable, subst (λ (n : ℕ). Rose n g'') read.writable answered.1), end_part p s now kept left left' out out' out'' f f' g g' bytes read ended answered.0)
-finished_by U p s now next kept left left' out out' out'' f f' g g' g'' bytes (Err Memory) read ended readable answered =
-    ((readable, answered.1 ∙ read.writable), end_part p s now kept left left' out out' out'' f f' g g' bytes read ended answered.0)
-finished_by U p s now next kept left left' out out' out'' f f' g g' g'' bytes (Err Done) read ended readable answered = absurd answered
-finished_by U p s now next kept left left' out out' out'' f f' g g' g'' bytes (Err Refused) read ended readable answered = absurd answered
-finished_by U p s now next kept left left' out out' out'' f f' g g' g'' bytes (Err TooLong) read ended readable answered = absurd answered
-finished_by U p s now next kept left left' out out' out'' f f' g g' g'' bytes (Err Unread) read ended readable answered = absurd answered
+finished_by U p s now next kept left left' out out' out'' f f' g g' g'' n n' n'' bytes (Err Unwritten) read ended readable answered painted =
+    ((readable, subst (λ (m : ℕ). Rose m g'') read.writable answered.1), within_end p s now kept left left' out out' out'' f f' g g' g'' n n' n'' bytes read ended answered.0 painted)
+finished_by U p s now next kept left left' out out' out'' f f' g g' g'' n n' n'' bytes (Err Memory) read ended readable answered painted =
+    ((readable, answered.1 ∙ read.writable), within_end p s now kept left left' out out' out'' f f' g g' g'' n n' n'' bytes read ended answered.0 painted)
+finished_by U p s now next kept left left' out out' out'' f f' g g' g'' n n' n'' bytes (Err Done) read ended readable answered painted = absurd answered
+finished_by U p s now next kept left left' out out' out'' f f' g g' g'' n n' n'' bytes (Err Refused) read ended readable answered painted = absurd answered
+finished_by U p s now next kept left left' out out' out'' f f' g g' g'' n n' n'' bytes (Err TooLong) read ended readable answered painted = absurd answered
+finished_by U p s now next kept left left' out out' out'' f f' g g' g'' n n' n'' bytes (Err Unread) read ended readable answered painted = absurd answered
 
-pub finished : (U : Type 0) (p p' : Painter) → p' ≡ p → (s now next : Standing) (kept : Kept) (left left' out out' out'' : Option (List ℕ)) (f f' g g' g'' : ℕ) (bytes : List ℕ) (result : Result U End) → HasRead p s now kept (source_of left left' f f') (sink_of out out' g g') bytes → IfSome left' (λ rest. rest ≡ []) → f' ≡ f → Answers (session p' now (entries_at_end kept.lines kept.bytes)) next (sink_of out' out'' g' g'') result → EndsReading p s next.refused (source_of left left' f f') (sink_of out out'' g g'') result × WritesPart p s left out out''
-finished U p p' painters s now next kept left left' out out' out'' f f' g g' g'' bytes result read ended readable answered =
+pub finished : (U : Type 0) (p p' : Painter) → p' ≡ p → (s now next : Standing) (kept : Kept) (left left' out out' out'' : Option (List ℕ)) (f f' g g' g'' n n' n'' : ℕ) (bytes : List ℕ) (result : Result U End) → HasRead p s now kept (source_of left left' f f') (sink_of out out' g g') (steps_of n n') bytes → IfSome left' (λ rest. rest ≡ []) → f' ≡ f → Answers (session p' now (entries_at_end kept.lines kept.bytes)) next (sink_of out' out'' g' g'') result → n'' ≤ n' + session_costs p' now (entries_at_end kept.lines kept.bytes) → EndsReading p s next.refused (source_of left left' f f') (sink_of out out'' g g'') result × StaysWithin p s (source_of left left' f f') (sink_of out out'' g g'') (steps_of n n'')
+finished U p p' painters s now next kept left left' out out' out'' f f' g g' g'' n n' n'' bytes result read ended readable answered painted =
     let A : Painter → Type 0 = λ q. Answers (session q now (entries_at_end kept.lines kept.bytes)) next (sink_of out' out'' g' g'') result in
-    finished_by U p s now next kept left left' out out' out'' f f' g g' g'' bytes result read ended readable (subst A painters answered)
-
--- nothing was read, for want of memory
-pub unread_part : (p : Painter) (s : Standing) (left out : Option (List ℕ)) → WritesPart p s left out out
-unread_part p s None out = tt
-unread_part p s (Some bytes) out = (0, appended_nothing out)
+    let C : Painter → Type 0 = λ q. n'' ≤ n' + session_costs q now (entries_at_end kept.lines kept.bytes) in
+    finished_by U p s now next kept left left' out out' out'' f f' g g' g'' n n' n'' bytes result read ended readable (subst A painters answered) (subst C painters painted)

@@ -1,5 +1,5 @@
 -- A session goes on where its part before left off.
-use Rattle.std.proofs.Common.{◌≡◌, ℕ, zero, suc, ◌+◌, List, [], ◌∷◌, ◌++◌, length, take, refl, ap, sym, subst, ◌∙◌, append_assoc, zero-add, arith}
+use Rattle.std.proofs.Common.{◌≡◌, ℕ, zero, suc, ◌+◌, ◌≤◌, List, [], ◌∷◌, ◌++◌, length, take, refl, ap, sym, subst, ◌∙◌, append_assoc, zero-add, arith}
 use Rattle.std.specs.Prelude.{Option, Some, None, Result, Err}
 use Rattle.std.proofs.Math.Seq.{take-length}
 use Rattle.std.proofs.lemmas.List.{append-nil}
@@ -10,7 +10,7 @@ use Rattle.edit_session.specs.declared.reading.End.{End}
 use Rattle.edit_session.specs.declared.reading.End.TheVariants.{Done, Refused, TooLong, Unread, Unwritten, Memory}
 use Rattle.edit_session.specs.Painter.{Painter}
 use Rattle.edit_session.specs.Steps.{Answers}
-use Rattle.edit_session.specs.Session.{Answer, Standing, answers, behind, session}
+use Rattle.edit_session.specs.Session.{Answer, Standing, answers, behind, entry_costs, session, session_costs}
 
 behind_behind : (one two : List ℕ) (answer : Answer) → behind one (behind two answer) ≡ behind (one ++ two) answer
 behind_behind one two answer = ap (λ text. record { text = text; stands = answer.stands }) (sym (append_assoc one two answer.text))
@@ -21,6 +21,12 @@ session_joined p s (entry ∷ first) second =
     let own = answers p s entry.line entry.what in
     ap (behind own.text) (session_joined p own.stands first second)
     ∙ behind_behind own.text (session p own.stands first).text (session p (session p own.stands first).stands second)
+
+-- what two parts of a session may paint
+pub costs_joined : (p : Painter) (s : Standing) (first second : List Entry) → session_costs p s (first ++ second) ≡ session_costs p s first + session_costs p (session p s first).stands second
+costs_joined p s [] second = sym (zero-add (session_costs p s second))
+costs_joined p s (entry ∷ first) second =
+    let rest = costs_joined p (answers p s entry.line entry.what).stands first second in omega arith
 
 -- ---- what is appended
 
@@ -67,6 +73,16 @@ answered_further p now next entry rest text whole out0 out out' is so_far writte
       written ∙ ap (λ o. appended o own.text) so_far ∙ appended_twice out0 text own.text,
       is ∙ behind_behind text own.text (session p own.stands rest) ∙ ap (λ s. behind (text ++ own.text) (session p s rest)) (sym stands),
     )
+
+-- with what those to come may paint, no more were painted than all may
+pub painted_further : (p : Painter) (now next : Standing) (entry : Entry) (rest : List Entry) (steps more most : ℕ) → steps + session_costs p now (entry ∷ rest) ≤ most → more ≤ steps + entry_costs p now entry → next ≡ (answers p now entry.line entry.what).stands → more + session_costs p next rest ≤ most
+painted_further p now next entry rest steps more most so_far painted stands =
+    let same : session_costs p next rest ≡ session_costs p (answers p now entry.line entry.what).stands rest =
+    ap (λ s. session_costs p s rest) stands in
+    omega arith
+
+pub painted_last : (p : Painter) (now : Standing) (entry : Entry) (rest : List Entry) (steps more most : ℕ) → steps + session_costs p now (entry ∷ rest) ≤ most → more ≤ steps + entry_costs p now entry → more ≤ most
+painted_last p now entry rest steps more most so_far painted = omega arith
 
 -- it was stopped in the middle of a command
 pub answered_part : (p : Painter) (now : Standing) (entry : Entry) (rest : List Entry) (text : List ℕ) (whole : Answer) (out0 out out' : Option (List ℕ)) → whole ≡ behind text (session p now (entry ∷ rest)) → out ≡ appended out0 text → AppendsPrefix out out' (answers p now entry.line entry.what).text → AppendsPrefix out0 out' whole.text

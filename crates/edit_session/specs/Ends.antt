@@ -1,5 +1,5 @@
 -- How a session over a source and a sink ends.
-use Rattle.std.specs.Prelude.{◌≡◌, ℕ, ◌<◌, ◌≤◌, Bool, true, false, List, [], ◌++◌, length, Option, IfSome, option_map}
+use Rattle.std.specs.Prelude.{◌≡◌, ℕ, ◌≤◌, Bool, true, false, List, [], ◌++◌, length, Option, IfSome, option_map}
 use Rattle.syn_base.specs.Causes.{Rose}
 use Rattle.syn_base.specs.Outside.{appended}
 use Rattle.edit_script.specs.Entries.{entries_at_end, entries_of}
@@ -26,6 +26,12 @@ pub record SinkChange : Type 0 where
 abbrev pub Takes : List ℕ → Option (List ℕ) → Option (List ℕ) → Type 0
 Takes bytes before after = before ≡ option_map (λ rest. bytes ++ rest) after
 
+-- where told, at most so many bytes were taken of a script: 64 MiB, and one behind them
+pub record TakesFew (source : SourceChange) : Type 0 where
+  pub bytes : List ℕ
+  pub taken : Takes bytes source.before source.after
+  pub few : length bytes ≤ 67108865
+
 -- the script was read to its end, and all that its commands print was written
 pub record ReadsToEnd (p : Painter) (s : Standing) (refused : Bool) (source : SourceChange) (sink : SinkChange) : Type 0 where
   pub bytes : List ℕ
@@ -37,13 +43,13 @@ pub record ReadsToEnd (p : Painter) (s : Standing) (refused : Bool) (source : So
   pub readable : source.faults_after ≡ source.faults
   pub writable : sink.faults_after ≡ sink.faults
 
--- there are more bytes than are read of a script; what the commands print whose last line is whole within
--- the most bytes was written
+-- there are more bytes than are read of a script, of which one was taken; what the commands print whose last
+-- line is whole within the most bytes was written
 pub record ReadsOver (p : Painter) (s : Standing) (source : SourceChange) (sink : SinkChange) : Type 0 where
   pub bytes : List ℕ
   pub more : List ℕ
   pub most : length bytes ≡ most_bytes
-  pub some : 0 < length more
+  pub one : length more ≡ 1
   pub taken : Takes (bytes ++ more) source.before source.after
   pub written : sink.after ≡ appended sink.before (session p s (entries_of 0 bytes)).text
   pub readable : source.faults_after ≡ source.faults

@@ -12,6 +12,8 @@ pub record Painter : Type 0 where
   -- which lines are told, least first, where the spans of the lines were these and are those, and lines a
   -- to b, b excluded, became so many new ones
   pub report : List (List Span) → List (List Span) → ℕ → ℕ → ℕ → List ℕ
+  -- how many lines may be painted, at most, where this text is changed so
+  pub costs : List (List ℕ) → Replacement → ℕ
   -- the span lines of the line of this number, from 0; a line without spans is told too
   pub line : ℕ → List Span → List ℕ
   -- the page of a painted text

@@ -1,6 +1,6 @@
 -- A session of edits: the commands of a script, carried out one after the other on the text as it is. The
 -- text is painted anew, from its first line on, at each command that changes it.
-use Rattle.std.specs.Prelude.{ℕ, ◌+◌, ◌-◌, nat_lt, Bool, true, false, List, [], ◌∷◌, ◌++◌, length, take, slice_range, get_or, Result, Ok, Err, if◌then◌else◌}
+use Rattle.std.specs.Prelude.{ℕ, ◌+◌, ◌-◌, nat_lt, Bool, true, false, List, [], ◌∷◌, ◌++◌, length, take, slice_range, get_or, Option, Some, None, Result, Ok, Err, if◌then◌else◌}
 use Rattle.std.specs.List.{range_with_len}
 use Rattle.syn_base.specs.declared.places.Span.{Span}
 use Rattle.command_print.specs.CommandText.{head_text, refusal_text}
@@ -10,7 +10,7 @@ use Rattle.edit_script.specs.declared.commands.ResolveError.{ResolveError}
 use Rattle.edit_script.specs.declared.commands.Resolved.{Resolved}
 use Rattle.edit_script.specs.declared.commands.Resolved.TheVariants.{Replace, Move, CopyTo, Print, Page}
 use Rattle.edit_script.specs.declared.commands.ScriptFault.{ScriptFault}
-use Rattle.edit_script.specs.Edits.{Replacement, moved, put_in_place, replaced, resolved_of}
+use Rattle.edit_script.specs.Edits.{Replacement, edit_of, moved, put_in_place, replaced, resolved_of}
 use Rattle.edit_script.specs.Entries.{entries_at_end, entries_of}
 use Rattle.edit_session.specs.Causes.{fault_label, misfit_text}
 use Rattle.edit_session.specs.Painter.{Painter, Painted, told_lines}
@@ -90,6 +90,31 @@ session p s [] = record { text = []; stands = s }
 session p s (entry ∷ entries) =
     let own = answers p s entry.line entry.what in behind own.text (session p own.stands entries)
 
+-- ---- how many lines it may paint
+
+-- those of the change that a command comes to, where it comes to one
+abbrev pub change_costs : Painter → List (List ℕ) → Result (Option Replacement) ResolveError → ℕ
+change_costs p text (Ok (Some r)) = p.costs text r
+change_costs p text (Ok None) = 0
+change_costs p text (Err misfit) = 0
+
+-- what stands in a line of the script: what is no command paints nothing
+abbrev pub what_costs : Painter → List (List ℕ) → Result EditCommand ScriptFault → ℕ
+what_costs p text (Ok command) = change_costs p text (edit_of text command)
+what_costs p text (Err fault) = 0
+
+-- on the text as it is then; a change whose painting is refused counts too
+abbrev pub entry_costs : Painter → Standing → Entry → ℕ
+entry_costs p s entry = what_costs p s.painted.text entry.what
+
+-- each command on what stands behind those before it
+abbrev pub session_costs : Painter → Standing → List Entry → ℕ
+session_costs p s [] = 0
+session_costs p s (entry ∷ entries) =
+    entry_costs p s entry + session_costs p (answers p s entry.line entry.what).stands entries
+
+-- ---- its bytes
+
 -- the most bytes of a script, 64 MiB
 abbrev pub most_bytes : ℕ
 most_bytes = 67108864
@@ -105,3 +130,7 @@ entries_read bytes = if is_too_long bytes then entries_of 0 (take most_bytes byt
 -- the session of a script, from its bytes
 abbrev pub script_session : Painter → Painted → List ℕ → Answer
 script_session p painted bytes = session p (start painted) (entries_read bytes)
+
+-- how many lines it may paint
+abbrev pub script_costs : Painter → Painted → List ℕ → ℕ
+script_costs p painted bytes = session_costs p (start painted) (entries_read bytes)

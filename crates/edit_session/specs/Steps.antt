@@ -1,18 +1,19 @@
 -- What the steps of a session say.
-use Rattle.std.specs.Prelude.{◌≡◌, ℕ, ◌+◌, ◌-◌, ◌<◌, ◌≤◌, Bool, true, false, List, [], ◌++◌, length, take, Option, IfSome, Result, Ok, Err, ⊤}
+use Rattle.std.specs.Prelude.{◌≡◌, ℕ, ◌+◌, ◌-◌, ◌≤◌, Bool, true, false, List, [], ◌++◌, length, take, Option, IfSome, Result, Ok, Err, ⊤}
 use Rattle.syn_base.specs.declared.places.Span.{Span}
 use Rattle.syn_base.specs.Causes.{Rose}
 use Rattle.syn_base.specs.Outside.{AppendsPrefix, appended}
 use Rattle.edit_session.specs.declared.reading.End.{End}
 use Rattle.edit_session.specs.declared.reading.End.TheVariants.{Done, Refused, TooLong, Unread, Unwritten, Memory}
 use Rattle.text_buffer.specs.TextOfBytes.{most_lines}
+use Rattle.edit_script.specs.declared.commands.Entry.{Entry}
 use Rattle.edit_script.specs.declared.commands.Resolved.{Resolved}
 use Rattle.edit_script.specs.declared.commands.Resolved.TheVariants.{Replace, Move, CopyTo, Print, Page}
 use Rattle.edit_script.specs.Entries.{entries_of, kept_of}
 use Rattle.edit_script.specs.Kept.{Kept}
-use Rattle.edit_session.specs.Ends.{FailsBehind, ReadsOver, ReadsToEnd, SinkChange, SourceChange, Takes}
+use Rattle.edit_session.specs.Ends.{FailsBehind, ReadsOver, ReadsToEnd, SinkChange, SourceChange, Takes, TakesFew}
 use Rattle.edit_session.specs.Painter.{Painter}
-use Rattle.edit_session.specs.Session.{Answer, Standing, entries_read, most_bytes, session}
+use Rattle.edit_session.specs.Session.{Answer, Standing, entries_read, most_bytes, session, session_costs}
 
 -- what stands, by the document and the counts
 abbrev pub standing : {D : Type 0} → (D → List (List ℕ)) → (D → List (List Span)) → D → ℕ → Bool → Standing
@@ -58,22 +59,36 @@ TakesBytes before after faults faults_after buffer (Ok count) =
 TakesBytes before after faults faults_after buffer (Err Unread) = (after ≡ before) × Rose faults faults_after
 TakesBytes before after faults faults_after buffer (Err end) = ⊥
 
+-- a count of painted lines before and after a call
+pub record StepsChange : Type 0 where
+  pub before : ℕ
+  pub after : ℕ
+
+-- it rose by the lines that these commands may paint, at most
+abbrev pub PaintsFew : Painter → Standing → StepsChange → List Entry → Type 0
+PaintsFew p s steps entries = steps.after ≤ steps.before + session_costs p s entries
+
 -- these bytes were taken, and the commands whose last line is whole in them were answered
-pub record HasRead (p : Painter) (s now : Standing) (kept : Kept) (source : SourceChange) (sink : SinkChange) (bytes : List ℕ) : Type 0 where
+pub record HasRead (p : Painter) (s now : Standing) (kept : Kept) (source : SourceChange) (sink : SinkChange) (steps : StepsChange) (bytes : List ℕ) : Type 0 where
   pub few : length bytes ≤ most_bytes
   pub taken : Takes bytes source.before source.after
   pub keeps : kept ≡ kept_of 0 bytes
   pub stands : now ≡ (session p s (entries_of 0 bytes)).stands
   pub written : sink.after ≡ appended sink.before (session p s (entries_of 0 bytes)).text
   pub writable : sink.faults_after ≡ sink.faults
+  pub painted : PaintsFew p s steps (entries_of 0 bytes)
 
--- where the source tells, a part of what its script prints was written
-abbrev pub WritesPart : Painter → Standing → Option (List ℕ) → Option (List ℕ) → Option (List ℕ) → Type 0
-WritesPart p s left out out' = IfSome left (λ bytes. AppendsPrefix out out' (session p s (entries_read bytes)).text)
+-- no more happened than the script asks for: where the source tells, a part of what its script prints was written, and
+-- as many lines were painted as it may paint, at most; and few bytes were taken
+pub record StaysWithin (p : Painter) (s : Standing) (source : SourceChange) (sink : SinkChange) (steps : StepsChange) : Type 0 where
+  pub part : IfSome source.before (λ bytes. AppendsPrefix sink.before sink.after (session p s (entries_read bytes)).text)
+  pub painted : IfSome source.before (λ bytes. PaintsFew p s steps (entries_read bytes))
+  pub taken : TakesFew source
 
 -- a piece was taken and fed, and the commands that became whole were answered; or something failed in it
-abbrev pub ReadsPiece : Painter → Standing → Standing → Kept → Kept → ℕ → SourceChange → SinkChange → Result ℕ End → Type 0
-ReadsPiece p now next kept kept' room source sink (Ok count) =
+abbrev pub ReadsPiece :
+    Painter → Standing → Standing → Kept → Kept → ℕ → SourceChange → SinkChange → StepsChange → Result ℕ End → Type 0
+ReadsPiece p now next kept kept' room source sink steps (Ok count) =
     (piece : List ℕ)
     × Takes piece source.before source.after
     × (length piece ≡ count)
@@ -84,23 +99,30 @@ ReadsPiece p now next kept kept' room source sink (Ok count) =
     × (sink.after ≡ appended sink.before (session p now (entries_of kept.lines (kept.bytes ++ piece))).text)
     × (source.faults_after ≡ source.faults)
     × (sink.faults_after ≡ sink.faults)
-ReadsPiece p now next kept kept' room source sink (Err Unread) =
-    (source.after ≡ source.before) × Rose source.faults source.faults_after × (sink.after ≡ sink.before) × (sink.faults_after ≡ sink.faults)
-ReadsPiece p now next kept kept' room source sink (Err Unwritten) =
+    × PaintsFew p now steps (entries_of kept.lines (kept.bytes ++ piece))
+ReadsPiece p now next kept kept' room source sink steps (Err Unread) =
+    (source.after ≡ source.before)
+    × Rose source.faults source.faults_after
+    × (sink.after ≡ sink.before)
+    × (sink.faults_after ≡ sink.faults)
+    × (steps.after ≡ steps.before)
+ReadsPiece p now next kept kept' room source sink steps (Err Unwritten) =
     (piece : List ℕ)
     × Takes piece source.before source.after
     × (length piece ≤ room)
     × AppendsPrefix sink.before sink.after (session p now (entries_of kept.lines (kept.bytes ++ piece))).text
     × (source.faults_after ≡ source.faults)
     × Rose sink.faults sink.faults_after
-ReadsPiece p now next kept kept' room source sink (Err Memory) =
+    × PaintsFew p now steps (entries_of kept.lines (kept.bytes ++ piece))
+ReadsPiece p now next kept kept' room source sink steps (Err Memory) =
     (piece : List ℕ)
     × Takes piece source.before source.after
     × (length piece ≤ room)
     × AppendsPrefix sink.before sink.after (session p now (entries_of kept.lines (kept.bytes ++ piece))).text
     × (source.faults_after ≡ source.faults)
     × (sink.faults_after ≡ sink.faults)
-ReadsPiece p now next kept kept' room source sink (Err end) = ⊥
+    × PaintsFew p now steps (entries_of kept.lines (kept.bytes ++ piece))
+ReadsPiece p now next kept kept' room source sink steps (Err end) = ⊥
 
 -- the end of the script was reached, or as many bytes were read as are read of one
 abbrev pub StandsAt : Bool → SourceChange → List ℕ → Type 0
@@ -108,18 +130,22 @@ StandsAt true source bytes = IfSome source.after (λ rest. rest ≡ [])
 StandsAt false source bytes = length bytes ≡ most_bytes
 
 -- a read or a write failed, or memory ran out, before the end of the script
-abbrev pub StopsSo : Painter → Standing → SourceChange → SinkChange → End → Type 0
-StopsSo p s source sink Unread = FailsBehind p s source sink × WritesPart p s source.before sink.before sink.after
-StopsSo p s source sink Unwritten =
-    (source.faults_after ≡ source.faults) × Rose sink.faults sink.faults_after × WritesPart p s source.before sink.before sink.after
-StopsSo p s source sink Memory =
-    (source.faults_after ≡ source.faults) × (sink.faults_after ≡ sink.faults) × WritesPart p s source.before sink.before sink.after
-StopsSo p s source sink end = ⊥
+abbrev pub StopsSo : Painter → Standing → SourceChange → SinkChange → StepsChange → End → Type 0
+StopsSo p s source sink steps Unread = FailsBehind p s source sink × StaysWithin p s source sink steps
+StopsSo p s source sink steps Unwritten =
+    (source.faults_after ≡ source.faults) × Rose sink.faults sink.faults_after × StaysWithin p s source sink steps
+StopsSo p s source sink steps Memory =
+    (source.faults_after ≡ source.faults) × (sink.faults_after ≡ sink.faults) × StaysWithin p s source sink steps
+StopsSo p s source sink steps end = ⊥
 
-abbrev pub ReadsPieces : Painter → Standing → Standing → Kept → SourceChange → SinkChange → Result Bool End → Type 0
-ReadsPieces p s now kept source sink (Ok ended) =
-    (bytes : List ℕ) × HasRead p s now kept source sink bytes × StandsAt ended source bytes × (source.faults_after ≡ source.faults)
-ReadsPieces p s now kept source sink (Err end) = StopsSo p s source sink end
+abbrev pub ReadsPieces :
+    Painter → Standing → Standing → Kept → SourceChange → SinkChange → StepsChange → Result Bool End → Type 0
+ReadsPieces p s now kept source sink steps (Ok ended) =
+    (bytes : List ℕ)
+    × HasRead p s now kept source sink steps bytes
+    × StandsAt ended source bytes
+    × (source.faults_after ≡ source.faults)
+ReadsPieces p s now kept source sink steps (Err end) = StopsSo p s source sink steps end
 
 -- behind the end nothing is taken; behind the most bytes of a script a further one is too much
 abbrev pub ReachesEnd : {U : Type 0} → Bool → Option (List ℕ) → Option (List ℕ) → ℕ → ℕ → Result U End → Type 0
@@ -128,7 +154,7 @@ ReachesEnd true before after faults faults_after (Err end) = ⊥
 ReachesEnd false before after faults faults_after (Ok done) =
     Takes [] before after × IfSome after (λ rest. rest ≡ []) × (faults_after ≡ faults)
 ReachesEnd false before after faults faults_after (Err TooLong) =
-    (more : List ℕ) × (0 < length more) × Takes more before after × (faults_after ≡ faults)
+    (more : List ℕ) × (length more ≡ 1) × Takes more before after × (faults_after ≡ faults)
 ReachesEnd false before after faults faults_after (Err Unread) = (after ≡ before) × Rose faults faults_after
 ReachesEnd false before after faults faults_after (Err end) = ⊥
 

@@ -3,9 +3,9 @@ ghost use Rattle.std.specs.Prelude.{◌≡◌, ◌≤◌, ◌<◌, ◌+◌, ◌-
 ghost use Rattle.std.specs.List.{range_with_len};
 ghost use Rattle.command_print.specs.CommandText.{head_text};
 ghost use Rattle.text_buffer.specs.TextOfBytes.{most_lines};
-ghost use Rattle.edit_script.specs.Edits.{replaced};
+ghost use Rattle.edit_script.specs.Edits.{replaced, replacement as replacement_of};
 ghost use Rattle.edit_session.specs.Painter.{Painted, Painter};
-ghost use Rattle.edit_session.specs.Session.{answers, carries_out, edits, lines_text, obeys, prints, refuses, session};
+ghost use Rattle.edit_session.specs.Session.{answers, carries_out, change_costs, edits, entry_costs, lines_text, obeys, prints, refuses, session, session_costs, what_costs};
 ghost use Rattle.edit_session.specs.Steps.{Answers, FitsText, GivesAnswer, standing};
 
 use crate::causes::{fault_label, misfit_text};
@@ -48,6 +48,8 @@ impl<D: Document + Drop> Commands<D> {
               faults = O.faults out.old;
               faults_after = O.faults out.new;
             }) result }
+        ensures steps { steps.new ≤ steps.old + session_costs (D.painter self.old.document)
+            (standing D.lines D.shown self.old.document self.old.number self.old.refused) entries }
     {
         for entry in entries.into_vec() {
             self.answer_one(alloc, entry, out, steps)?;
@@ -75,6 +77,8 @@ impl<D: Document + Drop> Commands<D> {
               faults = O.faults out.old;
               faults_after = O.faults out.new;
             }) result }
+        ensures steps { steps.new ≤ steps.old + entry_costs (D.painter self.old.document)
+            (standing D.lines D.shown self.old.document self.old.number self.old.refused) entry }
     {
         let text = self.answer(alloc, entry, steps)?;
         if put_all(out, text.as_slice()) {
@@ -97,6 +101,8 @@ impl<D: Document + Drop> Commands<D> {
             (answers (D.painter self.old.document)
             (standing D.lines D.shown self.old.document self.old.number self.old.refused)
             entry.line entry.what) }
+        ensures steps { steps.new ≤ steps.old
+            + what_costs (D.painter self.old.document) (D.lines self.old.document) entry.what }
     {
         let Entry { line, what } = entry;
         match what {
@@ -119,6 +125,8 @@ impl<D: Document + Drop> Commands<D> {
             (answers (D.painter self.old.document)
             (standing D.lines D.shown self.old.document self.old.number self.old.refused)
             line (Ok command)) }
+        ensures steps { steps.new ≤ steps.old
+            + what_costs (D.painter self.old.document) (D.lines self.old.document) (Ok command) }
     {
         match resolve(&command, self.document.len()) {
             Ok(resolved) => self.carry_out(alloc, line, resolved, command.lines, steps),
@@ -146,6 +154,9 @@ impl<D: Document + Drop> Commands<D> {
             (carries_out (D.painter self.old.document)
             (standing D.lines D.shown self.old.document self.old.number self.old.refused)
             line lines resolved) }
+        ensures steps { steps.new ≤ steps.old
+            + change_costs (D.painter self.old.document) (D.lines self.old.document)
+            (Ok (replacement_of (D.lines self.old.document) resolved lines)) }
     {
         match resolved {
             Resolved::Replace { a, b } => {
@@ -183,6 +194,8 @@ impl<D: Document + Drop> Commands<D> {
             (edits (D.painter self.old.document)
             (standing D.lines D.shown self.old.document self.old.number self.old.refused)
             line replacement) }
+        ensures steps { steps.new ≤ steps.old
+            + (D.painter self.old.document).costs (D.lines self.old.document) replacement }
     {
         match self.document.edit(alloc, replacement, steps) {
             Ok(numbers) => self.print_lines(alloc, numbers.as_slice()),

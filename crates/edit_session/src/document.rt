@@ -54,5 +54,5 @@ pub trait Document: Lines {
             (record { text = Self.lines self.new; spans = shown self.new }) result }
         ensures within { IfOk result (All (λ number. number < length (Self.lines self.new))) }
         ensures steps { steps.new ≤ steps.old
-            + length (replaced (Self.lines self.old) replacement) };
+            + (painter self.old).costs (Self.lines self.old) replacement };
 }

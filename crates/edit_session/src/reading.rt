@@ -1,10 +1,10 @@
 //! A script from its source: each command is carried out as soon as its last byte was read.
-ghost use Rattle.std.specs.Prelude.{◌≡◌, ◌<◌, ◌++◌, [], length, IfSome, OnOk};
+ghost use Rattle.std.specs.Prelude.{◌≡◌, ◌+◌, ◌<◌, ◌≤◌, ◌++◌, [], length, IfSome, OnOk};
 ghost use Rattle.syn_base.specs.Outside.{AppendsPrefix};
 ghost use Rattle.edit_script.specs.Entries.{entries_at_end, entries_of, kept_of};
-ghost use Rattle.edit_session.specs.Ends.{EndsSo};
-ghost use Rattle.edit_session.specs.Session.{script_session, session};
-ghost use Rattle.edit_session.specs.Steps.{Answers, EndsReading, ReachesEnd, ReadsPiece, ReadsPieces, TakesBytes, WritesPart, end_of, standing};
+ghost use Rattle.edit_session.specs.Ends.{EndsSo, TakesFew};
+ghost use Rattle.edit_session.specs.Session.{script_costs, script_session, session, session_costs};
+ghost use Rattle.edit_session.specs.Steps.{Answers, EndsReading, ReachesEnd, ReadsPiece, ReadsPieces, StaysWithin, TakesBytes, end_of, standing};
 
 use crate::commands::Commands;
 use crate::document::Document;
@@ -81,6 +81,15 @@ pub fn carry_out_script<D: Document + Drop, I: Source, O: Sink, L: Ledger>(
         AppendsPrefix (O.written out.old) (O.written out.new)
         (script_session (D.painter document)
         (record { text = D.lines document; spans = D.shown document }) bytes).text) }
+    ensures steps { IfSome (I.left script.old) (λ bytes.
+        steps.new ≤ steps.old + script_costs (D.painter document)
+        (record { text = D.lines document; spans = D.shown document }) bytes) }
+    ensures taken { TakesFew (record {
+      before = I.left script.old;
+      after = I.left script.new;
+      faults = I.faults script.old;
+      faults_after = I.faults script.new;
+    }) }
 {
     let mut commands = Commands {
         document,
@@ -123,9 +132,21 @@ fn read_script<D: Document + Drop, I: Source, O: Sink, L: Ledger>(
           faults = O.faults out.old;
           faults_after = O.faults out.new;
         }) result }
-    ensures part { WritesPart (D.painter commands.old.document)
+    ensures within { StaysWithin (D.painter commands.old.document)
         (standing D.lines D.shown commands.old.document commands.old.number commands.old.refused)
-        (I.left script.old) (O.written out.old) (O.written out.new) }
+        (record {
+          before = I.left script.old;
+          after = I.left script.new;
+          faults = I.faults script.old;
+          faults_after = I.faults script.new;
+        })
+        (record {
+          before = O.written out.old;
+          after = O.written out.new;
+          faults = O.faults out.old;
+          faults_after = O.faults out.new;
+        })
+        (record { before = steps.old; after = steps.new }) }
 {
     let mut buffer = vec![in alloc; 0u8; PIECE]?;
     read_with(alloc, commands, buffer.as_mut_slice(), script, out, steps)
@@ -156,9 +177,21 @@ fn read_with<D: Document + Drop, I: Source, O: Sink, L: Ledger>(
           faults = O.faults out.old;
           faults_after = O.faults out.new;
         }) result }
-    ensures part { WritesPart (D.painter commands.old.document)
+    ensures within { StaysWithin (D.painter commands.old.document)
         (standing D.lines D.shown commands.old.document commands.old.number commands.old.refused)
-        (I.left script.old) (O.written out.old) (O.written out.new) }
+        (record {
+          before = I.left script.old;
+          after = I.left script.new;
+          faults = I.faults script.old;
+          faults_after = I.faults script.new;
+        })
+        (record {
+          before = O.written out.old;
+          after = O.written out.new;
+          faults = O.faults out.old;
+          faults_after = O.faults out.new;
+        })
+        (record { before = steps.old; after = steps.new }) }
 {
     let mut kept = Script::new(alloc);
     match read_pieces(alloc, commands, &mut kept, buffer, script, out, steps) {
@@ -198,7 +231,8 @@ fn read_pieces<D: Document + Drop, I: Source, O: Sink, L: Ledger>(
           after = O.written out.new;
           faults = O.faults out.old;
           faults_after = O.faults out.new;
-        }) result }
+        })
+        (record { before = steps.old; after = steps.new }) result }
 {
     let mut taken = 0;
     while taken < MOST_BYTES {
@@ -248,7 +282,8 @@ fn read_piece<D: Document + Drop, I: Source, O: Sink, L: Ledger>(
           after = O.written out.new;
           faults = O.faults out.old;
           faults_after = O.faults out.new;
-        }) result }
+        })
+        (record { before = steps.old; after = steps.new }) result }
 {
     match take_bytes(script, buffer) {
         Err(end) => Err(end),
@@ -309,6 +344,9 @@ fn feed<D: Document + Drop, O: Sink, L: Ledger>(
           faults = O.faults out.old;
           faults_after = O.faults out.new;
         }) result }
+    ensures steps { steps.new ≤ steps.old + session_costs (D.painter commands.old.document)
+        (standing D.lines D.shown commands.old.document commands.old.number commands.old.refused)
+        (entries_of kept.old.lines (kept.old.bytes ++ piece.now)) }
 {
     let entries = kept.feed(piece)?;
     commands.answer_all(alloc, entries, out, steps)
@@ -334,6 +372,9 @@ fn finish<D: Document + Drop, O: Sink, L: Ledger>(
           faults = O.faults out.old;
           faults_after = O.faults out.new;
         }) result }
+    ensures steps { steps.new ≤ steps.old + session_costs (D.painter commands.old.document)
+        (standing D.lines D.shown commands.old.document commands.old.number commands.old.refused)
+        (entries_at_end kept.lines kept.bytes) }
 {
     let entries = kept.finish()?;
     commands.answer_all(alloc, entries, out, steps)

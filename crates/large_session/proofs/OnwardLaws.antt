@@ -3,7 +3,6 @@ use Rattle.std.proofs.Common.{◌≡◌, ℕ, suc, ◌+◌, ◌-◌, ◌<◌, �
 use Rattle.std.specs.Prelude.{codes, encode_utf8_all}
 use Rattle.text_buffer.specs.BytesOfText.{bytes_of}
 use Rattle.text_buffer.specs.TextOfBytes.{line_break}
-use Rattle.edit_script.specs.Edits.{replaced}
 use Rattle.edit_session.specs.Painter.{Painter}
 use Rattle.large_session.specs.GeneratedText.{drawn_word, further_words, generated_line, generated_lines}
 use Rattle.large_session.specs.DrawnEdits.{drawn_edit}
@@ -62,10 +61,10 @@ edits_on p s t whole count i x y within so_far stands drawn =
     ∙ ap (λ n. edited_often p n s x) (sym (one_fewer count i within))
     ∙ so_far
 
-lines_split : (p : Painter) (s : Standing) (count i x : ℕ) → i < count → lines_of_edits p (count - i) s x ≡ length (replaced s.painted.text (drawn_edit (length s.painted.text) x).value) + lines_of_edits p (count - (i + 1)) (edited p s (drawn_edit (length s.painted.text) x).value) (drawn_edit (length s.painted.text) x).next
+lines_split : (p : Painter) (s : Standing) (count i x : ℕ) → i < count → lines_of_edits p (count - i) s x ≡ p.costs s.painted.text (drawn_edit (length s.painted.text) x).value + lines_of_edits p (count - (i + 1)) (edited p s (drawn_edit (length s.painted.text) x).value) (drawn_edit (length s.painted.text) x).next
 lines_split p s count i x within = ap (λ n. lines_of_edits p n s x) (one_fewer count i within)
 
-pub painted_on : (p : Painter) (s t : Standing) (count i x y steps more most : ℕ) → i < count → steps + lines_of_edits p (count - i) s x ≤ most → more ≤ steps + length (replaced s.painted.text (drawn_edit (length s.painted.text) x).value) → t ≡ edited p s (drawn_edit (length s.painted.text) x).value → y ≡ (drawn_edit (length s.painted.text) x).next → more + lines_of_edits p (count - (i + 1)) t y ≤ most
+pub painted_on : (p : Painter) (s t : Standing) (count i x y steps more most : ℕ) → i < count → steps + lines_of_edits p (count - i) s x ≤ most → more ≤ steps + p.costs s.painted.text (drawn_edit (length s.painted.text) x).value → t ≡ edited p s (drawn_edit (length s.painted.text) x).value → y ≡ (drawn_edit (length s.painted.text) x).next → more + lines_of_edits p (count - (i + 1)) t y ≤ most
 painted_on p s t count i x y steps more most within so_far painted stands drawn =
     let edit = drawn_edit (length s.painted.text) x in
     let split = lines_split p s count i x within in
@@ -74,6 +73,6 @@ painted_on p s t count i x y steps more most within so_far painted stands drawn 
     ∙ ap (λ z. lines_of_edits p (count - (i + 1)) (edited p s edit.value) z) drawn in
     omega arith
 
-pub painted_last : (p : Painter) (s : Standing) (count i x steps more most : ℕ) → i < count → steps + lines_of_edits p (count - i) s x ≤ most → more ≤ steps + length (replaced s.painted.text (drawn_edit (length s.painted.text) x).value) → more ≤ most
+pub painted_last : (p : Painter) (s : Standing) (count i x steps more most : ℕ) → i < count → steps + lines_of_edits p (count - i) s x ≤ most → more ≤ steps + p.costs s.painted.text (drawn_edit (length s.painted.text) x).value → more ≤ most
 painted_last p s count i x steps more most within so_far painted =
     let split = lines_split p s count i x within in omega arith

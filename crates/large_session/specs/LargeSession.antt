@@ -57,13 +57,12 @@ edited_often p (suc count) s x =
     let edit = drawn_edit (length s.painted.text) x in
     edited_often p count (edited p s edit.value) edit.next
 
--- how many lines these edits paint at most: each of them those of the changed text
+-- how many lines these edits may paint, at most: each of them on the text as it is then, a refused one too
 abbrev pub lines_of_edits : Painter → ℕ → Standing → ℕ → ℕ
 lines_of_edits p zero s x = 0
 lines_of_edits p (suc count) s x =
     let edit = drawn_edit (length s.painted.text) x in
-    length (replaced s.painted.text edit.value)
-    + lines_of_edits p count (edited p s edit.value) edit.next
+    p.costs s.painted.text edit.value + lines_of_edits p count (edited p s edit.value) edit.next
 
 -- the session on the painted text of this seed and of so many lines
 abbrev pub large_session : Painter → Painted → ℕ → ℕ → Standing

@@ -1,6 +1,5 @@
 //! The edits on a painted text, and the counts that are told at the end.
 ghost use Rattle.std.specs.Prelude.{◌≡◌, ◌<◌, ◌≤◌, ◌+◌, ◌++◌, length, IfOk, OnOk};
-ghost use Rattle.edit_script.specs.Edits.{replaced};
 ghost use Rattle.large_session.specs.DrawnEdits.{drawn_edit};
 ghost use Rattle.large_session.specs.LargeSession.{count_line, edit_count, edited, edited_often, five_lines, has_refused, lines_of_edits, start};
 ghost use Rattle.large_session.specs.Steps.{FitsLines, Tells, standing};
@@ -105,8 +104,9 @@ impl<D: LargeDocument + Drop> Edited<D> {
             ≡ (drawn_edit (length (D.lines self.old.document)) draws.old).next) }
         ensures few { OnOk result (length (D.lines self.new.document)
             ≤ length (D.lines self.old.document) + 1) }
-        ensures steps { steps.new ≤ steps.old + length (replaced (D.lines self.old.document)
-            (drawn_edit (length (D.lines self.old.document)) draws.old).value) }
+        ensures steps { steps.new ≤ steps.old
+            + (D.painter self.old.document).costs (D.lines self.old.document)
+            (drawn_edit (length (D.lines self.old.document)) draws.old).value }
     {
         let edit = drawn_edit(alloc, draws, self.document.len())?;
         self.carry_out(alloc, edit, steps)
@@ -130,7 +130,7 @@ impl<D: LargeDocument + Drop> Edited<D> {
         ensures few { OnOk result (length (D.lines self.new.document)
             ≤ length (D.lines self.old.document) + 1) }
         ensures steps { steps.new ≤ steps.old
-            + length (replaced (D.lines self.old.document) edit) }
+            + (D.painter self.old.document).costs (D.lines self.old.document) edit }
     {
         match self.document.edit(alloc, edit, steps) {
             Ok(told) => self.count_told(told.len()),
