@@ -3,3 +3,4 @@ pub mod SessionLaws
 pub mod ReadingLaws
 pub mod LineLaws
 pub mod EndLaws
+pub mod CarriedOutLaws

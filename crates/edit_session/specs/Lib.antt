@@ -3,5 +3,6 @@ pub mod Causes
 pub mod Painter
 pub mod Session
 pub mod Ends
+pub mod Laws
 -- what code and proofs alone cite
 pub mod Steps

@@ -11,6 +11,7 @@ mod causes;
 mod changes;
 mod commands;
 mod document;
+pub mod laws;
 mod reading;
 
 pub use changes::Replacement;
