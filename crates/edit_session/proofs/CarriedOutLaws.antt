@@ -9,7 +9,7 @@ use Rattle.edit_script.specs.declared.commands.Resolved.{Resolved}
 use Rattle.edit_script.specs.declared.commands.Resolved.TheVariants.{Replace, Move, CopyTo, Print, Page}
 use Rattle.edit_script.specs.declared.commands.ScriptFault.{ScriptFault}
 use Rattle.edit_script.specs.Edits.{Replacement, moved, put_in_place, replaced, replacement_or_cause, resolved_of}
-use Rattle.edit_session.specs.Laws.{AreCarriedOut, IsAccepted, IsCarriedOut}
+use Rattle.edit_session.specs.Laws.{AreCarriedOut, GoesThrough, IsCarriedOut}
 use Rattle.edit_session.specs.Painter.{Painter, Painted}
 use Rattle.edit_session.specs.Session.{Standing, answers, entries_read, obeys, script_session, session, start, with_painting}
 
@@ -17,7 +17,7 @@ painted_well : (p : Painter) (s : Standing) (line : ℕ) (r : Replacement) (pain
 painted_well p s line r (Ok spans) is = refl
 painted_well p s line r (Err cause) is = absurd (cc)
 
-obeyed_well : (p : Painter) (s : Standing) (line : ℕ) (lines : List (List ℕ)) (found : Result Resolved ResolveError) → IsAccepted p s.painted.text (replacement_or_cause s.painted.text found lines) → (obeys p s line lines found).stands.refused ≡ s.refused
+obeyed_well : (p : Painter) (s : Standing) (line : ℕ) (lines : List (List ℕ)) (found : Result Resolved ResolveError) → GoesThrough p s.painted.text (replacement_or_cause s.painted.text found lines) → (obeys p s line lines found).stands.refused ≡ s.refused
 obeyed_well p s line lines (Ok (Replace a b)) is =
     let r = put_in_place s.painted.text a b lines in painted_well p s line r (p.paint (replaced s.painted.text r)) is
 obeyed_well p s line lines (Ok (Move a b dest)) is =

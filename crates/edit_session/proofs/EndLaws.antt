@@ -1,15 +1,27 @@
 -- What the end of a session says of a script whose bytes are told.
-use Rattle.std.proofs.Common.{◌≡◌, ℕ, ◌+◌, ◌<◌, ◌≤◌, Bool, true, false, List, [], ◌++◌, length, take, ap, sym, subst, ◌∙◌, append_assoc, arith}
-use Rattle.std.specs.Prelude.{Option, Some, None, IfSome, if◌then◌else◌}
+use Rattle.std.proofs.Common.{◌≡◌, ℕ, ◌+◌, ◌<◌, ◌≤◌, Bool, true, false, List, [], ◌++◌, length, take, refl, ap, sym, subst, ◌∙◌, append_assoc, arith}
+use Rattle.std.specs.Prelude.{Option, Some, None, IfSome, option_map, if◌then◌else◌}
 use Rattle.std.proofs.Math.Seq.{take-append_seam}
 use Rattle.std.proofs.lemmas.Bool.Decides.{nat_tests}
 use Rattle.std.proofs.lemmas.List.{append-nil, length-append}
 use Rattle.syn_base.specs.Outside.{appended}
 use Rattle.edit_script.specs.declared.commands.Entry.{Entry}
 use Rattle.edit_script.specs.Entries.{entries_at_end, entries_of}
-use Rattle.edit_session.specs.Ends.{ReadsOver, ReadsToEnd, SinkChange, SourceChange, Takes}
+use Rattle.edit_session.specs.Ends.{ReadsOver, ReadsToEnd, SinkChange, SourceChange, Takes, TakesFew}
 use Rattle.edit_session.specs.Painter.{Painted, Painter}
 use Rattle.edit_session.specs.Session.{Answer, entries_read, is_too_long, most_bytes, script_session, session, start}
+
+-- of a source that is as it was none were taken
+pub untouched_few : (source : SourceChange) → source.after ≡ source.before → TakesFew source
+untouched_few source same = record {
+  bytes = [];
+  taken = sym same ∙ nothing source.after;
+  few = omega arith;
+}
+  where
+    nothing : (left : Option (List ℕ)) → left ≡ option_map (λ rest. [] ++ rest) left
+    nothing None = refl
+    nothing (Some rest) = refl
 
 -- the bytes that were taken of a script are all of it
 all_taken : (bytes all : List ℕ) (after : Option (List ℕ)) → Takes bytes (Some all) after → IfSome after (λ rest. rest ≡ []) → all ≡ bytes

@@ -4,3 +4,4 @@ pub mod ReadingLaws
 pub mod LineLaws
 pub mod EndLaws
 pub mod CarriedOutLaws
+pub mod KnownCosts

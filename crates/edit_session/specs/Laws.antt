@@ -9,16 +9,16 @@ use Rattle.edit_script.specs.Edits.{Replacement, edit_of, replaced}
 use Rattle.edit_session.specs.Painter.{Painter, Painted}
 use Rattle.edit_session.specs.Session.{Standing, answers, entries_read, script_session, session, start}
 
--- a command was resolved on a text, and the painting of the text that it changes is accepted; one that changes
--- none needs no painting
-abbrev pub IsAccepted : Painter → List (List ℕ) → Result (Option Replacement) ResolveError → Type 0
-IsAccepted p text (Ok (Some r)) = IsOk (p.paint (replaced text r))
-IsAccepted p text (Ok None) = ⊤
-IsAccepted p text (Err misfit) = ⊥
+-- a command that was resolved on a text goes through where the painting of the changed text is accepted, and
+-- where it changes none; one that wasn't resolved doesn't
+abbrev pub GoesThrough : Painter → List (List ℕ) → Result (Option Replacement) ResolveError → Type 0
+GoesThrough p text (Ok (Some r)) = IsOk (p.paint (replaced text r))
+GoesThrough p text (Ok None) = ⊤
+GoesThrough p text (Err misfit) = ⊥
 
--- what stands in a line of the script is a command, and such a one
+-- what stands in a line of the script is a command, and it goes through
 abbrev pub IsCarriedOut : Painter → List (List ℕ) → Result EditCommand ScriptFault → Type 0
-IsCarriedOut p text (Ok command) = IsAccepted p text (edit_of text command)
+IsCarriedOut p text (Ok command) = GoesThrough p text (edit_of text command)
 IsCarriedOut p text (Err fault) = ⊥
 
 -- each of them is, on the text that those before it left

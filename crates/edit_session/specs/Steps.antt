@@ -69,7 +69,9 @@ abbrev pub PaintsFew : Painter → Standing → StepsChange → List Entry → T
 PaintsFew p s steps entries = steps.after ≤ steps.before + session_costs p s entries
 
 -- these bytes were taken, and the commands whose last line is whole in them were answered
-pub record HasRead (p : Painter) (s now : Standing) (kept : Kept) (source : SourceChange) (sink : SinkChange) (steps : StepsChange) (bytes : List ℕ) : Type 0 where
+pub record HasRead
+    (p : Painter) (s now : Standing) (kept : Kept)
+    (source : SourceChange) (sink : SinkChange) (steps : StepsChange) (bytes : List ℕ) : Type 0 where
   pub few : length bytes ≤ most_bytes
   pub taken : Takes bytes source.before source.after
   pub keeps : kept ≡ kept_of 0 bytes
@@ -80,8 +82,10 @@ pub record HasRead (p : Painter) (s now : Standing) (kept : Kept) (source : Sour
 
 -- no more happened than the script asks for: where the source tells, a part of what its script prints was written, and
 -- as many lines were painted as it may paint, at most; and few bytes were taken
-pub record StaysWithin (p : Painter) (s : Standing) (source : SourceChange) (sink : SinkChange) (steps : StepsChange) : Type 0 where
-  pub part : IfSome source.before (λ bytes. AppendsPrefix sink.before sink.after (session p s (entries_read bytes)).text)
+pub record StaysWithin
+    (p : Painter) (s : Standing) (source : SourceChange) (sink : SinkChange) (steps : StepsChange) : Type 0 where
+  pub part : IfSome source.before (λ bytes.
+      AppendsPrefix sink.before sink.after (session p s (entries_read bytes)).text)
   pub painted : IfSome source.before (λ bytes. PaintsFew p s steps (entries_read bytes))
   pub taken : TakesFew source
 

@@ -3,8 +3,8 @@
 //!
 //! What a session writes is a function of the text and the script: the fold of its commands, each
 //! over the text as it is then, which is painted anew whenever it changes. How the text is
-//! painted and printed is the painter's, a trait; so the session knows nothing of syntaxes nor of
-//! what is kept.
+//! painted and printed, and how many lines an edit paints for that, is the painter's, a trait; so
+//! the session knows nothing of syntaxes nor of what is kept.
 #![tactic(auto)]
 
 mod causes;
