@@ -1,8 +1,7 @@
 -- Lines that are copied and printed one by one.
-use Rattle.std.proofs.Common.{◌≡◌, ℕ, zero, suc, ◌+◌, ◌-◌, ◌<◌, ◌≤◌, List, [], ◌∷◌, ◌++◌, length, take, drop, get_or, refl, ap, sym, ◌∙◌, append_assoc, arith}
+use Rattle.std.proofs.Common.{◌≡◌, ℕ, zero, suc, ◌+◌, ◌-◌, ◌<◌, ◌≤◌, List, [], ◌∷◌, ◌++◌, take, drop, get_or, refl, ap, sym, ◌∙◌, append_assoc, arith}
 use Rattle.std.specs.Prelude.{Some, slice_get, slice_range}
 use Rattle.std.specs.List.{range_with_len}
-use Rattle.std.proofs.lemmas.List.{append-nil}
 use Rattle.syn_base.specs.declared.places.Span.{Span}
 use Rattle.edit_session.specs.Painter.{Painter}
 use Rattle.edit_session.specs.Session.{lines_text}
@@ -32,21 +31,6 @@ copied_further xs before lines more a n x ordered is so_far pushed =
 
 -- ---- printed lines
 
--- the first of the lines to come was printed
-pub printed_next : (p : Painter) (spans : List (List Span)) (numbers : List ℕ) (i number : ℕ) (before out after : List ℕ) → i < length numbers → number ≡ get_or numbers i number → out ++ lines_text p spans (drop i numbers) ≡ before ++ lines_text p spans numbers → after ≡ out ++ p.line number (get_or spans number []) → after ++ lines_text p spans (drop (i + 1) numbers) ≡ before ++ lines_text p spans numbers
-printed_next p spans numbers i number before out after within is so_far printed =
-    ap (λ o. o ++ lines_text p spans (drop (i + 1) numbers)) printed
-    ∙ append_assoc out _ _
-    ∙ ap (λ l. out ++ l) (sym (split numbers i number within is))
-    ∙ so_far
-  where
-    split : (ns : List ℕ) (j n : ℕ) → j < length ns → n ≡ get_or ns j n → lines_text p spans (drop j ns) ≡ p.line n (get_or spans n []) ++ lines_text p spans (drop (j + 1) ns)
-    split [] j n w e = absurd (omega (arith, w))
-    split (m ∷ ns) zero n w e = rw e refl
-    split (m ∷ ns) (suc j) n w e =
-        let next : suc j + 1 ≡ suc (j + 1) = omega arith in
-        split ns j n (omega (arith, w)) e ∙ ap (λ k. p.line n (get_or spans n []) ++ lines_text p spans (drop k (m ∷ ns))) (sym next)
-
 range_next : (n b : ℕ) → n < b → range_with_len n (b - n) ≡ n ∷ range_with_len (n + 1) (b - (n + 1))
 range_next n b within =
     let count : b - n ≡ suc (b - (n + 1)) = omega arith in
@@ -59,18 +43,3 @@ printed_in_range p spans n next b before out after within follows so_far printed
     ∙ append_assoc out _ _
     ∙ ap (λ r. out ++ lines_text p spans r) (sym (range_next n b within))
     ∙ so_far
-
-pub range_printed : (p : Painter) (spans : List (List Span)) (n b : ℕ) (out whole : List ℕ) → b ≤ n → out ++ lines_text p spans (range_with_len n (b - n)) ≡ whole → out ≡ whole
-range_printed p spans n b out whole past so_far =
-    let none : b - n ≡ 0 = omega arith in
-    sym (append-nil out) ∙ sym (ap (λ k. out ++ lines_text p spans (range_with_len n k)) none) ∙ so_far
-
-pub all_printed : (p : Painter) (spans : List (List Span)) (numbers : List ℕ) (i : ℕ) (out whole : List ℕ) → length numbers ≤ i → out ++ lines_text p spans (drop i numbers) ≡ whole → out ≡ whole
-all_printed p spans numbers i out whole past so_far =
-    sym (append-nil out) ∙ sym (ap (λ ns. out ++ lines_text p spans ns) (nothing numbers i past)) ∙ so_far
-  where
-    nothing : (ns : List ℕ) (j : ℕ) → length ns ≤ j → drop j ns ≡ []
-    nothing [] zero w = refl
-    nothing [] (suc j) w = refl
-    nothing (n ∷ ns) zero w = absurd (omega (arith, w))
-    nothing (n ∷ ns) (suc j) w = nothing ns j (omega (arith, w))

@@ -124,22 +124,6 @@ sink_of before after faults faults_after = record { before = before; after = aft
 abbrev pub steps_of : ℕ → ℕ → StepsChange
 steps_of before after = record { before = before; after = after }
 
--- nothing happened yet
-pub within_nothing : (p : Painter) (s : Standing) (left out : Option (List ℕ)) (f f' g g' n : ℕ) → StaysWithin p s (source_of left left f f') (sink_of out out g g') (steps_of n n)
-within_nothing p s left out f f' g g' n = record {
-  part = nothing_written p s left out;
-  painted = nothing_painted p s left n;
-  taken = record { bytes = []; taken = takes_nothing left; few = omega arith };
-}
-  where
-    nothing_written : (p : Painter) (s : Standing) (left out : Option (List ℕ)) → IfSome left (λ all. AppendsPrefix out out (session p s (entries_read all)).text)
-    nothing_written p s None out = tt
-    nothing_written p s (Some all) out = (0, appended_nothing out)
-
-    nothing_painted : (p : Painter) (s : Standing) (left : Option (List ℕ)) (n : ℕ) → IfSome left (λ all. n ≤ n + session_costs p s (entries_read all))
-    nothing_painted p s None n = tt
-    nothing_painted p s (Some all) n = omega arith
-
 -- the commands whose last line is whole in the bytes that were taken were answered, or a part of them
 within_part : (p : Painter) (s : Standing) (left left' out out' : Option (List ℕ)) (f f' g g' n n' : ℕ) (bytes : List ℕ) → length bytes ≤ most_bytes → Takes bytes left left' → AppendsPrefix out out' (session p s (entries_of 0 bytes)).text → n' ≤ n + session_costs p s (entries_of 0 bytes) → StaysWithin p s (source_of left left' f f') (sink_of out out' g g') (steps_of n n')
 within_part p s left left' out out' f f' g g' n n' bytes few taken part painted = record {
@@ -297,22 +281,6 @@ pieces_stopped p p' painters s now next kept kept' room taken left left' left'' 
     rw at (stopped_by p s now next kept kept' room taken left left' left'' out out' out'' f f' f'' g g' g'' n n' n'' bytes end read size fits readable (subst R painters given))
 
 -- ---- the end
-
-pub stops_end : (U : Type 0) (p : Painter) (s : Standing) (refused : Bool) (source : SourceChange) (sink : SinkChange) (steps : StepsChange) (end : End) → StopsSo p s source sink steps end → EndsReading {U = U} p s refused source sink (Err end)
-stops_end U p s refused source sink steps Unread stops = stops.0
-stops_end U p s refused source sink steps Unwritten stops = (stops.0, stops.1)
-stops_end U p s refused source sink steps Memory stops = (stops.0, stops.1)
-stops_end U p s refused source sink steps Done stops = absurd stops
-stops_end U p s refused source sink steps Refused stops = absurd stops
-stops_end U p s refused source sink steps TooLong stops = absurd stops
-
-pub stops_within : (p : Painter) (s : Standing) (source : SourceChange) (sink : SinkChange) (steps : StepsChange) (end : End) → StopsSo p s source sink steps end → StaysWithin p s source sink steps
-stops_within p s source sink steps Unread stops = stops.1
-stops_within p s source sink steps Unwritten stops = stops.2
-stops_within p s source sink steps Memory stops = stops.2
-stops_within p s source sink steps Done stops = absurd stops
-stops_within p s source sink steps Refused stops = absurd stops
-stops_within p s source sink steps TooLong stops = absurd stops
 
 takes_none : (before after : Option (List ℕ)) → Takes [] before after → before ≡ after
 takes_none before None taken = taken
