@@ -5,24 +5,23 @@ use Rattle.std.specs.Prelude.{if◌then◌else◌}
 use Rattle.std.proofs.lemmas.List.{append-nil, drop-append-le, drop_all}
 use Rattle.std.proofs.lemmas.Grind.{common_steps}
 use Rattle.std.proofs.Math.Bool.{or-true}
-use Rattle.std.proofs.Math.Seq.{take-append_seam}
+use Rattle.std.proofs.Math.Seq.{take-append_seam, drop-append_seam}
 use Rattle.text_buffer.specs.TextOfBytes.{line_break}
 use Rattle.edit_script.specs.declared.commands.Entry.{Entry}
 use Rattle.edit_script.specs.declared.commands.ScriptFault.{ScriptFault}
 use Rattle.edit_script.specs.declared.head.Head.{Head}
 use Rattle.edit_script.specs.declared.reader.Meaning.TheVariants.{Nothing, BeginsText, IsWhole}
-use Rattle.edit_script.specs.declared.waiting.Waiting.{Waiting}
 use Rattle.edit_script.specs.CommandLine.{line_head, takes_text}
 use Rattle.edit_script.specs.Kept.{Kept}
 use Rattle.edit_script.specs.Entries.{Standing, Between, InText, behind, made_whole, standing_behind, standing_in, entries_from, entries_of, kept_of, begins_text, broken, entry, is_dot, is_empty, lines_before, lines_kept, unfinished, whole_lines, cut_line}
-use Rattle.edit_script.specs.Reading.{Fits, IsTextOf, Stands, Waits, head_meaning, meaning_of}
-use Rattle.edit_script.proofs.PieceLaws.{IsLine, joined, whole_break, cut_break, whole_more, cut_more}
+use Rattle.edit_script.specs.Reading.{Fits, Stands, Waits, head_meaning, meaning_of}
+use Rattle.edit_script.proofs.PieceLaws.{AllLines, IsLine, joined, whole_are_lines, whole_behind, whole_break, cut_break, whole_more, cut_more}
 use Rattle.edit_script.proofs.StandingLaws.{standing_append, entries_append, standing_further, entries_further, text_stands, text_silent, empty_begins_none}
 
 -- ---- more bytes without a line break
 
-pub stands_more : (waiting : Option Waiting) (lines at cut : ℕ) (bytes more all : List ℕ) → all ≡ bytes ++ more → IsLine more → Stands waiting lines at cut bytes → Stands waiting lines at cut all
-stands_more waiting lines at cut bytes more all is line stands =
+pub stands_more : (text : Option ℕ) (lines at cut : ℕ) (bytes more all : List ℕ) → all ≡ bytes ++ more → IsLine more → Stands text lines at cut bytes → Stands text lines at cut all
+stands_more text lines at cut bytes more all is line stands =
     let whole : whole_lines all ≡ whole_lines bytes = ap whole_lines is ∙ whole_more bytes more line in
     record {
       fits = rw whole stands.fits;
@@ -37,8 +36,8 @@ abbrev kept : ℕ → List ℕ → Kept
 kept lines bytes = record { lines = lines; bytes = bytes }
 
 -- what is kept where a script stands so, behind a line break
-abbrev pub kept_at : Standing → Kept
-kept_at s = record { lines = lines_before s; bytes = broken (lines_kept s) }
+abbrev pub kept_behind : Standing → Kept
+kept_behind s = record { lines = lines_before s; bytes = broken (lines_kept s) }
 
 pub entries_break : (number : ℕ) (bytes : List ℕ) → entries_of number (bytes ++ line_break ∷ []) ≡ entries_of number bytes ++ made_whole (standing_in number bytes) (cut_line bytes)
 entries_break number bytes =
@@ -51,13 +50,13 @@ standing_break number bytes =
     ap (λ ls. standing_behind (Between number) ls) (whole_break bytes)
     ∙ standing_append (Between number) (whole_lines bytes) (cut_line bytes ∷ [])
 
-kept_parts : (s : Standing) (cut : List ℕ) → cut ≡ [] → record { lines = lines_before s; bytes = broken (lines_kept s) ++ cut } ≡ kept_at s
+kept_parts : (s : Standing) (cut : List ℕ) → cut ≡ [] → record { lines = lines_before s; bytes = broken (lines_kept s) ++ cut } ≡ kept_behind s
 kept_parts s cut none = ap (λ b. record { lines = lines_before s; bytes = b }) (ap (λ c. broken (lines_kept s) ++ c) none ∙ append-nil (broken (lines_kept s)))
 
-pub kept_break : (number : ℕ) (bytes : List ℕ) → kept_of number (bytes ++ line_break ∷ []) ≡ kept_at (behind (standing_in number bytes) (cut_line bytes))
+pub kept_break : (number : ℕ) (bytes : List ℕ) → kept_of number (bytes ++ line_break ∷ []) ≡ kept_behind (behind (standing_in number bytes) (cut_line bytes))
 kept_break number bytes =
     kept_parts (standing_in number (bytes ++ line_break ∷ [])) (cut_line (bytes ++ line_break ∷ [])) (cut_break bytes)
-    ∙ ap kept_at (standing_break number bytes)
+    ∙ ap kept_behind (standing_break number bytes)
 
 -- the last line, as code slices it
 rest_of : (bytes : List ℕ) (at : ℕ) → take (length bytes - at) (drop at bytes) ≡ drop at bytes
@@ -65,19 +64,6 @@ rest_of bytes at = grind (arith, common_steps)
 
 pub cut_slice : (bytes now : List ℕ) (cut : ℕ) → now ≡ bytes → drop cut bytes ≡ cut_line bytes → take (length now - cut) (drop cut now) ≡ cut_line bytes
 cut_slice bytes now cut is rest = ap (λ b. take (length b - cut) (drop cut b)) is ∙ rest_of bytes cut ∙ rest
-
--- the same where its line break was put behind it
-pub cut_slice_broken : (bytes now : List ℕ) (cut end : ℕ) → now ≡ bytes ++ line_break ∷ [] → end ≡ length bytes → cut ≤ length bytes → drop cut bytes ≡ cut_line bytes → take (end - cut) (drop cut now) ≡ cut_line bytes
-cut_slice_broken bytes now cut end is is_end within rest =
-    let count : end - cut ≡ length (drop cut bytes) = omega (arith, is_end, length-drop cut bytes) in
-    ap (λ b. take (end - cut) (drop cut b)) is
-    ∙ ap (take (end - cut)) (drop-append-le cut bytes (line_break ∷ []) within)
-    ∙ ap (λ n. take n (drop cut bytes ++ line_break ∷ [])) count
-    ∙ take-append_seam (drop cut bytes) (line_break ∷ []) ∙ rest
-
--- what is seen of a reader, by its parts
-pub kept_by : (lines next : ℕ) (bytes more : List ℕ) → lines ≡ next → bytes ≡ more → record { lines = lines; bytes = bytes } ≡ kept next more
-kept_by lines next bytes more is are = rw (is, are) refl
 
 -- ---- outside of a text
 
@@ -91,24 +77,24 @@ entries_outside number bytes none =
     ∙ ap (λ ls. entries_from (Between number) ls ++ made_whole (standing_behind (Between number) ls) (cut_line bytes)) none
     ∙ ap (λ l. made_whole (Between number) l) (cut_outside bytes none)
 
-pub kept_outside : (number : ℕ) (bytes : List ℕ) → whole_lines bytes ≡ [] → kept_of number (bytes ++ line_break ∷ []) ≡ kept_at (behind (Between number) bytes)
+pub kept_outside : (number : ℕ) (bytes : List ℕ) → whole_lines bytes ≡ [] → kept_of number (bytes ++ line_break ∷ []) ≡ kept_behind (behind (Between number) bytes)
 kept_outside number bytes none =
     kept_break number bytes
-    ∙ ap (λ ls. kept_at (behind (standing_behind (Between number) ls) (cut_line bytes))) none
-    ∙ ap (λ l. kept_at (behind (Between number) l)) (cut_outside bytes none)
+    ∙ ap (λ ls. kept_behind (behind (standing_behind (Between number) ls) (cut_line bytes))) none
+    ∙ ap (λ l. kept_behind (behind (Between number) l)) (cut_outside bytes none)
 
 -- so many lines are done with, and the next one has this number
 next_outside : (number at next : ℕ) (bytes : List ℕ) → whole_lines bytes ≡ [] → at ≡ number + length (whole_lines bytes) → next ≡ at + 1 → next ≡ suc number
 next_outside number at next bytes none is more = omega (arith, is, more, ap length none)
 
-done_with : (number next : ℕ) → next ≡ suc number → kept_at (Between (suc number)) ≡ record { lines = next; bytes = [] }
+done_with : (number next : ℕ) → next ≡ suc number → kept_behind (Between (suc number)) ≡ record { lines = next; bytes = [] }
 done_with number next is = ap (λ n. record { lines = n; bytes = [] }) (sym is)
 
 head_nothing : (number : ℕ) (line : List ℕ) (says : Result Head ScriptFault) → head_meaning number line says ≡ Nothing → ⊥
 head_nothing number line (Err fault) is = absurd (cc)
 head_nothing number line (Ok head) is = by head.takes_text is
   where
-    by : (takes : Bool) → (if takes then BeginsText head else IsWhole (entry number line [] true)) ≡ Nothing → ⊥
+    by : (takes : Bool) → (if takes then BeginsText else IsWhole (entry number line [] true)) ≡ Nothing → ⊥
     by true is = absurd (cc)
     by false is = absurd (cc)
 
@@ -116,21 +102,17 @@ meaning_nothing : (number : ℕ) (line : List ℕ) → meaning_of number line �
 meaning_nothing number [] is = refl
 meaning_nothing number (byte ∷ line) is = absurd (head_nothing number (byte ∷ line) (line_head (byte ∷ line)) is)
 
-begins_by : (number : ℕ) (line : List ℕ) (other head : Head) (takes : Bool) → other.takes_text ≡ takes → (if takes then BeginsText other else IsWhole (entry number line [] true)) ≡ BeginsText head → (other ≡ head) × (head.takes_text ≡ true)
-begins_by number line other head true takes is =
-    let same : other ≡ head = cc in
-    (same, ap (λ h. h.takes_text) (sym same) ∙ takes)
-begins_by number line other head false takes is = absurd (cc)
+begins_by : (number : ℕ) (line : List ℕ) (takes : Bool) → (if takes then BeginsText else IsWhole (entry number line [] true)) ≡ BeginsText → takes ≡ true
+begins_by number line true is = refl
+begins_by number line false is = absurd (cc)
 
-head_begins : (number : ℕ) (line : List ℕ) (says : Result Head ScriptFault) (head : Head) → head_meaning number line says ≡ BeginsText head → (says ≡ Ok head) × (head.takes_text ≡ true)
-head_begins number line (Err fault) head is = absurd (cc)
-head_begins number line (Ok other) head is =
-    let b = begins_by number line other head other.takes_text refl is in
-    (ap (λ h. Ok h) b.0, b.1)
+head_begins : (number : ℕ) (line : List ℕ) (says : Result Head ScriptFault) → head_meaning number line says ≡ BeginsText → takes_text says ≡ true
+head_begins number line (Err fault) is = absurd (cc)
+head_begins number line (Ok head) is = begins_by number line head.takes_text is
 
-meaning_begins : (number : ℕ) (line : List ℕ) (head : Head) → meaning_of number line ≡ BeginsText head → (line_head line ≡ Ok head) × (head.takes_text ≡ true)
-meaning_begins number [] head is = absurd (cc)
-meaning_begins number (byte ∷ line) head is = head_begins number (byte ∷ line) (line_head (byte ∷ line)) head is
+meaning_begins : (number : ℕ) (line : List ℕ) → meaning_of number line ≡ BeginsText → begins_text line ≡ true
+meaning_begins number [] is = absurd (cc)
+meaning_begins number (byte ∷ line) is = head_begins number (byte ∷ line) (line_head (byte ∷ line)) is
 
 head_whole : (number : ℕ) (line : List ℕ) (says : Result Head ScriptFault) (e : Entry) → head_meaning number line says ≡ IsWhole e → (e ≡ entry number line [] true) × (takes_text says ≡ false)
 head_whole number line (Err fault) e is =
@@ -138,7 +120,7 @@ head_whole number line (Err fault) e is =
     (sym same, refl)
 head_whole number line (Ok head) e is = by head.takes_text refl is
   where
-    by : (takes : Bool) → head.takes_text ≡ takes → (if takes then BeginsText head else IsWhole (entry number line [] true)) ≡ IsWhole e → (e ≡ entry number line [] true) × (head.takes_text ≡ false)
+    by : (takes : Bool) → head.takes_text ≡ takes → (if takes then BeginsText else IsWhole (entry number line [] true)) ≡ IsWhole e → (e ≡ entry number line [] true) × (head.takes_text ≡ false)
     by true takes is = absurd (cc)
     by false takes is =
         let same : entry number line [] true ≡ e = cc in
@@ -154,7 +136,7 @@ pub nothing_outside : (number at next : ℕ) (bytes : List ℕ) → whole_lines 
 nothing_outside number at next bytes none is more means =
     let empty : bytes ≡ [] = meaning_nothing number bytes means in (
       entries_outside number bytes none ∙ ap (made_whole (Between number)) empty,
-      kept_outside number bytes none ∙ ap (λ l. kept_at (behind (Between number) l)) empty ∙ rw empty_begins_none (done_with number next (next_outside number at next bytes none is more)),
+      kept_outside number bytes none ∙ ap (λ l. kept_behind (behind (Between number) l)) empty ∙ rw empty_begins_none (done_with number next (next_outside number at next bytes none is more)),
     )
 
 pub whole_outside : (number at next : ℕ) (bytes : List ℕ) (e : Entry) → whole_lines bytes ≡ [] → at ≡ number + length (whole_lines bytes) → next ≡ at + 1 → meaning_of number bytes ≡ IsWhole e → (entries_of number (bytes ++ line_break ∷ []) ≡ e ∷ []) × (kept_of number (bytes ++ line_break ∷ []) ≡ record { lines = next; bytes = [] })
@@ -164,25 +146,23 @@ whole_outside number at next bytes e none is more means =
       kept_outside number bytes none ∙ rw w.2 (done_with number next (next_outside number at next bytes none is more)),
     )
 
-pub text_outside : (waiting : Waiting) (number at next cut : ℕ) (bytes all : List ℕ) (head : Head) → all ≡ bytes ++ line_break ∷ [] → cut ≡ length all → whole_lines bytes ≡ [] → at ≡ number + length (whole_lines bytes) → next ≡ at + 1 → meaning_of number bytes ≡ BeginsText head → waiting.head ≡ head → IsTextOf waiting [] → (entries_of number (bytes ++ line_break ∷ []) ≡ []) × (kept_of number (bytes ++ line_break ∷ []) ≡ record { lines = number; bytes = all }) × Stands (Some waiting) number next cut all
-text_outside waiting number at next cut bytes all head is_all is_cut none is more means same is_text =
-    let m = meaning_begins number bytes head means in
-    let begins : begins_text bytes ≡ true = ap takes_text m.0 ∙ m.1 in
-    let whole : whole_lines all ≡ bytes ∷ [] = ap whole_lines is_all ∙ whole_break bytes ∙ ap (λ ls. ls ++ cut_line bytes ∷ []) none ∙ ap (λ l. l ∷ []) (cut_outside bytes none) in
-    let waits : Waits waiting number bytes [] = record {
-      says = m.0 ∙ ap (λ h. Ok h) (sym same);
-      takes = ap (λ h. h.takes_text) same ∙ m.1;
+pub text_outside : (number at next cut : ℕ) (bytes : List ℕ) → cut ≡ length bytes + 1 → whole_lines bytes ≡ [] → at ≡ number + length (whole_lines bytes) → next ≡ at + 1 → meaning_of number bytes ≡ BeginsText → (entries_of number (bytes ++ line_break ∷ []) ≡ []) × (kept_of number (bytes ++ line_break ∷ []) ≡ record { lines = number; bytes = bytes ++ line_break ∷ [] }) × Stands (Some cut) number next cut (bytes ++ line_break ∷ [])
+text_outside number at next cut bytes is_cut none is more means =
+    let begins : begins_text bytes ≡ true = meaning_begins number bytes means in
+    let whole : whole_lines (bytes ++ line_break ∷ []) ≡ bytes ∷ [] = whole_break bytes ∙ ap (λ ls. ls ++ cut_line bytes ∷ []) none ∙ ap (λ l. l ∷ []) (cut_outside bytes none) in
+    let waits : Waits cut number bytes [] = record {
+      place = is_cut;
+      begins = begins;
       stands = refl;
       silent = refl;
-      is_text = is_text;
     } in (
       entries_outside number bytes none ∙ rw (begins, or-true (is_empty bytes)) refl,
-      kept_outside number bytes none ∙ rw begins (ap (λ b. record { lines = number; bytes = b }) (sym is_all)),
+      kept_outside number bytes none ∙ rw begins refl,
       record {
         fits = rw whole waits;
         number = rw whole (next_outside number at next bytes none is more ∙ add_one number);
-        rest = ap (λ n. drop n all) is_cut ∙ drop_all (length all) all (omega arith) ∙ sym (ap cut_line is_all ∙ cut_break bytes);
-        within = omega (arith, is_cut);
+        rest = drop_all cut (bytes ++ line_break ∷ []) (omega (arith, is_cut, length-append bytes (line_break ∷ []))) ∙ sym (cut_break bytes);
+        within = omega (arith, is_cut, length-append bytes (line_break ∷ []));
       },
     )
   where
@@ -191,49 +171,50 @@ text_outside waiting number at next cut bytes all head is_all is_cut none is mor
 
 -- ---- in a text
 
-pub fits_some : (waiting : Waiting) (number : ℕ) (lines : List (List ℕ)) → Fits (Some waiting) number lines → (line : List ℕ) × (text : List (List ℕ)) × (lines ≡ line ∷ text) × Waits waiting number line text
-fits_some waiting number [] fits = absurd fits
-fits_some waiting number (line ∷ text) fits = (line, text, refl, fits)
+pub fits_some : (text_at number : ℕ) (lines : List (List ℕ)) → Fits (Some text_at) number lines → (line : List ℕ) × (text : List (List ℕ)) × (lines ≡ line ∷ text) × Waits text_at number line text
+fits_some text_at number [] fits = absurd fits
+fits_some text_at number (line ∷ text) fits = (line, text, refl, fits)
 
-begins_waiting : (waiting : Waiting) (number : ℕ) (line : List ℕ) (text : List (List ℕ)) → Waits waiting number line text → begins_text line ≡ true
-begins_waiting waiting number line text waits = ap takes_text waits.says ∙ waits.takes
-
-standing_waiting : (waiting : Waiting) (number : ℕ) (bytes line : List ℕ) (text : List (List ℕ)) → whole_lines bytes ≡ line ∷ text → Waits waiting number line text → standing_in number bytes ≡ InText number line text
-standing_waiting waiting number bytes line text whole waits =
+standing_waiting : (text_at number : ℕ) (bytes line : List ℕ) (text : List (List ℕ)) → whole_lines bytes ≡ line ∷ text → Waits text_at number line text → standing_in number bytes ≡ InText number line text
+standing_waiting text_at number bytes line text whole waits =
     ap (λ ls. standing_behind (Between number) ls) whole
-    ∙ text_stands number line text (begins_waiting waiting number line text waits) waits.stands
+    ∙ text_stands number line text waits.begins waits.stands
 
-silent_waiting : (waiting : Waiting) (number : ℕ) (bytes line : List ℕ) (text : List (List ℕ)) → whole_lines bytes ≡ line ∷ text → Waits waiting number line text → entries_of number bytes ≡ []
-silent_waiting waiting number bytes line text whole waits =
+silent_waiting : (text_at number : ℕ) (bytes line : List ℕ) (text : List (List ℕ)) → whole_lines bytes ≡ line ∷ text → Waits text_at number line text → entries_of number bytes ≡ []
+silent_waiting text_at number bytes line text whole waits =
     ap (λ ls. entries_from (Between number) ls) whole
-    ∙ text_silent number line text (begins_waiting waiting number line text waits) waits.silent
+    ∙ text_silent number line text waits.begins waits.silent
 
-entries_inside : (waiting : Waiting) (number : ℕ) (bytes line : List ℕ) (text : List (List ℕ)) → whole_lines bytes ≡ line ∷ text → Waits waiting number line text → entries_of number (bytes ++ line_break ∷ []) ≡ made_whole (InText number line text) (cut_line bytes)
-entries_inside waiting number bytes line text whole waits =
+entries_inside : (text_at number : ℕ) (bytes line : List ℕ) (text : List (List ℕ)) → whole_lines bytes ≡ line ∷ text → Waits text_at number line text → entries_of number (bytes ++ line_break ∷ []) ≡ made_whole (InText number line text) (cut_line bytes)
+entries_inside text_at number bytes line text whole waits =
     entries_break number bytes
-    ∙ ap (λ es. es ++ made_whole (standing_in number bytes) (cut_line bytes)) (silent_waiting waiting number bytes line text whole waits)
-    ∙ ap (λ s. made_whole s (cut_line bytes)) (standing_waiting waiting number bytes line text whole waits)
+    ∙ ap (λ es. es ++ made_whole (standing_in number bytes) (cut_line bytes)) (silent_waiting text_at number bytes line text whole waits)
+    ∙ ap (λ s. made_whole s (cut_line bytes)) (standing_waiting text_at number bytes line text whole waits)
 
-kept_inside : (waiting : Waiting) (number : ℕ) (bytes line : List ℕ) (text : List (List ℕ)) → whole_lines bytes ≡ line ∷ text → Waits waiting number line text → kept_of number (bytes ++ line_break ∷ []) ≡ kept_at (behind (InText number line text) (cut_line bytes))
-kept_inside waiting number bytes line text whole waits =
+kept_inside : (text_at number : ℕ) (bytes line : List ℕ) (text : List (List ℕ)) → whole_lines bytes ≡ line ∷ text → Waits text_at number line text → kept_of number (bytes ++ line_break ∷ []) ≡ kept_behind (behind (InText number line text) (cut_line bytes))
+kept_inside text_at number bytes line text whole waits =
     kept_break number bytes
-    ∙ ap (λ s. kept_at (behind s (cut_line bytes))) (standing_waiting waiting number bytes line text whole waits)
+    ∙ ap (λ s. kept_behind (behind s (cut_line bytes))) (standing_waiting text_at number bytes line text whole waits)
+
+-- an entry of the command that waits in these bytes
+abbrev pub IsOf : ℕ → List ℕ → Bool → Entry → Type 0
+IsOf number bytes ended e = (line : List ℕ) (text : List (List ℕ)) → whole_lines bytes ≡ line ∷ text → e ≡ entry number line text ended
 
 -- the dot of a text
-pub dot_inside : (waiting : Waiting) (number at next cut : ℕ) (bytes : List ℕ) (e : Entry) → Stands (Some waiting) number at cut bytes → next ≡ at + 1 → is_dot (cut_line bytes) ≡ true → ((line : List ℕ) (text : List (List ℕ)) → line_head line ≡ Ok waiting.head → IsTextOf waiting text → e ≡ entry number line text true) → (entries_of number (bytes ++ line_break ∷ []) ≡ e ∷ []) × (kept_of number (bytes ++ line_break ∷ []) ≡ record { lines = next; bytes = [] })
-dot_inside waiting number at next cut bytes e stands more dot makes =
-    let f = fits_some waiting number (whole_lines bytes) stands.fits in
-    let made : e ≡ entry number f.0 f.1 true = makes f.0 f.1 f.3.says f.3.is_text in
+pub dot_inside : (text_at number at next cut : ℕ) (bytes : List ℕ) (e : Entry) → Stands (Some text_at) number at cut bytes → next ≡ at + 1 → is_dot (cut_line bytes) ≡ true → IsOf number bytes true e → (entries_of number (bytes ++ line_break ∷ []) ≡ e ∷ []) × (kept_of number (bytes ++ line_break ∷ []) ≡ record { lines = next; bytes = [] })
+dot_inside text_at number at next cut bytes e stands more dot makes =
+    let f = fits_some text_at number (whole_lines bytes) stands.fits in
+    let made : e ≡ entry number f.0 f.1 true = makes f.0 f.1 f.2 in
     let count : number + length f.1 + 2 ≡ next = omega (arith, stands.number, more, ap length f.2) in (
-      entries_inside waiting number bytes f.0 f.1 f.2 f.3 ∙ rw dot (ap (λ x. x ∷ []) (sym made)),
-      kept_inside waiting number bytes f.0 f.1 f.2 f.3 ∙ rw dot (ap (λ n. record { lines = n; bytes = [] }) count),
+      entries_inside text_at number bytes f.0 f.1 f.2 f.3 ∙ rw dot (ap (λ x. x ∷ []) (sym made)),
+      kept_inside text_at number bytes f.0 f.1 f.2 f.3 ∙ rw dot (ap (λ n. record { lines = n; bytes = [] }) count),
     )
 
 -- a line of a text makes no entry whole
-pub silent_inside : (waiting : Waiting) (number at cut : ℕ) (bytes : List ℕ) → Stands (Some waiting) number at cut bytes → is_dot (cut_line bytes) ≡ false → entries_of number (bytes ++ line_break ∷ []) ≡ []
-silent_inside waiting number at cut bytes stands dot =
-    let f = fits_some waiting number (whole_lines bytes) stands.fits in
-    entries_inside waiting number bytes f.0 f.1 f.2 f.3 ∙ rw dot refl
+pub silent_inside : (text_at number at cut : ℕ) (bytes : List ℕ) → Stands (Some text_at) number at cut bytes → is_dot (cut_line bytes) ≡ false → entries_of number (bytes ++ line_break ∷ []) ≡ []
+silent_inside text_at number at cut bytes stands dot =
+    let f = fits_some text_at number (whole_lines bytes) stands.fits in
+    entries_inside text_at number bytes f.0 f.1 f.2 f.3 ∙ rw dot refl
 
 broken_more : (lines : List (List ℕ)) (line : List ℕ) → broken (lines ++ line ∷ []) ≡ broken lines ++ (line ++ line_break ∷ [])
 broken_more [] line = refl
@@ -249,20 +230,19 @@ all_broken bytes =
     ∙ ap (λ b. b ++ line_break ∷ []) (joined bytes)
 
 -- a line of a text, which isn't its dot
-pub line_inside : (waiting more_text : Waiting) (number at next cut next_cut : ℕ) (bytes all : List ℕ) → all ≡ bytes ++ line_break ∷ [] → next_cut ≡ length bytes + 1 → Stands (Some waiting) number at cut bytes → next ≡ at + 1 → is_dot (cut_line bytes) ≡ false → more_text.head ≡ waiting.head → ((text : List (List ℕ)) → IsTextOf waiting text → IsTextOf more_text (text ++ cut_line bytes ∷ [])) → (kept_of number (bytes ++ line_break ∷ []) ≡ record { lines = number; bytes = all }) × Stands (Some more_text) number next next_cut all
-line_inside waiting more_text number at next cut next_cut bytes all is_all is_cut stands more dot same adds =
-    let f = fits_some waiting number (whole_lines bytes) stands.fits in
+pub line_inside : (text_at number at next cut next_cut : ℕ) (bytes : List ℕ) → next_cut ≡ length bytes + 1 → Stands (Some text_at) number at cut bytes → next ≡ at + 1 → is_dot (cut_line bytes) ≡ false → (kept_of number (bytes ++ line_break ∷ []) ≡ record { lines = number; bytes = bytes ++ line_break ∷ [] }) × Stands (Some text_at) number next next_cut (bytes ++ line_break ∷ [])
+line_inside text_at number at next cut next_cut bytes is_cut stands more dot =
+    let f = fits_some text_at number (whole_lines bytes) stands.fits in
     let whole : whole_lines (bytes ++ line_break ∷ []) ≡ f.0 ∷ (f.1 ++ cut_line bytes ∷ []) = whole_break bytes ∙ ap (λ ls. ls ++ cut_line bytes ∷ []) f.2 in
     let bytes_kept : broken (f.0 ∷ (f.1 ++ cut_line bytes ∷ [])) ≡ bytes ++ line_break ∷ [] = ap (λ ls. broken (ls ++ cut_line bytes ∷ [])) (sym f.2) ∙ all_broken bytes in
-    let waits : Waits more_text number f.0 (f.1 ++ cut_line bytes ∷ []) = record {
-      says = f.3.says ∙ ap (λ h. Ok h) (sym same);
-      takes = ap (λ h. h.takes_text) same ∙ f.3.takes;
+    let waits : Waits text_at number f.0 (f.1 ++ cut_line bytes ∷ []) = record {
+      place = f.3.place;
+      begins = f.3.begins;
       stands = standing_further number f.0 f.1 (cut_line bytes) dot f.3.stands;
       silent = entries_further number f.0 f.1 (cut_line bytes) dot f.3.stands f.3.silent;
-      is_text = adds f.1 f.3.is_text;
     } in (
-      kept_inside waiting number bytes f.0 f.1 f.2 f.3 ∙ rw dot (ap (λ b. record { lines = number; bytes = b }) (bytes_kept ∙ sym is_all)),
-      rw (is_all, is_cut) (record {
+      kept_inside text_at number bytes f.0 f.1 f.2 f.3 ∙ rw dot (ap (λ b. record { lines = number; bytes = b }) bytes_kept),
+      rw is_cut (record {
         fits = rw whole waits;
         number = omega (arith, stands.number, more, ap length f.2, ap length whole, length-append f.1 (cut_line bytes ∷ []));
         rest = drop_all (length bytes + 1) (bytes ++ line_break ∷ []) (omega (arith, length-append bytes (line_break ∷ []))) ∙ sym (cut_break bytes);
@@ -272,19 +252,19 @@ line_inside waiting more_text number at next cut next_cut bytes all is_all is_cu
 
 -- ---- what is kept makes no entry whole, and is kept again
 
-pub entries_standing : (waiting : Option Waiting) (number at cut : ℕ) (bytes : List ℕ) → Stands waiting number at cut bytes → entries_of number bytes ≡ []
+pub entries_standing : (text : Option ℕ) (number at cut : ℕ) (bytes : List ℕ) → Stands text number at cut bytes → entries_of number bytes ≡ []
 entries_standing None number at cut bytes stands = ap (λ ls. entries_from (Between number) ls) stands.fits
-entries_standing (Some waiting) number at cut bytes stands =
-    let f = fits_some waiting number (whole_lines bytes) stands.fits in
-    silent_waiting waiting number bytes f.0 f.1 f.2 f.3
+entries_standing (Some text_at) number at cut bytes stands =
+    let f = fits_some text_at number (whole_lines bytes) stands.fits in
+    silent_waiting text_at number bytes f.0 f.1 f.2 f.3
 
-pub kept_standing : (waiting : Option Waiting) (number at cut : ℕ) (bytes : List ℕ) → Stands waiting number at cut bytes → kept_of number bytes ≡ record { lines = number; bytes = bytes }
+pub kept_standing : (text : Option ℕ) (number at cut : ℕ) (bytes : List ℕ) → Stands text number at cut bytes → kept_of number bytes ≡ record { lines = number; bytes = bytes }
 kept_standing None number at cut bytes stands =
     ap (λ ls. record { lines = lines_before (standing_behind (Between number) ls); bytes = broken (lines_kept (standing_behind (Between number) ls)) ++ cut_line bytes }) stands.fits
     ∙ ap (λ b. record { lines = number; bytes = b }) (cut_outside bytes stands.fits)
-kept_standing (Some waiting) number at cut bytes stands =
-    let f = fits_some waiting number (whole_lines bytes) stands.fits in
-    ap (λ s. record { lines = lines_before s; bytes = broken (lines_kept s) ++ cut_line bytes }) (standing_waiting waiting number bytes f.0 f.1 f.2 f.3)
+kept_standing (Some text_at) number at cut bytes stands =
+    let f = fits_some text_at number (whole_lines bytes) stands.fits in
+    ap (λ s. record { lines = lines_before s; bytes = broken (lines_kept s) ++ cut_line bytes }) (standing_waiting text_at number bytes f.0 f.1 f.2 f.3)
     ∙ ap (λ b. record { lines = number; bytes = b }) (ap (λ ls. broken ls ++ cut_line bytes) (sym f.2) ∙ joined bytes)
 
 -- ---- the script's end
@@ -292,8 +272,63 @@ kept_standing (Some waiting) number at cut bytes stands =
 pub unfinished_outside : (number at cut : ℕ) (bytes : List ℕ) → Stands None number at cut bytes → unfinished (standing_in number bytes) ≡ []
 unfinished_outside number at cut bytes stands = ap (λ ls. unfinished (standing_behind (Between number) ls)) stands.fits
 
-pub unfinished_inside : (waiting : Waiting) (number at cut : ℕ) (bytes : List ℕ) (e : Entry) → Stands (Some waiting) number at cut bytes → ((line : List ℕ) (text : List (List ℕ)) → line_head line ≡ Ok waiting.head → IsTextOf waiting text → e ≡ entry number line text false) → unfinished (standing_in number bytes) ≡ e ∷ []
-unfinished_inside waiting number at cut bytes e stands makes =
-    let f = fits_some waiting number (whole_lines bytes) stands.fits in
-    ap unfinished (standing_waiting waiting number bytes f.0 f.1 f.2 f.3)
-    ∙ ap (λ x. x ∷ []) (sym (makes f.0 f.1 f.3.says f.3.is_text))
+pub unfinished_inside : (text_at number at cut : ℕ) (bytes : List ℕ) (e : Entry) → Stands (Some text_at) number at cut bytes → IsOf number bytes false e → unfinished (standing_in number bytes) ≡ e ∷ []
+unfinished_inside text_at number at cut bytes e stands makes =
+    let f = fits_some text_at number (whole_lines bytes) stands.fits in
+    ap unfinished (standing_waiting text_at number bytes f.0 f.1 f.2 f.3)
+    ∙ ap (λ x. x ∷ []) (sym (makes f.0 f.1 f.2))
+
+-- ---- the bytes of a text that waits
+
+-- bytes whose whole lines are those of a command and of its text
+parts : (bytes line : List ℕ) (text : List (List ℕ)) → whole_lines bytes ≡ line ∷ text → line ++ line_break ∷ (broken text ++ cut_line bytes) ≡ bytes
+parts bytes line text whole =
+    sym (append_assoc line (line_break ∷ broken text) (cut_line bytes))
+    ∙ ap (λ ls. broken ls ++ cut_line bytes) (sym whole) ∙ joined bytes
+
+lengths : (bytes line : List ℕ) (text : List (List ℕ)) → whole_lines bytes ≡ line ∷ text → length bytes ≡ length line + (1 + (length (broken text) + length (cut_line bytes)))
+lengths bytes line text whole =
+    omega (arith, ap length (sym (parts bytes line text whole)), length-append line (line_break ∷ (broken text ++ cut_line bytes)), length-append (broken text) (cut_line bytes))
+
+-- where the last line begins
+cut_at : (text_at number at cut : ℕ) (bytes line : List ℕ) (text : List (List ℕ)) → Stands (Some text_at) number at cut bytes → whole_lines bytes ≡ line ∷ text → cut ≡ length line + (1 + length (broken text))
+cut_at text_at number at cut bytes line text stands whole =
+    omega (arith, stands.within, ap length stands.rest, length-drop cut bytes, lengths bytes line text whole)
+
+place_of : (text_at number : ℕ) (lines : List (List ℕ)) (line : List ℕ) (text : List (List ℕ)) → Fits (Some text_at) number lines → lines ≡ line ∷ text → text_at ≡ length line + 1
+place_of text_at number lines line text fits is =
+    let waits : Waits text_at number line text = rw is at fits in
+    waits.place
+
+pub text_within : (text_at number at cut : ℕ) (bytes : List ℕ) → Stands (Some text_at) number at cut bytes → (1 ≤ text_at) × (text_at ≤ cut)
+text_within text_at number at cut bytes stands =
+    let f = fits_some text_at number (whole_lines bytes) stands.fits in
+    let cut_is = cut_at text_at number at cut bytes f.0 f.1 stands f.2 in
+    (omega (arith, f.3.place), omega (arith, f.3.place, cut_is))
+
+take_line : (line more bytes : List ℕ) (count : ℕ) → line ++ more ≡ bytes → count ≡ length line → take count bytes ≡ line
+take_line line more bytes count is is_count =
+    ap (take count) (sym is) ∙ ap (λ n. take n (line ++ more)) is_count ∙ take-append_seam line more
+
+pub line_slice : (text_at number at cut : ℕ) (bytes line : List ℕ) (text : List (List ℕ)) → Stands (Some text_at) number at cut bytes → whole_lines bytes ≡ line ∷ text → take (text_at - 1) bytes ≡ line
+line_slice text_at number at cut bytes line text stands whole =
+    let place = place_of text_at number (whole_lines bytes) line text stands.fits whole in
+    take_line line (line_break ∷ (broken text ++ cut_line bytes)) bytes (text_at - 1) (parts bytes line text whole) (omega (arith, place))
+
+drop_line : (line more : List ℕ) (count : ℕ) → count ≡ length line + 1 → drop count (line ++ line_break ∷ more) ≡ more
+drop_line line more count is =
+    let length_is : length (line ++ line_break ∷ []) ≡ count = length-append line (line_break ∷ []) ∙ sym is in
+    ap (drop count) (sym (append_assoc line (line_break ∷ []) more))
+    ∙ ap (λ n. drop n ((line ++ line_break ∷ []) ++ more)) (sym length_is)
+    ∙ drop-append_seam (line ++ line_break ∷ []) more
+
+pub text_slice : (text_at number at cut : ℕ) (bytes line : List ℕ) (text : List (List ℕ)) → Stands (Some text_at) number at cut bytes → whole_lines bytes ≡ line ∷ text → whole_lines (take (cut - text_at) (drop text_at bytes)) ≡ text
+text_slice text_at number at cut bytes line text stands whole =
+    let place = place_of text_at number (whole_lines bytes) line text stands.fits whole in
+    let cut_is = cut_at text_at number at cut bytes line text stands whole in
+    let behind_line : drop text_at bytes ≡ broken text ++ cut_line bytes = ap (drop text_at) (sym (parts bytes line text whole)) ∙ drop_line line (broken text ++ cut_line bytes) text_at place in
+    let all : AllLines (line ∷ text) = rw whole at (whole_are_lines bytes) in
+    ap (λ b. whole_lines (take (cut - text_at) b)) behind_line
+    ∙ ap whole_lines (take_line (broken text) (cut_line bytes) (broken text ++ cut_line bytes) (cut - text_at) refl (omega (arith, place, cut_is)))
+    ∙ ap whole_lines (sym (append-nil (broken text)))
+    ∙ whole_behind text [] all.1 ∙ append-nil text

@@ -9,7 +9,7 @@ use Rattle.std.proofs.lemmas.Str.{IsUtf8-from_is_utf8, is_utf8-from_IsUtf8}
 use Rattle.text_buffer.specs.TextOfBytes.{most_chars}
 use Rattle.edit_script.specs.declared.commands.ScriptFault.{ScriptFault}
 use Rattle.edit_script.specs.declared.commands.ScriptFault.TheVariants.{BadCommand, BadAddress, UnfinishedText, BadUtf8, LongLine}
-use Rattle.edit_script.specs.declared.waiting.Waiting.{Waiting}
+use Rattle.edit_script.specs.declared.draft.Draft.{Draft}
 use Rattle.edit_script.specs.CommandLine.{is_long, line_chars}
 use Rattle.edit_script.specs.Entries.{has_bad_line, has_long_line}
 use Rattle.edit_script.specs.Reading.{IsTextOf, with_fault}
@@ -74,8 +74,8 @@ long_more (first ∷ text) line =
 true_false : true ≡ false → ⊥
 true_false is = absurd (cc)
 
-pub with_good_line : (waiting : Waiting) (text : List (List ℕ)) (line read : List ℕ) (lines : List (List ℕ)) → line_chars line ≡ Ok read → lines ≡ waiting.lines ++ read ∷ [] → IsTextOf waiting text → IsTextOf (record waiting { lines = lines }) (text ++ line ∷ [])
-with_good_line waiting text line read lines is is_lines is_text =
+pub with_good_line : (draft : Draft) (text : List (List ℕ)) (line read : List ℕ) (lines : List (List ℕ)) → line_chars line ≡ Ok read → lines ≡ draft.lines ++ read ∷ [] → IsTextOf draft text → IsTextOf (record draft { lines = lines }) (text ++ line ∷ [])
+with_good_line draft text line read lines is is_lines is_text =
     let t = good_tells (is_utf8 line) (is_long line) (chars line) read is in
     let bad : has_bad_line (text ++ line ∷ []) ≡ has_bad_line text = bad_more text line ∙ ap (λ b. has_bad_line text || not b) t.0 ∙ or_false (has_bad_line text) in
     let long : has_long_line (text ++ line ∷ []) ≡ has_long_line text = long_more text line ∙ ap (λ b. has_long_line text || (b && is_long line)) t.0 ∙ ap (λ b. has_long_line text || b) t.1 ∙ or_false (has_long_line text) in
@@ -89,8 +89,8 @@ with_good_line waiting text line read lines is is_lines is_text =
           ∙ sym (map-append chars text (line ∷ []));
     }
 
-with_bad_line : (waiting : Waiting) (text : List (List ℕ)) (line : List ℕ) → line_chars line ≡ Err BadUtf8 → IsTextOf waiting text → IsTextOf (record waiting { has_bad_line = true }) (text ++ line ∷ [])
-with_bad_line waiting text line is is_text =
+with_bad_line : (draft : Draft) (text : List (List ℕ)) (line : List ℕ) → line_chars line ≡ Err BadUtf8 → IsTextOf draft text → IsTextOf (record draft { has_bad_line = true }) (text ++ line ∷ [])
+with_bad_line draft text line is is_text =
     let good : is_utf8 line ≡ false = bad_tells (is_utf8 line) (is_long line) (chars line) is in
     let bad : has_bad_line (text ++ line ∷ []) ≡ true = bad_more text line ∙ ap (λ b. has_bad_line text || not b) good ∙ or-true (has_bad_line text) in
     let long : has_long_line (text ++ line ∷ []) ≡ has_long_line text = long_more text line ∙ ap (λ b. has_long_line text || (b && is_long line)) good ∙ or_false (has_long_line text) in
@@ -100,8 +100,8 @@ with_bad_line waiting text line is is_text =
       read = λ none_bad none_long. absurd (true_false (sym bad ∙ none_bad));
     }
 
-with_long_line : (waiting : Waiting) (text : List (List ℕ)) (line : List ℕ) (fault : ScriptFault) → line_chars line ≡ Err fault → (fault ≡ BadUtf8 → ⊥) → IsTextOf waiting text → IsTextOf (record waiting { has_long_line = true }) (text ++ line ∷ [])
-with_long_line waiting text line fault is other is_text =
+with_long_line : (draft : Draft) (text : List (List ℕ)) (line : List ℕ) (fault : ScriptFault) → line_chars line ≡ Err fault → (fault ≡ BadUtf8 → ⊥) → IsTextOf draft text → IsTextOf (record draft { has_long_line = true }) (text ++ line ∷ [])
+with_long_line draft text line fault is other is_text =
     let t = long_tells (is_utf8 line) (is_long line) (chars line) fault is other in
     let bad : has_bad_line (text ++ line ∷ []) ≡ has_bad_line text = bad_more text line ∙ ap (λ b. has_bad_line text || not b) t.0 ∙ or_false (has_bad_line text) in
     let long : has_long_line (text ++ line ∷ []) ≡ true = long_more text line ∙ ap (λ b. has_long_line text || (b && is_long line)) t.0 ∙ ap (λ b. has_long_line text || b) t.1 ∙ or-true (has_long_line text) in
@@ -111,9 +111,9 @@ with_long_line waiting text line fault is other is_text =
       read = λ none_bad none_long. absurd (true_false (sym long ∙ none_long));
     }
 
-pub with_faulty_line : (waiting : Waiting) (text : List (List ℕ)) (line : List ℕ) (fault : ScriptFault) → line_chars line ≡ Err fault → IsTextOf waiting text → IsTextOf (with_fault waiting fault) (text ++ line ∷ [])
-with_faulty_line waiting text line BadUtf8 is is_text = with_bad_line waiting text line is is_text
-with_faulty_line waiting text line BadCommand is is_text = with_long_line waiting text line BadCommand is (λ same. absurd (cc)) is_text
-with_faulty_line waiting text line BadAddress is is_text = with_long_line waiting text line BadAddress is (λ same. absurd (cc)) is_text
-with_faulty_line waiting text line UnfinishedText is is_text = with_long_line waiting text line UnfinishedText is (λ same. absurd (cc)) is_text
-with_faulty_line waiting text line LongLine is is_text = with_long_line waiting text line LongLine is (λ same. absurd (cc)) is_text
+pub with_faulty_line : (draft : Draft) (text : List (List ℕ)) (line : List ℕ) (fault : ScriptFault) → line_chars line ≡ Err fault → IsTextOf draft text → IsTextOf (with_fault draft fault) (text ++ line ∷ [])
+with_faulty_line draft text line BadUtf8 is is_text = with_bad_line draft text line is is_text
+with_faulty_line draft text line BadCommand is is_text = with_long_line draft text line BadCommand is (λ same. absurd (cc)) is_text
+with_faulty_line draft text line BadAddress is is_text = with_long_line draft text line BadAddress is (λ same. absurd (cc)) is_text
+with_faulty_line draft text line UnfinishedText is is_text = with_long_line draft text line UnfinishedText is (λ same. absurd (cc)) is_text
+with_faulty_line draft text line LongLine is is_text = with_long_line draft text line LongLine is (λ same. absurd (cc)) is_text

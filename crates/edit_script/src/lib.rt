@@ -2,16 +2,16 @@
 //!
 //! A script comes in pieces of any size. What was read of it is seen as a number of lines, which
 //! are done with, and the bytes behind them; so what the pieces give together depends on the bytes
-//! alone. Inside, the lines of a text that waits for its dot are decoded already.
+//! alone. The lines of a text are decoded when its dot comes.
 #![tactic(auto)]
 
 mod addresses;
 mod commands;
+mod draft;
 mod head;
 mod reader;
 mod resolving;
 mod script;
-mod waiting;
 
 pub use commands::{EditCommand, Entry, Last, ResolveError, Resolved, ScriptFault, Verb};
 pub use resolving::resolve;

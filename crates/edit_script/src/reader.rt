@@ -1,38 +1,55 @@
 //! A script's lines, one after the other.
-ghost use Rattle.std.specs.Prelude.{◌≡◌, ◌+◌, ◌++◌, ◌∷◌, [], IfOk, OnOk, OnErr, Some, None, false};
-ghost use Rattle.text_buffer.specs.TextOfBytes.{line_break, pieces_of};
+ghost use Rattle.std.specs.Prelude.{◌≡◌, ◌+◌, ◌-◌, ◌≤◌, ◌++◌, ◌∷◌, [], length, take, drop, List, ℕ};
+ghost use Rattle.std.specs.Prelude.{IfOk, OnOk, OnErr, Some, None};
+ghost use Rattle.text_buffer.specs.TextOfBytes.{line_break};
 ghost use Rattle.edit_script.specs.Entries as spec;
-ghost use Rattle.edit_script.specs.Entries.{cut_line, entries_at_end, entries_of, kept_of, standing_in, unfinished};
-ghost use Rattle.edit_script.specs.Reading.{IsReading, meaning_of, seen};
+ghost use Rattle.edit_script.specs.Entries.{entries_at_end, entries_of, entry, kept_of};
+ghost use Rattle.edit_script.specs.Entries.{standing_in, unfinished, whole_lines};
+ghost use Rattle.edit_script.specs.Reading.{IsAt, IsReading, Stands, begin_behind, kept_at, meaning_of, seen, stays};
 
 use crate::Entry;
-use crate::head::Head;
-use crate::waiting::{Waiting, line_head, without_text};
+use crate::draft::{line_head, with_lines, without_text};
+use memchr::memchr;
 use std::alloc::Global;
 use syn_base::{List, Memory};
 use text_buffer::LINE_BREAK;
 
-/// Where the reading of a script stands.
-#[derive(Drop)]
-pub(crate) struct Reader {
+/// Where the reading of a script stands in the bytes that are kept of it.
+#[derive(Clone, Copy)]
+pub(crate) struct Place {
     /// How many lines were answered or skipped.
     pub lines: usize,
     /// The number of the line that has no line break yet, from 0.
     pub at: usize,
-    /// The bytes behind the lines that were answered or skipped. A line is read from them once,
-    /// when its line break comes; those of a text stay until its dot, since contracts see them.
-    pub bytes: Vec<u8>,
-    /// Where the line begins in them that has no line break yet.
+    /// Where this line begins.
     pub cut: usize,
-    /// The command whose text has no dot yet.
-    pub waiting: Option<Waiting>,
+    /// Where the text begins of the command that waits for its dot.
+    pub text: Option<usize>,
+}
+
+/// A script that is being read.
+#[derive(Drop)]
+pub(crate) struct Reader {
+    pub place: Place,
+    /// The bytes behind the lines that were answered or skipped. Those of a text stay until its
+    /// dot, and are decoded when it comes.
+    pub bytes: Vec<u8>,
+}
+
+/// What was read of bytes.
+#[derive(Drop)]
+pub(crate) struct Progress {
+    pub entries: List<Entry>,
+    pub place: Place,
+    /// Where the bytes begin that are kept.
+    pub begin: usize,
 }
 
 /// What a line means that stands outside of a text.
 #[derive(Drop)]
 pub(crate) enum Meaning {
     Nothing,
-    BeginsText(Head),
+    BeginsText,
     IsWhole(Entry),
 }
 
@@ -55,7 +72,7 @@ fn meaning_of(alloc: Global, number: usize, line: &[u8]) -> Result<Meaning, Memo
         })),
         Ok(head) => {
             if head.takes_text {
-                return Ok(Meaning::BeginsText(head));
+                return Ok(Meaning::BeginsText);
             }
             let entry = without_text(alloc, head).into_entry(number, true);
             Ok(Meaning::IsWhole(entry))
@@ -63,154 +80,231 @@ fn meaning_of(alloc: Global, number: usize, line: &[u8]) -> Result<Meaning, Memo
     }
 }
 
-/// Bytes without a line break come.
-pub(crate) fn extend(reader: &mut Reader, part: &[u8]) -> Result<(), Memory>
-    requires reading { IsReading reader.old }
-    requires part { pieces_of part.now ≡ part.now ∷ [] }
-    ensures reading { IsReading reader.new }
-    ensures lines { reader.new.lines ≡ reader.old.lines }
-    ensures more { OnOk result (reader.new.bytes.items ≡ reader.old.bytes.items ++ part.now) }
-    ensures same { OnErr result (reader.new.bytes.items ≡ reader.old.bytes.items) }
+/// The entry of the command that stands before byte `text`, with the lines from there up to `cut`,
+/// each with its line break.
+fn text_entry(
+    alloc: Global,
+    place: Place,
+    text: usize,
+    kept: &[u8],
+    ended: bool,
+) -> Result<Entry, Memory>
+    requires line { 1 ≤ text }
+    requires text { text ≤ place.cut }
+    requires within { place.cut ≤ length kept.now }
+    ensures { IfOk result (λ made. made ≡ entry place.lines (take (text - 1) kept.now)
+        (whole_lines (take (place.cut - text) (drop text kept.now))) ended) }
 {
-    reader.bytes.extend_from_slice(part)?;
-    Ok(())
+    let line = place.lines;
+    match line_head(alloc, &kept[..text - 1])? {
+        Err(fault) => Ok(Entry {
+            line,
+            what: Err(fault),
+        }),
+        Ok(head) => Ok(with_lines(alloc, head, &kept[text..place.cut])?.into_entry(line, ended)),
+    }
 }
 
-/// Everything before line `next` is answered or skipped.
-fn go_on_at(reader: &mut Reader, next: usize)
-    ensures lines { reader.new.lines ≡ next }
-    ensures bytes { reader.new.bytes.items ≡ [] }
-    ensures reading { IsReading reader.new }
+/// The entry of the command that waits in these bytes, whose text begins at `text`.
+fn waiting_entry(
+    alloc: Global,
+    place: Place,
+    text: usize,
+    kept: &[u8],
+    ended: bool,
+) -> Result<Entry, Memory>
+    requires { Stands (Some text) place.lines place.at place.cut kept.now }
+    ensures { IfOk result (λ made. (line : List ℕ) (lines : List (List ℕ))
+        → whole_lines kept.now ≡ line ∷ lines → made ≡ entry place.lines line lines ended) }
 {
-    reader.lines = next;
-    reader.at = next;
-    reader.bytes.clear();
-    reader.cut = 0;
-    reader.waiting = None;
+    text_entry(alloc, place, text, kept, ended)
 }
 
-/// The line break of a line comes that stands outside of a text.
+/// The place where everything before line `next` is answered or skipped.
+pub(crate) fn before_line(next: usize) -> Place
+    ensures { result ≡ record { lines = next; at = next; cut = 0; text = None } }
+{
+    Place {
+        lines: next,
+        at: next,
+        cut: 0,
+        text: None,
+    }
+}
+
+/// The line break comes behind these bytes, which are a line outside of a text.
 fn end_command(
     alloc: Global,
-    reader: &mut Reader,
+    place: Place,
     next: usize,
+    kept: &[u8],
     entries: &mut List<Entry>,
-) -> Result<(), Memory>
-    requires reading { IsReading reader.old }
-    requires outside { reader.old.waiting ≡ None }
-    requires next { next ≡ reader.old.at + 1 }
-    ensures reading { IsReading reader.new }
-    ensures kept { OnOk result (seen reader.new
-        ≡ kept_of reader.old.lines (reader.old.bytes.items ++ line_break ∷ [])) }
+) -> Result<Place, Memory>
+    requires stands { IsAt place kept.now }
+    requires outside { place.text ≡ None }
+    requires next { next ≡ place.at + 1 }
+    ensures stands { IfOk result (λ now. IsAt now (stays now.text kept.now)) }
+    ensures kept { IfOk result (λ now. kept_at now (stays now.text kept.now)
+        ≡ kept_of place.lines (kept.now ++ line_break ∷ [])) }
     ensures entries { OnOk result (entries.new ≡ entries.old
-        ++ entries_of reader.old.lines (reader.old.bytes.items ++ line_break ∷ [])) }
+        ++ entries_of place.lines (kept.now ++ line_break ∷ [])) }
 {
-    match meaning_of(alloc, reader.lines, reader.bytes.as_slice())? {
-        Meaning::Nothing => go_on_at(reader, next),
+    match meaning_of(alloc, place.lines, kept)? {
+        Meaning::Nothing => Ok(before_line(next)),
         Meaning::IsWhole(entry) => {
             entries.push(entry)?;
-            go_on_at(reader, next);
+            Ok(before_line(next))
         }
-        Meaning::BeginsText(head) => {
-            reader.bytes.push(LINE_BREAK)?;
-            reader.cut = reader.bytes.len();
-            reader.at = next;
-            reader.waiting = Some(without_text(alloc, head));
+        Meaning::BeginsText => {
+            let cut = kept.len() + 1;
+            Ok(Place {
+                lines: place.lines,
+                at: next,
+                cut,
+                text: Some(cut),
+            })
         }
     }
-    Ok(())
 }
 
-/// The line break of a line of a text comes, which isn't its dot.
-fn add_text_line(
+/// The line break comes behind these bytes.
+fn end_line(
     alloc: Global,
-    reader: &mut Reader,
-    next: usize,
-    waiting: Waiting,
-) -> Result<(), Memory>
-    requires reading { IsReading (record reader.old { waiting = Some waiting }) }
-    requires further { spec.is_dot (cut_line reader.old.bytes.items) ≡ false }
-    requires next { next ≡ reader.old.at + 1 }
-    ensures reading { IsReading reader.new }
-    ensures kept { OnOk result (seen reader.new
-        ≡ kept_of reader.old.lines (reader.old.bytes.items ++ line_break ∷ [])) }
+    place: Place,
+    kept: &[u8],
+    entries: &mut List<Entry>,
+) -> Result<Place, Memory>
+    requires stands { IsAt place kept.now }
+    ensures stands { IfOk result (λ now. IsAt now (stays now.text kept.now)) }
+    ensures kept { IfOk result (λ now. kept_at now (stays now.text kept.now)
+        ≡ kept_of place.lines (kept.now ++ line_break ∷ [])) }
+    ensures entries { OnOk result (entries.new ≡ entries.old
+        ++ entries_of place.lines (kept.now ++ line_break ∷ [])) }
 {
-    let mut waiting = waiting;
-    let end = reader.bytes.len();
-    if reader.bytes.push(LINE_BREAK).is_err() {
-        reader.waiting = Some(waiting);
+    // A line that has no number is refused as want of memory.
+    let Some(next) = place.at.checked_add(1) else {
         return Err(Memory);
+    };
+    let Some(text) = place.text else {
+        return end_command(alloc, place, next, kept, entries);
+    };
+    if !is_dot(&kept[place.cut..]) {
+        return Ok(Place {
+            lines: place.lines,
+            at: next,
+            cut: kept.len() + 1,
+            text: Some(text),
+        });
     }
-    let added = waiting.add_line(alloc, &reader.bytes[reader.cut..end]);
-    reader.waiting = Some(waiting);
-    match added {
-        Ok(()) => {
-            reader.cut = end + 1;
-            reader.at = next;
-            Ok(())
+    entries.push(waiting_entry(alloc, place, text, kept, true)?)?;
+    Ok(before_line(next))
+}
+
+/// Where the bytes begin that are kept behind a line break, if they began at `begin` before.
+fn begin_behind(place: &Place, begin: usize, next: usize) -> usize
+    ensures { result ≡ begin_behind place.now.text begin next }
+{
+    match place.text {
+        None => next,
+        Some(_) => begin,
+    }
+}
+
+/// The entries that these bytes make whole, of which `from` were read. It changes nothing, so that
+/// for want of memory all is as before.
+fn read_lines(alloc: Global, place: Place, bytes: &[u8], from: usize) -> Result<Progress, Memory>
+    requires within { from ≤ length bytes.now }
+    requires stands { IsAt place (take from bytes.now) }
+    ensures within { IfOk result (λ read. read.begin ≤ length bytes.now) }
+    ensures stands { IfOk result (λ read. IsAt read.place (drop read.begin bytes.now)) }
+    ensures kept { IfOk result (λ read. kept_at read.place (drop read.begin bytes.now)
+        ≡ kept_of place.lines bytes.now) }
+    ensures entries { IfOk result (λ read. read.entries ≡ entries_of place.lines bytes.now) }
+{
+    let mut entries = List::new(alloc);
+    let mut now = place;
+    let mut begin = 0;
+    let mut next = from;
+    while let Some(count) = memchr(LINE_BREAK, &bytes[next..]) {
+        let end = next + count;
+        now = end_line(alloc, now, &bytes[begin..end], &mut entries)?;
+        next = end + 1;
+        begin = begin_behind(&now, begin, next);
+    }
+    Ok(Progress {
+        entries,
+        place: now,
+        begin,
+    })
+}
+
+/// Takes out the bytes before `begin`. It takes no memory.
+fn cut_front(bytes: &mut Vec<u8>, begin: usize)
+    requires { begin ≤ length bytes.old.items }
+    ensures { bytes.new.items ≡ drop begin bytes.old.items }
+{
+    if begin == 0 {
+        return;
+    }
+    bytes.as_mut_slice().rotate_left(begin);
+    let left = bytes.len() - begin;
+    bytes.truncate(left);
+}
+
+/// The entries that become whole with this piece. For want of memory nothing of it was taken.
+pub(crate) fn read(alloc: Global, reader: &mut Reader, piece: &[u8]) -> Result<List<Entry>, Memory>
+    requires reading { IsReading reader.old }
+    ensures reading { IsReading reader.new }
+    ensures entries { IfOk result (λ entries. entries
+        ≡ entries_of reader.old.place.lines (reader.old.bytes.items ++ piece.now)) }
+    ensures kept { OnOk result (seen reader.new
+        ≡ kept_of reader.old.place.lines (reader.old.bytes.items ++ piece.now)) }
+    ensures unchanged { OnErr result (seen reader.new ≡ seen reader.old) }
+{
+    let old = reader.bytes.len();
+    reader.bytes.extend_from_slice(piece)?;
+    match read_lines(alloc, reader.place, reader.bytes.as_slice(), old) {
+        Ok(read) => {
+            cut_front(&mut reader.bytes, read.begin);
+            reader.place = read.place;
+            Ok(read.entries)
         }
         Err(refused) => {
-            reader.bytes.truncate(end);
+            reader.bytes.truncate(old);
             Err(refused)
         }
     }
 }
 
-/// The line break of the last line comes.
-pub(crate) fn end_line(
-    alloc: Global,
-    reader: &mut Reader,
-    entries: &mut List<Entry>,
-) -> Result<(), Memory>
-    requires reading { IsReading reader.old }
-    ensures reading { IsReading reader.new }
-    ensures kept { OnOk result (seen reader.new
-        ≡ kept_of reader.old.lines (reader.old.bytes.items ++ line_break ∷ [])) }
-    ensures entries { OnOk result (entries.new ≡ entries.old
-        ++ entries_of reader.old.lines (reader.old.bytes.items ++ line_break ∷ [])) }
-{
-    // A line that has no number is refused as want of memory.
-    let Some(next) = reader.at.checked_add(1) else {
-        return Err(Memory);
-    };
-    let Some(waiting) = reader.waiting.take() else {
-        return end_command(alloc, reader, next, entries);
-    };
-    if !is_dot(&reader.bytes[reader.cut..]) {
-        return add_text_line(alloc, reader, next, waiting);
-    }
-    let entry = waiting.into_entry(reader.lines, true);
-    go_on_at(reader, next);
-    entries.push(entry)
-}
-
 /// The script ends, and what stands in its last line is a line.
-pub(crate) fn end_last_line(
-    alloc: Global,
-    reader: &mut Reader,
-    entries: &mut List<Entry>,
-) -> Result<(), Memory>
+pub(crate) fn end_last_line(alloc: Global, reader: &mut Reader) -> Result<List<Entry>, Memory>
     requires reading { IsReading reader.old }
     ensures reading { IsReading reader.new }
-    ensures ends { OnOk result (entries.new
-        ++ unfinished (standing_in reader.new.lines reader.new.bytes.items)
-        ≡ entries.old ++ entries_at_end reader.old.lines reader.old.bytes.items) }
+    ensures ends { IfOk result (λ entries. entries
+        ++ unfinished (standing_in reader.new.place.lines reader.new.bytes.items)
+        ≡ entries_at_end reader.old.place.lines reader.old.bytes.items) }
 {
-    if reader.cut < reader.bytes.len() {
-        return end_line(alloc, reader, entries);
+    if reader.place.cut < reader.bytes.len() {
+        return read(alloc, reader, [LINE_BREAK].as_slice());
     }
-    Ok(())
+    Ok(List::new(alloc))
 }
 
 /// The script ends, and the text that waits lacks its dot.
-pub(crate) fn push_unfinished(reader: Reader, entries: &mut List<Entry>) -> Result<(), Memory>
+pub(crate) fn push_unfinished(
+    alloc: Global,
+    reader: Reader,
+    entries: &mut List<Entry>,
+) -> Result<(), Memory>
     requires { IsReading reader }
     ensures { OnOk result (entries.new ≡ entries.old
-        ++ unfinished (standing_in reader.lines reader.bytes.items)) }
+        ++ unfinished (standing_in reader.place.lines reader.bytes.items)) }
 {
-    let Reader { lines, waiting, .. } = reader;
-    match waiting {
+    match reader.place.text {
         None => Ok(()),
-        Some(waiting) => entries.push(waiting.into_entry(lines, false)),
+        Some(text) => {
+            let kept = reader.bytes.as_slice();
+            entries.push(waiting_entry(alloc, reader.place, text, kept, false)?)
+        }
     }
 }

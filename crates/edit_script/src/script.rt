@@ -1,14 +1,12 @@
 //! Scripts in pieces.
-ghost use Rattle.std.specs.Prelude.{◌≡◌, ◌++◌, [], IfOk, List, ℕ};
+ghost use Rattle.std.specs.Prelude.{◌≡◌, ◌++◌, [], IfOk, OnErr, List, ℕ};
 ghost use Rattle.edit_script.specs.Entries.{entries_of, entries_at_end, kept_of};
 
 use crate::Entry;
-use crate::reader::{Reader, end_last_line, end_line, extend, push_unfinished};
-use memchr::memchr;
+use crate::reader::{Reader, before_line, end_last_line, push_unfinished, read};
 use std::alloc::Global;
 use std::marker::Model;
 use syn_base::{List, Memory};
-use text_buffer::LINE_BREAK;
 
 /// A script that is being read. What is seen of it is the number of lines that were answered or
 /// skipped, and the bytes behind them.
@@ -38,38 +36,29 @@ impl Script {
         Script {
             alloc,
             reader: Reader {
-                lines: 0,
-                at: 0,
+                place: before_line(0),
                 bytes: Vec::new(alloc),
-                cut: 0,
-                waiting: None,
             },
         }
     }
 
     /// The entries that become whole with this piece: those whose last line is whole, with its line
     /// break, in what is kept followed by the piece. A command whose text has no dot yet waits.
-    /// Lines are counted from 0. For want of memory a part of the piece may have been taken.
+    /// Lines are counted from 0. For want of memory nothing of the piece was taken, and the same
+    /// piece may be fed again.
     pub fn feed(&mut self, piece: &[u8]) -> Result<List<Entry>, Memory>
         ensures entries { IfOk result (λ entries.
             entries ≡ entries_of self.old.lines (self.old.bytes ++ piece.now)) }
         ensures kept { IfOk result (λ _.
             self.new ≡ kept_of self.old.lines (self.old.bytes ++ piece.now)) }
+        ensures unchanged { OnErr result (self.new ≡ self.old) }
         // However the bytes before were cut.
         ensures further { IfOk result (λ entries. (before : List ℕ) → self.old ≡ kept_of 0 before →
             entries_of 0 (before ++ piece.now) ≡ entries_of 0 before ++ entries) }
         ensures behind { IfOk result (λ _. (before : List ℕ) → self.old ≡ kept_of 0 before →
             self.new ≡ kept_of 0 (before ++ piece.now)) }
     {
-        let mut entries = List::new(self.alloc);
-        let mut rest = piece;
-        while let Some(end) = memchr(LINE_BREAK, rest) {
-            extend(&mut self.reader, &rest[..end])?;
-            end_line(self.alloc, &mut self.reader, &mut entries)?;
-            rest = &rest[end + 1..];
-        }
-        extend(&mut self.reader, rest)?;
-        Ok(entries)
+        read(self.alloc, &mut self.reader, piece)
     }
 
     /// The entries of what is kept, where the script ends behind it.
@@ -80,9 +69,8 @@ impl Script {
             entries_at_end 0 before ≡ entries_of 0 before ++ entries) }
     {
         let Script { alloc, mut reader } = self;
-        let mut entries = List::new(alloc);
-        end_last_line(alloc, &mut reader, &mut entries)?;
-        push_unfinished(reader, &mut entries)?;
+        let mut entries = end_last_line(alloc, &mut reader)?;
+        push_unfinished(alloc, reader, &mut entries)?;
         Ok(entries)
     }
 }

@@ -2,7 +2,7 @@ use Rattle.std.proofs.Common.{◌≡◌, sym, ◌∙◌}
 use Rattle.std.specs.Prelude.{Ok, Err}
 use Rattle.edit_script.specs.CommandLine.{line_chars}
 use Rattle.edit_script.proofs.TextLaws.{with_good_line, with_faulty_line}
-use Rattle.edit_script.proofs.waiting.Waiting.add_line.Goals as goal
+use Rattle.edit_script.proofs.draft.Draft.add_line.Goals as goal
 
 pub returns-in_ok-push-in-Ok-clause-more : goal.returns-in_ok-push-in-Ok-clause-more
 returns-in_ok-push-in-Ok-clause-more c =

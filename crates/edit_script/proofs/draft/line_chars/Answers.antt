@@ -2,7 +2,7 @@ use Rattle.std.proofs.Common.{◌≡◌, ℕ, List, length, ap, sym, ◌∙◌, 
 use Rattle.std.specs.Str.{chars}
 use Rattle.std.specs.Prelude.{Ok}
 use Rattle.edit_script.proofs.TextLaws.{bad_line, long_line, good_line}
-use Rattle.edit_script.proofs.waiting.line_chars.Goals as goal
+use Rattle.edit_script.proofs.draft.line_chars.Goals as goal
 
 -- the characters counted are those of the bytes
 same_count : (text bytes : List ℕ) → text ≡ bytes → length (chars text) ≡ length (chars bytes)

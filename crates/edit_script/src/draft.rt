@@ -1,20 +1,21 @@
-//! Lines of bytes, and the command whose text waits for its dot.
+//! Lines of bytes, and a command with the lines of its text.
 ghost use Rattle.std.specs.Prelude.{◌≡◌, ◌++◌, ◌∷◌, [], IfOk, OnOk, OnErr, List, ℕ, Ok, length, map};
 ghost use Rattle.std.specs.Str.{chars};
 ghost use Rattle.edit_script.specs.CommandLine as spec;
 ghost use Rattle.edit_script.specs.CommandLine.{line_head};
-ghost use Rattle.edit_script.specs.Entries.{entry, with_order};
+ghost use Rattle.edit_script.specs.Entries.{entry, whole_lines, with_order};
 ghost use Rattle.edit_script.specs.Reading.{IsTextOf, with_fault};
 
 use crate::head::{Head, Order, head_of};
 use crate::{EditCommand, Entry, ScriptFault};
+use memchr::memchr;
 use std::alloc::Global;
 use syn_base::{List, Memory};
-use text_buffer::{Line, MOST_CHARS};
+use text_buffer::{LINE_BREAK, Line, MOST_CHARS};
 
-/// The command whose text has no dot yet, with the lines so far.
+/// A command with the lines of its text so far.
 #[derive(Drop)]
-pub(crate) struct Waiting {
+pub(crate) struct Draft {
     pub head: Head,
     /// The lines of the text, while each of them is well.
     pub lines: List<Line>,
@@ -55,16 +56,30 @@ pub(crate) fn line_head(alloc: Global, bytes: &[u8]) -> Result<Result<Head, Scri
 }
 
 /// The command whose line this is, before any line of its text.
-pub(crate) fn without_text(alloc: Global, head: Head) -> Waiting
+pub(crate) fn without_text(alloc: Global, head: Head) -> Draft
     ensures head { result.head ≡ head }
     ensures text { IsTextOf result [] }
 {
-    Waiting {
+    Draft {
         head,
         lines: List::new(alloc),
         has_bad_line: false,
         has_long_line: false,
     }
+}
+
+/// The command with the lines of these bytes as its text, each with its line break.
+pub(crate) fn with_lines(alloc: Global, head: Head, text: &[u8]) -> Result<Draft, Memory>
+    ensures head { IfOk result (λ draft. draft.head ≡ head) }
+    ensures text { IfOk result (λ draft. IsTextOf draft (whole_lines text.now)) }
+{
+    let mut draft = without_text(alloc, head);
+    let mut rest = text;
+    while let Some(end) = memchr(LINE_BREAK, rest) {
+        draft.add_line(alloc, &rest[..end])?;
+        rest = &rest[end + 1..];
+    }
+    Ok(draft)
 }
 
 fn with_order(
@@ -89,7 +104,7 @@ fn with_order(
     })
 }
 
-impl Waiting {
+impl Draft {
     /// A line of the text has this fault.
     fn add_fault(&mut self, fault: ScriptFault)
         ensures { self.new ≡ with_fault self.old fault }
@@ -119,7 +134,7 @@ impl Waiting {
         ensures { (line : List ℕ) (text : List (List ℕ)) → line_head line ≡ Ok self.head
             → IsTextOf self text → result ≡ entry number line text ended }
     {
-        let Waiting {
+        let Draft {
             head,
             lines,
             has_bad_line,
