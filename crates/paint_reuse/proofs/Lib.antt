@@ -1,0 +1,12 @@
+pub mod Places
+pub mod SameStates
+pub mod ReportIs
+pub mod NothingLaws
+pub mod NoteLaws
+pub mod ReuseLaw
+pub mod Walks
+pub mod Works
+pub mod Steps
+pub mod Patches
+pub mod Skips
+pub mod Whole
