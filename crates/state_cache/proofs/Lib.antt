@@ -1,3 +1,8 @@
-mod ReportIs
-mod ReportLaws
-mod WalkLaws
+pub mod KeptLaws
+pub mod NewLaws
+pub mod PaintedNotes
+pub mod PatchLaws
+pub mod ReachLaws
+pub mod RefusalLaws
+pub mod SameLaws
+pub mod StretchLaws

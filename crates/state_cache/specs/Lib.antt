@@ -1,7 +1,11 @@
 -- what a reader must believe
 pub mod Spans
 pub mod PaintedText
-pub mod Change
+pub mod Notes
 pub mod Report
 -- what code and proofs alone cite
+pub mod Brushes
+pub mod Refusals
+pub mod Reach
 pub mod Walk
+pub mod Edits

@@ -1,41 +1,18 @@
-//! A replacement of lines, and a text with the replacement in its place.
-ghost use Rattle.std.specs.Prelude.{◌≡◌, ◌+◌, ◌-◌, ◌<◌, ◌≤◌, ◌^◌, length, Some};
-ghost use Rattle.state_cache.specs.Change.{old_line, replaced};
+//! A text with a replacement of lines in its place.
+ghost use Rattle.std.specs.Prelude.{◌≡◌, ◌+◌, ◌<◌, ◌≤◌, ◌^◌, length};
+ghost use Rattle.paint_reuse.specs.Change.{replaced};
 
+use paint_reuse::Change;
 use syn_base::{Lines, List};
 use text_buffer::{Line, Text};
-
-/// Lines `a` to `b - 1` of a text, from 0, become `count` lines.
-#[derive(Clone, Copy)]
-pub(crate) struct Change {
-    pub(crate) a: usize,
-    pub(crate) b: usize,
-    pub(crate) count: usize,
-}
-
-impl Change {
-    /// What line `k` of the changed text was, if it is not new.
-    pub(crate) fn old_line(self, k: usize) -> Option<usize>
-        requires { k + self.b < 2 ^ 64 }
-        ensures { result ≡ old_line self k }
-    {
-        if k < self.a {
-            return Some(k);
-        }
-        if k - self.a < self.count {
-            return None;
-        }
-        Some(k - self.a - self.count + self.b)
-    }
-}
 
 /// A text in which lines `a` to `b - 1` are replaced, with nothing of it copied.
 #[derive(Drop)]
 pub(crate) struct Changed<'a> {
-    text: &'a Text,
-    a: usize,
-    b: usize,
-    new: &'a List<Line>,
+    pub(crate) text: &'a Text,
+    pub(crate) a: usize,
+    pub(crate) b: usize,
+    pub(crate) new: &'a List<Line>,
     /// How many lines stand behind the replaced ones.
     behind: usize,
     ghost ordered: { a ≤ b },
@@ -52,8 +29,9 @@ impl<'a> Changed<'a> {
         requires some { 0 < length (replaced text.now.lines a b new.now) }
         requires few { length (replaced text.now.lines a b new.now) < 2 ^ 32 }
         ensures text { result.text.now ≡ text.now }
-        ensures lines { replaced result.text.now.lines result.a result.b result.new.now
-            ≡ replaced text.now.lines a b new.now }
+        ensures first { result.a ≡ a }
+        ensures end { result.b ≡ b }
+        ensures new { result.new.now ≡ new.now }
     {
         let behind = text.len() - b;
         Changed {
@@ -62,6 +40,21 @@ impl<'a> Changed<'a> {
             b,
             new,
             behind,
+        }
+    }
+
+    /// Which lines are replaced by how many.
+    pub(crate) fn change(&self) -> Change
+        ensures { result ≡ record {
+          a = self.now.a;
+          b = self.now.b;
+          count = length self.now.new.now;
+        } }
+    {
+        Change {
+            a: self.a,
+            b: self.b,
+            count: self.new.len(),
         }
     }
 }

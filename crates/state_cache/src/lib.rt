@@ -1,18 +1,22 @@
-//! A text that is painted: its lines, and the spans of each.
+//! A text that is painted: its lines, and what was noted of each line when it was painted.
 //!
-//! A text is painted line by line, each from the state that the line before it leaves. What stands
-//! in `Painted` is always the painting of its text from the first line on, by the rules alone. After
-//! an edit too: it tells which lines are new or show other spans, or it is refused and changes nothing.
+//! What is kept is always the painting of the text from its first line on, by the rules alone. An
+//! edit paints a line only where it isn't reusable: where it is new, where its painting looked at a
+//! replaced line, or where another state stands before it. So an edit costs the lines to paint, and
+//! not the text; which lines it tells, and whether it is refused, is as if all were painted anew.
 #![tactic(auto)]
 
+mod brush;
 mod change;
-mod laws;
+mod commit;
+mod edit;
+mod edit_walk;
+mod kept;
+mod line;
 mod painted;
+mod reach;
 mod refusal;
-mod report;
 mod walk;
 
-pub use laws::reports_tell_what_changed;
-pub use painted::{Painted, Unpainted};
+pub use painted::{Painted, Repainted, Unpainted};
 pub use refusal::EditError;
-pub use report::Repainted;

@@ -1,34 +1,57 @@
 //! A text and its painting.
 ghost use Rattle.std.specs.Prelude.{◌≡◌, ◌<◌, ◌≤◌, ◌+◌, length, IfOk, IfErr, OnOk, OnErr, Ok};
-ghost use Rattle.state_cache.specs.Change.{replaced};
-ghost use Rattle.state_cache.specs.PaintedText.{IsPainted, IsPaintingOf, IsRefusal};
-ghost use Rattle.state_cache.specs.Report.{report};
-ghost use Rattle.state_cache.specs.Spans.{text_spans};
-ghost use Rattle.syn_base.specs.SpansFit.{FitLines};
+ghost use Rattle.item_pick.specs.Tables.{TablesStand};
+ghost use Rattle.paint_reuse.specs.Change.{replaced};
+ghost use Rattle.paint_reuse.specs.Report.{report};
+ghost use Rattle.paint_reuse.specs.Reuse.{lines_to_paint};
+ghost use Rattle.state_cache.specs.Notes.{IsNoteAt};
+ghost use Rattle.state_cache.specs.PaintedText.{AreNotes, IsPainted, IsPaintingOf, IsRefusal};
+ghost use Rattle.paint_reuse.specs.Kept.{text_notes};
+ghost use Rattle.state_cache.specs.Edits.{IsMadeOf, changed_text, to_paint_in};
+ghost use Rattle.state_cache.specs.Refusals.{RefusesAs};
+ghost use Rattle.state_cache.specs.Spans.{syntax_rules, text_spans};
 ghost use Rattle.text_buffer.specs.TextOfBytes.{most_lines};
 
 use crate::EditError;
-use crate::change::{Change, Changed};
-use crate::report::{Repainted, report};
+use crate::brush::Brush;
+use crate::change::Changed;
+use crate::commit::{commit, make_room};
+use crate::edit::{Edit, Made};
+use crate::kept::Kept;
+use crate::reach::reach_of;
 use crate::walk::paint_all;
-use item_pick::Parts;
+use chunk_list::ChunkList;
+use item_pick::PickMemory;
+use line_paint::LineNote;
 use std::alloc::Global;
 use std::marker::Model;
-use syn_base::{Colours, Ledger, Lines, List, Span, Steps};
+use syn_base::{Colours, Ledger, Lines, List, Looked, Span, Steps};
 use syn_reader::Syntax;
 use text_buffer::{Line, Text};
 
-/// A text, the syntax by which it is painted, and the spans of each of its lines.
+/// The lines that an edit tells: those that are new, and those that show other spans than before.
+#[derive(Drop)]
+pub struct Repainted {
+    /// Their numbers in the changed text, from 0, least first.
+    pub lines: List<usize>,
+}
+
+/// A text, the syntax by which it is painted, and what is kept of the painting of each of its lines.
 #[derive(Drop)]
 pub struct Painted {
     alloc: Global,
     syntax: Syntax,
     text: Text,
     budget: u64,
-    spans: Vec<List<Span>>,
+    notes: ChunkList<Kept>,
+    /// No line looked further.
+    reach: Looked,
+    /// What the painter remembers of the syntax from edit to edit.
+    memory: PickMemory,
 }
 
 impl Model for Painted {
+    ghost use Rattle.paint_reuse.specs.Work.{kept_spans};
     ghost use Rattle.state_cache.specs.PaintedText as painted;
     ghost use Rattle.std.specs.Coded.{codes};
     ghost use Rattle.syn_reader.specs.contracts.syntax.Syntax.{the_row as syntax_row};
@@ -41,15 +64,10 @@ impl Model for Painted {
       syntax = p.syntax;
       text = p.text.lines;
       budget = p.budget;
-      spans = p.spans.items;
+      spans = kept_spans p.notes.0;
     } };
 
-    ghost invariant = { λ p. painted.IsPainted (record {
-      syntax = p.syntax;
-      text = p.text.lines;
-      budget = p.budget;
-      spans = p.spans.items;
-    }) };
+    ghost invariant = { λ p. painted.Keeps p.syntax p.text.lines p.budget p.notes.0 p.reach p.memory };
 }
 
 /// Why a text isn't painted, and the syntax, by which a message may name the item.
@@ -95,13 +113,16 @@ impl Painted {
         ensures syntax { IfErr result (λ unpainted. unpainted.syntax ≡ syntax) }
         ensures steps { steps.new ≤ steps.old + length text.lines }
     {
-        match spans_of(alloc, &syntax, &text, budget, steps) {
-            Ok(spans) => Ok(Painted {
+        let mut memory = PickMemory::new(alloc);
+        match notes_of(alloc, &syntax, &text, budget, &mut memory, steps) {
+            Ok(Noted { notes, reach }) => Ok(Painted {
                 alloc,
                 syntax,
                 text,
                 budget,
-                spans,
+                notes,
+                reach,
+                memory,
             }),
             Err(error) => Err(Unpainted { error, syntax }),
         }
@@ -114,8 +135,18 @@ impl Painted {
         &self.text
     }
 
-    /// Lines `a` to `b - 1`, from 0, become `new`, and the text is painted anew. For a refusal, and for
-    /// want of memory, all is as it was.
+    /// What is kept of a line, from 0: the state before it, its spans, the state after it, and the
+    /// lines that its painting looked at, all counted from the line.
+    pub fn note(&self, line: usize) -> &LineNote
+        requires { line < length self.now.text }
+        ensures { IsNoteAt (syntax_rules self.now.syntax self.now.budget) self.now.text line result.now }
+    {
+        self.notes.get(line).note()
+    }
+
+    /// Lines `a` to `b - 1`, from 0, become `new`, and those lines are painted that aren't reusable;
+    /// where no line gives way and none comes, none is painted. For a refusal, and for want of
+    /// memory, all is as it was.
     pub fn edit<L: Ledger>(
         &mut self,
         a: usize,
@@ -134,20 +165,34 @@ impl Painted {
         ensures refused { IfErr result (IsRefusal (text_spans
             self.old.syntax self.old.budget (replaced self.old.text a b new))) }
         ensures unchanged { OnErr result (self.new ≡ self.old) }
-        ensures steps { steps.new ≤ steps.old + length (replaced self.old.text a b new) }
+        ensures steps { steps.new ≤ steps.old + lines_to_paint
+            (syntax_rules self.old.syntax self.old.budget) self.old.text a b new }
     {
-        let change = Change {
-            a,
-            b,
-            count: new.len(),
-        };
-        self.text.reserve_lines(new.len())?;
-        let changed = Changed::new(&self.text, a, b, &new);
-        let spans = spans_of(self.alloc, &self.syntax, &changed, self.budget, steps)?;
-        let lines = report(self.alloc, &self.spans, &spans, change)?;
-        self.text.replace_reserved(a, b, new);
-        self.spans = spans;
-        Ok(Repainted { lines })
+        if a == b && new.is_empty() {
+            return Ok(Repainted {
+                lines: List::new(self.alloc),
+            });
+        }
+        make_room(&mut self.text, &mut self.notes, new.len())?;
+        let made = made_by(
+            self.alloc,
+            &self.syntax,
+            self.budget,
+            Changed::new(&self.text, a, b, &new),
+            &self.notes,
+            self.reach,
+            &mut self.memory,
+            steps,
+        )?;
+        let Made {
+            patches,
+            fresh,
+            report,
+            reach,
+        } = made;
+        commit(&mut self.text, &mut self.notes, a, b, new, patches, fresh);
+        self.reach = reach;
+        Ok(Repainted { lines: report })
     }
 
     /// The syntax by which it is painted. Each line has its spans by it, which fit the line.
@@ -175,32 +220,81 @@ impl Colours for Painted {
     ghost coloured = { λ p. p.spans };
 
     fn spans(&self, line: usize) -> &[Span] {
-        self.spans[line].as_slice()
+        self.notes.get(line).spans()
     }
 }
 
-/// The spans of each line of a text.
-fn spans_of<T: Lines, L: Ledger>(
+/// The notes of all lines of a text, and how far any of them looked.
+#[derive(Drop)]
+struct Noted {
+    notes: ChunkList<Kept>,
+    reach: Looked,
+}
+
+/// The notes of all lines of a text.
+fn notes_of<L: Ledger>(
     alloc: Global,
     syntax: &Syntax,
-    text: &T,
+    text: &Text,
     budget: u64,
+    memory: &mut PickMemory,
     steps: &mut Steps<L>,
-) -> Result<Vec<List<Span>>, EditError>
-    requires { 1 ≤ budget }
-    ensures spans { IfOk result (λ spans.
-        text_spans syntax.now budget (T.lines text.now) ≡ Ok spans.items) }
-    ensures count { IfOk result (λ spans. length spans.items ≡ length (T.lines text.now)) }
-    ensures fit { IfOk result (λ spans. FitLines (T.lines text.now) spans.items) }
-    ensures refused { IfErr result (IsRefusal (text_spans syntax.now budget (T.lines text.now))) }
-    ensures steps { steps.new ≤ steps.old + length (T.lines text.now) }
+) -> Result<Noted, EditError>
+    requires budget { 1 ≤ budget }
+    requires memory { TablesStand (syntax_rules syntax.now budget) memory.old }
+    ensures noted { IfOk result (λ noted.
+        AreNotes (syntax_rules syntax.now budget) (length syntax.now.items) text.now.lines
+        noted.notes.0 noted.reach) }
+    ensures refused { IfErr result
+        (RefusesAs (text_notes (syntax_rules syntax.now budget) text.now.lines)) }
+    ensures memory { TablesStand (syntax_rules syntax.now budget) memory.new }
+    ensures steps { steps.new ≤ steps.old + length text.now.lines }
 {
-    let parts = Parts {
-        items: &syntax.items,
-        clusters: &syntax.clusters,
-        programs: &syntax.programs,
-        keywords: &syntax.keywords,
-        sets: &syntax.sets,
+    let brush = Brush {
+        alloc,
+        syntax,
+        budget,
     };
-    paint_all(alloc, &parts, text, budget, steps)
+    let _lines = text.len();
+    let notes = paint_all(&brush, text, memory, steps)?;
+    let reach = reach_of(&notes, Looked::one(0));
+    let notes = ChunkList::from_list(alloc, notes)?;
+    Ok(Noted { notes, reach })
+}
+
+/// What an edit makes.
+fn made_by<L: Ledger>(
+    alloc: Global,
+    syntax: &Syntax,
+    budget: u64,
+    changed: Changed<'_>,
+    notes: &ChunkList<Kept>,
+    reach: Looked,
+    memory: &mut PickMemory,
+    steps: &mut Steps<L>,
+) -> Result<Made, EditError>
+    requires budget { 1 ≤ budget }
+    requires noted { AreNotes (syntax_rules syntax.now budget) (length syntax.now.items)
+        changed.text.now.lines notes.now.0 reach }
+    requires memory { TablesStand (syntax_rules syntax.now budget) memory.old }
+    ensures made { IfOk result (IsMadeOf (syntax_rules syntax.now budget) (length syntax.now.items)
+        changed.entry.text.now.lines notes.now.0 changed.entry.a changed.entry.b changed.entry.new.now) }
+    ensures refused { IfErr result
+        (RefusesAs (text_notes (syntax_rules syntax.now budget) (changed_text changed.entry))) }
+    ensures memory { TablesStand (syntax_rules syntax.now budget) memory.new }
+    ensures steps { steps.new ≤ steps.old
+        + to_paint_in (syntax_rules syntax.now budget) notes.now.0 changed.entry }
+{
+    let brush = Brush {
+        alloc,
+        syntax,
+        budget,
+    };
+    let edit = Edit {
+        brush,
+        changed,
+        notes,
+        reach,
+    };
+    edit.walk(memory, steps)
 }

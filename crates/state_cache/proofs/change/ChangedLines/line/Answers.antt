@@ -1,5 +1,5 @@
 use Rattle.std.proofs.Common.{arith, sym, ◌∙◌, ◌≡◌, ◌<◌, ◌≤◌, ◌+◌, ◌-◌, length}
-use Rattle.state_cache.specs.Change.{replaced}
+use Rattle.paint_reuse.specs.Change.{replaced}
 use Rattle.chunk_list.proofs.ReplacedLaws.{below, length-replaced}
 use Rattle.state_cache.proofs.change.ChangedLines.line.Goals as goal
 

@@ -1,5 +1,0 @@
-use Rattle.state_cache.proofs.ReportIs.{report_is}
-use Rattle.state_cache.proofs.laws.reports_tell_what_changed.Goals as goal
-
-pub returns : goal.returns
-returns c old new change = report_is old new change

@@ -1,0 +1,55 @@
+//! How far the lines of a text looked, at most.
+ghost use Rattle.std.specs.Prelude.{◌≡◌, ◌<◌, ◌≤◌, ◌^◌, ℕ, pos, ◌+ℤ◌, ◌<ℤ◌, ◌≤ℤ◌};
+ghost use Rattle.std.specs.List.{All};
+ghost use Rattle.state_cache.specs.Reach.{IsWithin, LooksWithin};
+
+use crate::edit::Patch;
+use crate::kept::Kept;
+use syn_base::{List, Looked};
+
+/// The lines from `reach` and those that these notes' lines looked at, each counted from its line.
+pub(crate) fn reach_of(notes: &List<Kept>, reach: Looked) -> Looked
+    ensures grows { IsWithin reach result }
+    ensures notes { All (LooksWithin result) notes.now }
+{
+    let mut all = reach;
+    for note in notes.as_slice() {
+        all = all.join(note.looked());
+    }
+    all
+}
+
+/// The same with the new notes of old lines.
+pub(crate) fn reach_of_patches(patches: &List<Patch>, reach: Looked) -> Looked
+    ensures grows { IsWithin reach result }
+    ensures notes { All (λ p. LooksWithin result p.note) patches.now }
+{
+    let mut all = reach;
+    for patch in patches.as_slice() {
+        all = all.join(patch.note.looked());
+    }
+    all
+}
+
+/// The first line from which a line that looks at most as far ahead can have looked at line `a`:
+/// each line before it looked at lines before `a` alone.
+pub(crate) fn first_near(a: usize, reach: Looked) -> usize
+    requires { a < 2 ^ 32 }
+    ensures { (j : ℕ) → j < result → (pos j +ℤ reach.high) <ℤ pos a }
+{
+    if reach.high < 0 {
+        return a;
+    }
+    a.saturating_sub(reach.high as usize)
+}
+
+/// The first line from which on each line that looks at most as far back looked at no line before `b`.
+pub(crate) fn first_behind(b: usize, reach: Looked) -> usize
+    requires { b < 2 ^ 32 }
+    ensures { (j : ℕ) → result ≤ j → j < 2 ^ 32 → pos b ≤ℤ (pos j +ℤ reach.low) }
+{
+    if reach.low >= 0 {
+        return b;
+    }
+    b.saturating_add(reach.low.unsigned_abs() as usize)
+}
