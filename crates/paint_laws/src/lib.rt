@@ -6,7 +6,8 @@
 //! functions make nothing; each one's contract is a law.
 #![tactic(auto)]
 
-ghost use Rattle.paint_laws.specs.Accepted.{RefusedLinesHaveCauses, RefusedTextsHaveCauses, TextsWithinLimitsAreAccepted};
+ghost use Rattle.paint_laws.specs.Accepted.{RefusedLinesHaveCauses, RefusedTextsHaveCauses};
+ghost use Rattle.paint_laws.specs.Accepted.{TextsWithinLimitsAreAccepted};
 ghost use Rattle.paint_laws.specs.Closings.{ClosingEnds};
 ghost use Rattle.paint_laws.specs.LineByLine.{RefusedPaintings, WholePaintings};
 ghost use Rattle.paint_laws.specs.NothingStarts.{NothingIsPainted};

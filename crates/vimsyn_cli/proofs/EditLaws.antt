@@ -1,16 +1,16 @@
 -- What a session of edits on a painted text comes to.
-use Rattle.std.proofs.Common.{◌≡◌, ◌≢◌, ℕ, ◌<◌, Bool, true, false, List, ◌++◌, length, refl, ap, subst, sym, ◌∙◌, inl, inr, arith}
+use Rattle.std.proofs.Common.{◌≡◌, ◌≢◌, ℕ, ◌+◌, ◌<◌, ◌≤◌, Bool, true, false, List, ◌++◌, length, refl, ap, subst, sym, ◌∙◌, inl, inr, arith}
 use Rattle.std.specs.Prelude.{Option, Some, None, Ok, Err, Result, IfSome}
 use Rattle.std.proofs.lemmas.List.{length-append}
 use Rattle.edit_session.specs.declared.reading.End.{End}
 use Rattle.edit_session.specs.declared.reading.End.TheVariants as end
-use Rattle.edit_session.specs.Ends.{EndsSo, SinkChange, SourceChange, Takes}
+use Rattle.edit_session.specs.Ends.{EndsSo, SinkChange, SourceChange, Takes, TakesFew}
 use Rattle.edit_script.specs.Entries.{entries_of}
-use Rattle.edit_session.specs.Session.{is_too_long, most_bytes, session, start}
+use Rattle.edit_session.specs.Session.{is_too_long, most_bytes, script_costs, session, start}
 use Rattle.edit_session.proofs.EndLaws.{over_told, whole_told}
 use Rattle.program_words.specs.declared.words.Asked.TheVariants.{Edit}
 use Rattle.program_words.specs.Given.{PageWords, PaintWords}
-use Rattle.state_cache.specs.PaintedText.{PaintedText}
+use Rattle.state_cache.specs.PaintedText.{IsPainted, PaintedText}
 use Rattle.syn_base.specs.Outside.{AppendsPrefix, FileMap, appended}
 use Rattle.vimsyn_cli.specs.declared.fault.Fault.{Fault as FaultOf}
 use Rattle.vimsyn_cli.specs.declared.fault.FaultKind.{FaultKind}
@@ -21,10 +21,11 @@ use Rattle.vimsyn_cli.specs.declared.status.Status.TheVariants.{Done, Refused, R
 use Rattle.vimsyn_cli.specs.Answers.{Closes, Delivers, GivesSession, IsFaultOfAsked, IsUnreadLine, IsUntouched, WroteAll, WroteSome, is_unfailed}
 use Rattle.vimsyn_cli.specs.Changes.{FilesChange}
 use Rattle.vimsyn_cli.specs.Editing.{edit_session, edit_told, painter_of, script_answer, script_end, script_status, shown_of}
-use Rattle.vimsyn_cli.specs.Painting.{IsPaintFault, IsUnreadPaint, painting_told}
+use Rattle.vimsyn_cli.specs.Painting.{IsPaintFault, IsUnreadPaint, painting_told, text_told}
 use Rattle.vimsyn_cli.specs.Plans.{FollowsFiles, IfFault, IsExpected, RaisesItsCount}
 use Rattle.vimsyn_cli.specs.Report.{long_script, unread_script}
-use Rattle.vimsyn_cli.specs.Runs.{EditsPainted, IfTold, PrintsSoFar, Runs, StopsSoFar}
+use Rattle.vimsyn_cli.specs.Runs.{EditsPainted, IfTold, LeavesScript, PrintsSoFar, Runs, StopsSoFar}
+use Rattle.vimsyn_cli.specs.Session.{edit_lines, lines_in, script_lines}
 use Rattle.vimsyn_cli.specs.Written.{Session, ends}
 use Rattle.vimsyn_cli.proofs.PlanLaws.{Plans, led}
 use Rattle.vimsyn_cli.proofs.RunLaws.{none_of, not_done, part_of, told_both, untouched}
@@ -71,8 +72,8 @@ over_err words painted known bytes err is size part =
 same_painted : (a b : PaintedText) (e : Result PaintedText FaultOf) → e ≡ Ok a → e ≡ Ok b → a ≡ b
 same_painted a b e first second = cc
 
-over_many : (bytes more : List ℕ) → length bytes ≡ most_bytes → 0 < length more → most_bytes < length (bytes ++ more)
-over_many bytes more most some = let joined = length-append bytes more in omega arith
+over_many : (bytes more : List ℕ) → length bytes ≡ most_bytes → length more ≡ 1 → most_bytes < length (bytes ++ more)
+over_many bytes more most one = let joined = length-append bytes more in omega arith
 
 -- what `out` got is what the commands print whose last line was read
 stopped_told : (words : PageWords) (painted : PaintedText) (told : Option FileMap) (script : SourceChange) (out : SinkChange) (bytes : List ℕ) → Takes bytes script.before script.after → out.after ≡ appended out.before (session (painter_of words painted.syntax painted.budget) (start (shown_of painted)) (entries_of 0 bytes)).text → IfSome told (λ known. painting_told words.painting known ≡ Ok painted) → IfSome told (λ known. StopsSoFar (Some (Edit words)) known script out)
@@ -82,15 +83,21 @@ stopped_told words painted (Some known) script out bytes taken written told =
     let P : PaintedText → Type 0 = λ p. PrintsSoFar words p script out in
     subst P (same_painted painted other (painting_told words.painting known) told is) (record { bytes = bytes; taken = taken; printed = written })
 
+-- a painting that is accepted isn't refused
+unrefused : (words : PageWords) (painted : PaintedText) (told : Option FileMap) (script : SourceChange) → IfSome told (λ known. painting_told words.painting known ≡ Ok painted) → LeavesScript (Some (Edit words)) told script
+unrefused words painted None script is = tt
+unrefused words painted (Some known) script is = λ fault other. absurd (cc (is, other))
+
 -- ---- how the script ended
 
-done_runs : (words : PageWords) (painted : PaintedText) (files : FilesChange) (script : SourceChange) (out err : SinkChange) (answer : Status) → IfSome files.told (λ known. painting_told words.painting known ≡ Ok painted) → files.told_after ≡ files.told → files.faults_after ≡ files.faults → files.misses_after ≡ files.misses → files.longs_after ≡ files.longs → IfSome script.before (λ bytes. AppendsPrefix out.before out.after (script_answer words painted bytes).text) → EndsSo (painter_of words painted.syntax painted.budget) (shown_of painted) script out end.Done → IsUntouched err → answer ≡ Done → Runs (Some (Edit words)) files script out err answer
-done_runs words painted files script out err answer told kept faults misses longs part ends same at = record {
+done_runs : (words : PageWords) (painted : PaintedText) (files : FilesChange) (script : SourceChange) (out err : SinkChange) (answer : Status) → IfSome files.told (λ known. painting_told words.painting known ≡ Ok painted) → files.told_after ≡ files.told → files.faults_after ≡ files.faults → files.misses_after ≡ files.misses → files.longs_after ≡ files.longs → IfSome script.before (λ bytes. AppendsPrefix out.before out.after (script_answer words painted bytes).text) → IsPainted painted → TakesFew script → EndsSo (painter_of words painted.syntax painted.budget) (shown_of painted) script out end.Done → IsUntouched err → answer ≡ Done → Runs (Some (Edit words)) files script out err answer
+done_runs words painted files script out err answer told kept faults misses longs part sound few ends same at = record {
   session = told_both files.told script.before (λ known. painting_told words.painting known ≡ Ok painted) _ (λ known bytes is told' r t o e m. whole_gives words painted known bytes false out err answer is (whole_told (painter_of words painted.syntax painted.budget) (shown_of painted) false script out bytes ends told') same at) told;
   out_part = told_both files.told script.before (λ known. painting_told words.painting known ≡ Ok painted) _ (λ known bytes is told'. part_is words painted known bytes script out is told' part) told;
   err_part = told_both files.told script.before (λ known. painting_told words.painting known ≡ Ok painted) _ (λ known bytes is told' r t. none_of err (edit_session words known bytes).err same) told;
   err_part_or_unread = told_both files.told script.before (λ known. painting_told words.painting known ≡ Ok painted) _ (λ known bytes is told'. inl (none_of err (edit_session words known bytes).err same)) told;
   faulty = λ w. absurd (cc w);
+  faulty_told = λ w. absurd (cc w);
   usage = λ is. absurd (cc (is, at));
   refused = λ is. absurd (cc (is, at));
   read_fault = λ is. absurd (cc (is, at));
@@ -105,19 +112,22 @@ done_runs words painted files script out err answer told kept faults misses long
   done_misses = λ is. misses;
   done_longs = λ is. longs;
   files_kept = kept;
-  script_left = tt;
-  script_ended = λ is. record { painted = painted; of_files = told; read = ends };
+  files_left = tt;
+  script_left = unrefused words painted files.told script told;
+  script_taken = few;
+  script_ended = λ is. record { painted = painted; is_painted = sound; of_files = told; read = ends };
 }
 
-refused_runs : (words : PageWords) (painted : PaintedText) (files : FilesChange) (script : SourceChange) (out err : SinkChange) (answer : Status) → IfSome files.told (λ known. painting_told words.painting known ≡ Ok painted) → files.told_after ≡ files.told → files.faults_after ≡ files.faults → files.misses_after ≡ files.misses → files.longs_after ≡ files.longs → IfSome script.before (λ bytes. AppendsPrefix out.before out.after (script_answer words painted bytes).text) → EndsSo (painter_of words painted.syntax painted.budget) (shown_of painted) script out end.Refused → IsUntouched err → answer ≡ Refused → Runs (Some (Edit words)) files script out err answer
-refused_runs words painted files script out err answer told kept faults misses longs part ends same at = record {
+refused_runs : (words : PageWords) (painted : PaintedText) (files : FilesChange) (script : SourceChange) (out err : SinkChange) (answer : Status) → IfSome files.told (λ known. painting_told words.painting known ≡ Ok painted) → files.told_after ≡ files.told → files.faults_after ≡ files.faults → files.misses_after ≡ files.misses → files.longs_after ≡ files.longs → IfSome script.before (λ bytes. AppendsPrefix out.before out.after (script_answer words painted bytes).text) → IsPainted painted → TakesFew script → EndsSo (painter_of words painted.syntax painted.budget) (shown_of painted) script out end.Refused → IsUntouched err → answer ≡ Refused → Runs (Some (Edit words)) files script out err answer
+refused_runs words painted files script out err answer told kept faults misses longs part sound few ends same at = record {
   session = told_both files.told script.before (λ known. painting_told words.painting known ≡ Ok painted) _ (λ known bytes is told' r t o e m. whole_gives words painted known bytes true out err answer is (whole_told (painter_of words painted.syntax painted.budget) (shown_of painted) true script out bytes ends told') same at) told;
   out_part = told_both files.told script.before (λ known. painting_told words.painting known ≡ Ok painted) _ (λ known bytes is told'. part_is words painted known bytes script out is told' part) told;
   err_part = told_both files.told script.before (λ known. painting_told words.painting known ≡ Ok painted) _ (λ known bytes is told' r t. none_of err (edit_session words known bytes).err same) told;
   err_part_or_unread = told_both files.told script.before (λ known. painting_told words.painting known ≡ Ok painted) _ (λ known bytes is told'. inl (none_of err (edit_session words known bytes).err same)) told;
   faulty = λ w. absurd (cc w);
+  faulty_told = λ w. absurd (cc w);
   usage = λ is. absurd (cc (is, at));
-  refused = λ is. inr (inr (same.0, record { painted = painted; of_files = told; read = ends }));
+  refused = λ is. inr (inr (same.0, record { painted = painted; is_painted = sound; of_files = told; read = ends }));
   read_fault = λ is. absurd (cc (is, at));
   read_fault_line = λ is. absurd (cc (is, at));
   read_fault_told = λ is. absurd (cc (is, at));
@@ -130,19 +140,22 @@ refused_runs words painted files script out err answer told kept faults misses l
   done_misses = λ is. misses;
   done_longs = λ is. longs;
   files_kept = kept;
-  script_left = tt;
+  files_left = tt;
+  script_left = unrefused words painted files.told script told;
+  script_taken = few;
   script_ended = λ is. absurd (cc (is, at));
 }
 
-over_runs : (words : PageWords) (painted : PaintedText) (files : FilesChange) (script : SourceChange) (out err : SinkChange) (answer : Status) → IfSome files.told (λ known. painting_told words.painting known ≡ Ok painted) → files.told_after ≡ files.told → files.faults_after ≡ files.faults → files.misses_after ≡ files.misses → files.longs_after ≡ files.longs → IfSome script.before (λ bytes. AppendsPrefix out.before out.after (script_answer words painted bytes).text) → EndsSo (painter_of words painted.syntax painted.budget) (shown_of painted) script out end.TooLong → WroteAll err.before err.after err.faults err.faults_after long_script Refused answer → Runs (Some (Edit words)) files script out err answer
-over_runs words painted files script out err answer told kept faults misses longs part ends all = record {
+over_runs : (words : PageWords) (painted : PaintedText) (files : FilesChange) (script : SourceChange) (out err : SinkChange) (answer : Status) → IfSome files.told (λ known. painting_told words.painting known ≡ Ok painted) → files.told_after ≡ files.told → files.faults_after ≡ files.faults → files.misses_after ≡ files.misses → files.longs_after ≡ files.longs → IfSome script.before (λ bytes. AppendsPrefix out.before out.after (script_answer words painted bytes).text) → IsPainted painted → TakesFew script → EndsSo (painter_of words painted.syntax painted.budget) (shown_of painted) script out end.TooLong → WroteAll err.before err.after err.faults err.faults_after long_script Refused answer → Runs (Some (Edit words)) files script out err answer
+over_runs words painted files script out err answer told kept faults misses longs part sound few ends all = record {
   session = told_both files.told script.before (λ known. painting_told words.painting known ≡ Ok painted) _ (λ known bytes is told' r t o e m. over_gives words painted known bytes out err answer is (over_told (painter_of words painted.syntax painted.budget) (shown_of painted) script out bytes ends told') all.whole all.status) told;
   out_part = told_both files.told script.before (λ known. painting_told words.painting known ≡ Ok painted) _ (λ known bytes is told'. part_is words painted known bytes script out is told' part) told;
   err_part = told_both files.told script.before (λ known. painting_told words.painting known ≡ Ok painted) _ (λ known bytes is told' r t. over_err words painted known bytes err is (over_told (painter_of words painted.syntax painted.budget) (shown_of painted) script out bytes ends told').0 (part_of err long_script Refused answer (inl all))) told;
   err_part_or_unread = told_both files.told script.before (λ known. painting_told words.painting known ≡ Ok painted) _ (λ known bytes is told'. inl (over_err words painted known bytes err is (over_told (painter_of words painted.syntax painted.budget) (shown_of painted) script out bytes ends told').0 (part_of err long_script Refused answer (inl all)))) told;
   faulty = λ w. absurd (cc w);
+  faulty_told = λ w. absurd (cc w);
   usage = λ is. absurd (cc (is, all.status));
-  refused = λ is. inr (inl (all.whole, (ends.bytes ++ ends.more, ends.taken, over_many ends.bytes ends.more ends.most ends.some)));
+  refused = λ is. inr (inl (all.whole, (ends.bytes ++ ends.more, ends.taken, over_many ends.bytes ends.more ends.most ends.one)));
   read_fault = λ is. absurd (cc (is, all.status));
   read_fault_line = λ is. absurd (cc (is, all.status));
   read_fault_told = λ is. absurd (cc (is, all.status));
@@ -155,17 +168,20 @@ over_runs words painted files script out err answer told kept faults misses long
   done_misses = λ is. misses;
   done_longs = λ is. longs;
   files_kept = kept;
-  script_left = tt;
+  files_left = tt;
+  script_left = unrefused words painted files.told script told;
+  script_taken = few;
   script_ended = λ is. absurd (cc (is, all.status));
 }
 
-over_cut_runs : (words : PageWords) (painted : PaintedText) (files : FilesChange) (script : SourceChange) (out err : SinkChange) (answer : Status) → IfSome files.told (λ known. painting_told words.painting known ≡ Ok painted) → files.told_after ≡ files.told → files.faults_after ≡ files.faults → files.misses_after ≡ files.misses → files.longs_after ≡ files.longs → IfSome script.before (λ bytes. AppendsPrefix out.before out.after (script_answer words painted bytes).text) → EndsSo (painter_of words painted.syntax painted.budget) (shown_of painted) script out end.TooLong → WroteSome err.before err.after err.faults err.faults_after long_script answer → Runs (Some (Edit words)) files script out err answer
-over_cut_runs words painted files script out err answer told kept faults misses longs part ends some = record {
+over_cut_runs : (words : PageWords) (painted : PaintedText) (files : FilesChange) (script : SourceChange) (out err : SinkChange) (answer : Status) → IfSome files.told (λ known. painting_told words.painting known ≡ Ok painted) → files.told_after ≡ files.told → files.faults_after ≡ files.faults → files.misses_after ≡ files.misses → files.longs_after ≡ files.longs → IfSome script.before (λ bytes. AppendsPrefix out.before out.after (script_answer words painted bytes).text) → IsPainted painted → TakesFew script → EndsSo (painter_of words painted.syntax painted.budget) (shown_of painted) script out end.TooLong → WroteSome err.before err.after err.faults err.faults_after long_script answer → Runs (Some (Edit words)) files script out err answer
+over_cut_runs words painted files script out err answer told kept faults misses longs part sound few ends some = record {
   session = told_both files.told script.before (λ known. painting_told words.painting known ≡ Ok painted) _ (λ known bytes is told' r t o e m. absurd (e some.failed)) told;
   out_part = told_both files.told script.before (λ known. painting_told words.painting known ≡ Ok painted) _ (λ known bytes is told'. part_is words painted known bytes script out is told' part) told;
   err_part = told_both files.told script.before (λ known. painting_told words.painting known ≡ Ok painted) _ (λ known bytes is told' r t. over_err words painted known bytes err is (over_told (painter_of words painted.syntax painted.budget) (shown_of painted) script out bytes ends told').0 (part_of err long_script Refused answer (inr some))) told;
   err_part_or_unread = told_both files.told script.before (λ known. painting_told words.painting known ≡ Ok painted) _ (λ known bytes is told'. inl (over_err words painted known bytes err is (over_told (painter_of words painted.syntax painted.budget) (shown_of painted) script out bytes ends told').0 (part_of err long_script Refused answer (inr some)))) told;
   faulty = λ w. absurd (cc w);
+  faulty_told = λ w. absurd (cc w);
   usage = λ is. absurd (cc (is, some.status));
   refused = λ is. absurd (cc (is, some.status));
   read_fault = λ is. absurd (cc (is, some.status));
@@ -180,17 +196,20 @@ over_cut_runs words painted files script out err answer told kept faults misses 
   done_misses = λ is. misses;
   done_longs = λ is. longs;
   files_kept = kept;
-  script_left = tt;
+  files_left = tt;
+  script_left = unrefused words painted files.told script told;
+  script_taken = few;
   script_ended = λ is. absurd (cc (is, some.status));
 }
 
-unread_runs : (words : PageWords) (painted : PaintedText) (files : FilesChange) (script : SourceChange) (out err : SinkChange) (answer : Status) → IfSome files.told (λ known. painting_told words.painting known ≡ Ok painted) → files.told_after ≡ files.told → files.faults_after ≡ files.faults → files.misses_after ≡ files.misses → files.longs_after ≡ files.longs → IfSome script.before (λ bytes. AppendsPrefix out.before out.after (script_answer words painted bytes).text) → EndsSo (painter_of words painted.syntax painted.budget) (shown_of painted) script out end.Unread → WroteAll err.before err.after err.faults err.faults_after unread_script ReadFault answer → Runs (Some (Edit words)) files script out err answer
-unread_runs words painted files script out err answer told kept faults misses longs part ends all = record {
+unread_runs : (words : PageWords) (painted : PaintedText) (files : FilesChange) (script : SourceChange) (out err : SinkChange) (answer : Status) → IfSome files.told (λ known. painting_told words.painting known ≡ Ok painted) → files.told_after ≡ files.told → files.faults_after ≡ files.faults → files.misses_after ≡ files.misses → files.longs_after ≡ files.longs → IfSome script.before (λ bytes. AppendsPrefix out.before out.after (script_answer words painted bytes).text) → IsPainted painted → TakesFew script → EndsSo (painter_of words painted.syntax painted.budget) (shown_of painted) script out end.Unread → WroteAll err.before err.after err.faults err.faults_after unread_script ReadFault answer → Runs (Some (Edit words)) files script out err answer
+unread_runs words painted files script out err answer told kept faults misses longs part sound few ends all = record {
   session = told_both files.told script.before (λ known. painting_told words.painting known ≡ Ok painted) _ (λ known bytes is told' r t o e m. absurd (t ends.unreadable)) told;
   out_part = told_both files.told script.before (λ known. painting_told words.painting known ≡ Ok painted) _ (λ known bytes is told'. part_is words painted known bytes script out is told' part) told;
   err_part = told_both files.told script.before (λ known. painting_told words.painting known ≡ Ok painted) _ (λ known bytes is told' r t. absurd (t ends.unreadable)) told;
   err_part_or_unread = told_both files.told script.before (λ known. painting_told words.painting known ≡ Ok painted) _ (λ known bytes is told'. inr (record { line = unread_script; unread = inr (record { painted = painted; accepted = is }, refl); part = part_of err unread_script ReadFault answer (inl all) })) told;
   faulty = λ w. absurd (cc w);
+  faulty_told = λ w. absurd (cc w);
   usage = λ is. absurd (cc (is, all.status));
   refused = λ is. absurd (cc (is, all.status));
   read_fault = λ is. inr (inr ends.unreadable);
@@ -205,17 +224,20 @@ unread_runs words painted files script out err answer told kept faults misses lo
   done_misses = λ is. misses;
   done_longs = λ is. longs;
   files_kept = kept;
-  script_left = tt;
+  files_left = tt;
+  script_left = unrefused words painted files.told script told;
+  script_taken = few;
   script_ended = λ is. absurd (cc (is, all.status));
 }
 
-unread_cut_runs : (words : PageWords) (painted : PaintedText) (files : FilesChange) (script : SourceChange) (out err : SinkChange) (answer : Status) → IfSome files.told (λ known. painting_told words.painting known ≡ Ok painted) → files.told_after ≡ files.told → files.faults_after ≡ files.faults → files.misses_after ≡ files.misses → files.longs_after ≡ files.longs → IfSome script.before (λ bytes. AppendsPrefix out.before out.after (script_answer words painted bytes).text) → EndsSo (painter_of words painted.syntax painted.budget) (shown_of painted) script out end.Unread → WroteSome err.before err.after err.faults err.faults_after unread_script answer → Runs (Some (Edit words)) files script out err answer
-unread_cut_runs words painted files script out err answer told kept faults misses longs part ends some = record {
+unread_cut_runs : (words : PageWords) (painted : PaintedText) (files : FilesChange) (script : SourceChange) (out err : SinkChange) (answer : Status) → IfSome files.told (λ known. painting_told words.painting known ≡ Ok painted) → files.told_after ≡ files.told → files.faults_after ≡ files.faults → files.misses_after ≡ files.misses → files.longs_after ≡ files.longs → IfSome script.before (λ bytes. AppendsPrefix out.before out.after (script_answer words painted bytes).text) → IsPainted painted → TakesFew script → EndsSo (painter_of words painted.syntax painted.budget) (shown_of painted) script out end.Unread → WroteSome err.before err.after err.faults err.faults_after unread_script answer → Runs (Some (Edit words)) files script out err answer
+unread_cut_runs words painted files script out err answer told kept faults misses longs part sound few ends some = record {
   session = told_both files.told script.before (λ known. painting_told words.painting known ≡ Ok painted) _ (λ known bytes is told' r t o e m. absurd (t ends.unreadable)) told;
   out_part = told_both files.told script.before (λ known. painting_told words.painting known ≡ Ok painted) _ (λ known bytes is told'. part_is words painted known bytes script out is told' part) told;
   err_part = told_both files.told script.before (λ known. painting_told words.painting known ≡ Ok painted) _ (λ known bytes is told' r t. absurd (t ends.unreadable)) told;
   err_part_or_unread = told_both files.told script.before (λ known. painting_told words.painting known ≡ Ok painted) _ (λ known bytes is told'. inr (record { line = unread_script; unread = inr (record { painted = painted; accepted = is }, refl); part = part_of err unread_script ReadFault answer (inr some) })) told;
   faulty = λ w. absurd (cc w);
+  faulty_told = λ w. absurd (cc w);
   usage = λ is. absurd (cc (is, some.status));
   refused = λ is. absurd (cc (is, some.status));
   read_fault = λ is. absurd (cc (is, some.status));
@@ -230,17 +252,20 @@ unread_cut_runs words painted files script out err answer told kept faults misse
   done_misses = λ is. misses;
   done_longs = λ is. longs;
   files_kept = kept;
-  script_left = tt;
+  files_left = tt;
+  script_left = unrefused words painted files.told script told;
+  script_taken = few;
   script_ended = λ is. absurd (cc (is, some.status));
 }
 
-unwritten_runs : (words : PageWords) (painted : PaintedText) (files : FilesChange) (script : SourceChange) (out err : SinkChange) (answer : Status) → IfSome files.told (λ known. painting_told words.painting known ≡ Ok painted) → files.told_after ≡ files.told → files.faults_after ≡ files.faults → files.misses_after ≡ files.misses → files.longs_after ≡ files.longs → IfSome script.before (λ bytes. AppendsPrefix out.before out.after (script_answer words painted bytes).text) → EndsSo (painter_of words painted.syntax painted.budget) (shown_of painted) script out end.Unwritten → IsUntouched err → answer ≡ WriteFault → Runs (Some (Edit words)) files script out err answer
-unwritten_runs words painted files script out err answer told kept faults misses longs part ends same at = record {
+unwritten_runs : (words : PageWords) (painted : PaintedText) (files : FilesChange) (script : SourceChange) (out err : SinkChange) (answer : Status) → IfSome files.told (λ known. painting_told words.painting known ≡ Ok painted) → files.told_after ≡ files.told → files.faults_after ≡ files.faults → files.misses_after ≡ files.misses → files.longs_after ≡ files.longs → IfSome script.before (λ bytes. AppendsPrefix out.before out.after (script_answer words painted bytes).text) → IsPainted painted → TakesFew script → EndsSo (painter_of words painted.syntax painted.budget) (shown_of painted) script out end.Unwritten → IsUntouched err → answer ≡ WriteFault → Runs (Some (Edit words)) files script out err answer
+unwritten_runs words painted files script out err answer told kept faults misses longs part sound few ends same at = record {
   session = told_both files.told script.before (λ known. painting_told words.painting known ≡ Ok painted) _ (λ known bytes is told' r t o e m. absurd (o ends.1)) told;
   out_part = told_both files.told script.before (λ known. painting_told words.painting known ≡ Ok painted) _ (λ known bytes is told'. part_is words painted known bytes script out is told' part) told;
   err_part = told_both files.told script.before (λ known. painting_told words.painting known ≡ Ok painted) _ (λ known bytes is told' r t. none_of err (edit_session words known bytes).err same) told;
   err_part_or_unread = told_both files.told script.before (λ known. painting_told words.painting known ≡ Ok painted) _ (λ known bytes is told'. inl (none_of err (edit_session words known bytes).err same)) told;
   faulty = λ w. absurd (cc w);
+  faulty_told = λ w. absurd (cc w);
   usage = λ is. absurd (cc (is, at));
   refused = λ is. absurd (cc (is, at));
   read_fault = λ is. absurd (cc (is, at));
@@ -255,17 +280,20 @@ unwritten_runs words painted files script out err answer told kept faults misses
   done_misses = λ is. misses;
   done_longs = λ is. longs;
   files_kept = kept;
-  script_left = tt;
+  files_left = tt;
+  script_left = unrefused words painted files.told script told;
+  script_taken = few;
   script_ended = λ is. absurd (cc (is, at));
 }
 
-memory_runs : (words : PageWords) (painted : PaintedText) (files : FilesChange) (script : SourceChange) (out err : SinkChange) (answer : Status) → IfSome files.told (λ known. painting_told words.painting known ≡ Ok painted) → files.told_after ≡ files.told → files.faults_after ≡ files.faults → files.misses_after ≡ files.misses → files.longs_after ≡ files.longs → IfSome script.before (λ bytes. AppendsPrefix out.before out.after (script_answer words painted bytes).text) → EndsSo (painter_of words painted.syntax painted.budget) (shown_of painted) script out end.Memory → IsUntouched err → answer ≡ Memory → Runs (Some (Edit words)) files script out err answer
-memory_runs words painted files script out err answer told kept faults misses longs part ends same at = record {
+memory_runs : (words : PageWords) (painted : PaintedText) (files : FilesChange) (script : SourceChange) (out err : SinkChange) (answer : Status) → IfSome files.told (λ known. painting_told words.painting known ≡ Ok painted) → files.told_after ≡ files.told → files.faults_after ≡ files.faults → files.misses_after ≡ files.misses → files.longs_after ≡ files.longs → IfSome script.before (λ bytes. AppendsPrefix out.before out.after (script_answer words painted bytes).text) → IsPainted painted → TakesFew script → EndsSo (painter_of words painted.syntax painted.budget) (shown_of painted) script out end.Memory → IsUntouched err → answer ≡ Memory → Runs (Some (Edit words)) files script out err answer
+memory_runs words painted files script out err answer told kept faults misses longs part sound few ends same at = record {
   session = told_both files.told script.before (λ known. painting_told words.painting known ≡ Ok painted) _ (λ known bytes is told' r t o e m. absurd (m at)) told;
   out_part = told_both files.told script.before (λ known. painting_told words.painting known ≡ Ok painted) _ (λ known bytes is told'. part_is words painted known bytes script out is told' part) told;
   err_part = told_both files.told script.before (λ known. painting_told words.painting known ≡ Ok painted) _ (λ known bytes is told' r t. none_of err (edit_session words known bytes).err same) told;
   err_part_or_unread = told_both files.told script.before (λ known. painting_told words.painting known ≡ Ok painted) _ (λ known bytes is told'. inl (none_of err (edit_session words known bytes).err same)) told;
   faulty = λ w. absurd (cc w);
+  faulty_told = λ w. absurd (cc w);
   usage = λ is. absurd (cc (is, at));
   refused = λ is. absurd (cc (is, at));
   read_fault = λ is. absurd (cc (is, at));
@@ -280,24 +308,26 @@ memory_runs words painted files script out err answer told kept faults misses lo
   done_misses = λ is. misses;
   done_longs = λ is. longs;
   files_kept = kept;
-  script_left = tt;
+  files_left = tt;
+  script_left = unrefused words painted files.told script told;
+  script_taken = few;
   script_ended = λ is. absurd (cc (is, at));
 }
 
 -- whichever way it ended
-by_end : (e : End) (words : PageWords) (painted : PaintedText) (files : FilesChange) (script : SourceChange) (out err : SinkChange) (answer : Status) → IfSome files.told (λ known. painting_told words.painting known ≡ Ok painted) → files.told_after ≡ files.told → files.faults_after ≡ files.faults → files.misses_after ≡ files.misses → files.longs_after ≡ files.longs → IfSome script.before (λ bytes. AppendsPrefix out.before out.after (script_answer words painted bytes).text) → EndsSo (painter_of words painted.syntax painted.budget) (shown_of painted) script out e → Closes e err answer → Runs (Some (Edit words)) files script out err answer
-by_end end.Done words painted files script out err answer told kept faults misses longs part ends closes = done_runs words painted files script out err answer told kept faults misses longs part ends closes.0 closes.1
-by_end end.Refused words painted files script out err answer told kept faults misses longs part ends closes = refused_runs words painted files script out err answer told kept faults misses longs part ends closes.0 closes.1
-by_end end.TooLong words painted files script out err answer told kept faults misses longs part ends (inl all) = over_runs words painted files script out err answer told kept faults misses longs part ends all
-by_end end.TooLong words painted files script out err answer told kept faults misses longs part ends (inr some) = over_cut_runs words painted files script out err answer told kept faults misses longs part ends some
-by_end end.Unread words painted files script out err answer told kept faults misses longs part ends (inl all) = unread_runs words painted files script out err answer told kept faults misses longs part ends all
-by_end end.Unread words painted files script out err answer told kept faults misses longs part ends (inr some) = unread_cut_runs words painted files script out err answer told kept faults misses longs part ends some
-by_end end.Unwritten words painted files script out err answer told kept faults misses longs part ends closes = unwritten_runs words painted files script out err answer told kept faults misses longs part ends closes.0 closes.1
-by_end end.Memory words painted files script out err answer told kept faults misses longs part ends closes = memory_runs words painted files script out err answer told kept faults misses longs part ends closes.0 closes.1
+by_end : (e : End) (words : PageWords) (painted : PaintedText) (files : FilesChange) (script : SourceChange) (out err : SinkChange) (answer : Status) → IfSome files.told (λ known. painting_told words.painting known ≡ Ok painted) → files.told_after ≡ files.told → files.faults_after ≡ files.faults → files.misses_after ≡ files.misses → files.longs_after ≡ files.longs → IfSome script.before (λ bytes. AppendsPrefix out.before out.after (script_answer words painted bytes).text) → IsPainted painted → TakesFew script → EndsSo (painter_of words painted.syntax painted.budget) (shown_of painted) script out e → Closes e err answer → Runs (Some (Edit words)) files script out err answer
+by_end end.Done words painted files script out err answer told kept faults misses longs part sound few ends closes = done_runs words painted files script out err answer told kept faults misses longs part sound few ends closes.0 closes.1
+by_end end.Refused words painted files script out err answer told kept faults misses longs part sound few ends closes = refused_runs words painted files script out err answer told kept faults misses longs part sound few ends closes.0 closes.1
+by_end end.TooLong words painted files script out err answer told kept faults misses longs part sound few ends (inl all) = over_runs words painted files script out err answer told kept faults misses longs part sound few ends all
+by_end end.TooLong words painted files script out err answer told kept faults misses longs part sound few ends (inr some) = over_cut_runs words painted files script out err answer told kept faults misses longs part sound few ends some
+by_end end.Unread words painted files script out err answer told kept faults misses longs part sound few ends (inl all) = unread_runs words painted files script out err answer told kept faults misses longs part sound few ends all
+by_end end.Unread words painted files script out err answer told kept faults misses longs part sound few ends (inr some) = unread_cut_runs words painted files script out err answer told kept faults misses longs part sound few ends some
+by_end end.Unwritten words painted files script out err answer told kept faults misses longs part sound few ends closes = unwritten_runs words painted files script out err answer told kept faults misses longs part sound few ends closes.0 closes.1
+by_end end.Memory words painted files script out err answer told kept faults misses longs part sound few ends closes = memory_runs words painted files script out err answer told kept faults misses longs part sound few ends closes.0 closes.1
 
 pub edited_runs : (words : PageWords) (painted : PaintedText) (files : FilesChange) (script : SourceChange) (out err : SinkChange) (answer : Status) → IfSome files.told (λ known. painting_told words.painting known ≡ Ok painted) → files.told_after ≡ files.told → files.faults_after ≡ files.faults → files.misses_after ≡ files.misses → files.longs_after ≡ files.longs → EditsPainted words painted script out err answer → Runs (Some (Edit words)) files script out err answer
 edited_runs words painted files script out err answer told kept faults misses longs edits =
-    by_end edits.end words painted files script out err answer told kept faults misses longs edits.part edits.ends edits.closes
+    by_end edits.end words painted files script out err answer told kept faults misses longs edits.part edits.is_painted edits.taken edits.ends edits.closes
 
 -- ---- before there is a painted text
 
@@ -346,3 +376,27 @@ pub some_told : (told : Option FileMap) (script : Option (List ℕ)) (P : FileMa
 some_told None script P is = tt
 some_told (Some known) None P is = tt
 some_told (Some known) (Some bytes) P is = is
+
+-- ---- steps
+
+both_counts : (before between after lines own all : ℕ) → between ≤ before + lines → after ≤ between + own → all ≡ own → after ≤ before + (lines + all)
+both_counts before between after lines own all first then same = omega arith
+
+one_count : (before after lines more : ℕ) → after ≤ before + lines → after ≤ before + (lines + more)
+one_count before after lines more first = omega arith
+
+-- the first painting and those of the script together
+pub edited_count : (words : PageWords) (asked : PaintWords) (told : Option FileMap) (script : Option (List ℕ)) (painted : PaintedText) (before between after : ℕ) → asked ≡ words.painting → IfSome told (λ known. painting_told words.painting known ≡ Ok painted) → IfSome told (λ known. between ≤ before + lines_in (text_told asked.text known)) → IfSome script (λ bytes. after ≤ between + script_costs (painter_of words painted.syntax painted.budget) (shown_of painted) bytes) → IfTold told script (λ known bytes. after ≤ before + edit_lines words known bytes)
+edited_count words asked None script painted before between after same is first then = tt
+edited_count words asked (Some known) None painted before between after same is first then = tt
+edited_count words asked (Some known) (Some bytes) painted before between after same is first then =
+    let P : PaintWords → Type 0 = λ a. between ≤ before + lines_in (text_told a.text known) in
+    both_counts before between after (lines_in (text_told (words.painting).text known)) (script_costs (painter_of words painted.syntax painted.budget) (shown_of painted) bytes) (script_lines words bytes (painting_told words.painting known)) (subst P same first) then (ap (script_lines words bytes) is)
+
+-- the first painting alone
+pub unedited_count : (words : PageWords) (asked : PaintWords) (told : Option FileMap) (script : Option (List ℕ)) (before after : ℕ) → asked ≡ words.painting → IfSome told (λ known. after ≤ before + lines_in (text_told asked.text known)) → IfTold told script (λ known bytes. after ≤ before + edit_lines words known bytes)
+unedited_count words asked None script before after same first = tt
+unedited_count words asked (Some known) None before after same first = tt
+unedited_count words asked (Some known) (Some bytes) before after same first =
+    let P : PaintWords → Type 0 = λ a. after ≤ before + lines_in (text_told a.text known) in
+    one_count before after (lines_in (text_told (words.painting).text known)) (script_lines words bytes (painting_told words.painting known)) (subst P same first)

@@ -3,7 +3,9 @@ use Rattle.std.proofs.Common.{◌≡◌, ◌≢◌, ℕ, ◌≤◌, ◌+◌, Boo
 use Rattle.std.specs.Prelude.{◌⊎◌, codes, Some, IfSome, Result, Ok, Err}
 use Rattle.edit_session.specs.Ends.{SinkChange, SourceChange}
 use Rattle.large_session.specs.declared.session.Outcome.{Outcome}
-use Rattle.large_session.specs.LargeSession.{edit_count, edited_often, large_text, lines_of_edits, number_behind, start}
+use Rattle.large_session.specs.Laws.{ArePainted}
+use Rattle.large_session.proofs.CountLaws.{all_carried_out}
+use Rattle.large_session.specs.LargeSession.{edit_count, edited_often, five_lines, has_refused, large_text, lines_of_edits, number_behind, start}
 use Rattle.large_session.specs.Steps.{Tells}
 use Rattle.large_session.proofs.TextLaws.{text_bytes_few, text_count, text_read_back}
 use Rattle.program_words.specs.declared.words.Asked.TheVariants.{Large}
@@ -11,7 +13,10 @@ use Rattle.program_words.specs.Given.{LargeWords, PageWords, PaintWords}
 use Rattle.program_words.specs.Words.{asked_of, large_page}
 use Rattle.state_cache.specs.declared.refusal.EditError.{EditError}
 use Rattle.state_cache.specs.PaintedText.{PaintedText}
-use Rattle.state_cache.specs.Spans.{text_spans}
+use Rattle.paint_rules.specs.Line.{Painting, Whole, Fails, painting}
+use Rattle.paint_rules.specs.Rules.{Cause, TooCostly, TooDeep}
+use Rattle.state_cache.specs.declared.refusal.EditError.TheVariants.{Memory as OutOfMemory}
+use Rattle.state_cache.specs.Spans.{refused_at, spans_told, syntax_rules, text_spans}
 use Rattle.syn_base.specs.declared.places.Span.{Span}
 use Rattle.syn_base.specs.Causes.{Counted}
 use Rattle.syn_base.specs.Outside.{AppendsPrefix, FileMap, appended}
@@ -24,10 +29,10 @@ use Rattle.vimsyn_cli.specs.declared.fault.Stop.{Stop}
 use Rattle.vimsyn_cli.specs.declared.fault.Stop.TheVariants as stop
 use Rattle.vimsyn_cli.specs.declared.status.Status.{Status}
 use Rattle.vimsyn_cli.specs.declared.status.Status.TheVariants.{Done, Refused, Usage, ReadFault, WriteFault, Memory}
-use Rattle.vimsyn_cli.specs.Answers.{Delivers, GivesSession, IsUntouched, TellsFault, Writes}
+use Rattle.vimsyn_cli.specs.Answers.{Delivers, GivesSession, IsUntaken, IsUntouched, TellsFault, Writes}
 use Rattle.vimsyn_cli.specs.Changes.{FilesChange}
 use Rattle.vimsyn_cli.specs.Editing.{painter_of, script_status, shown_of}
-use Rattle.vimsyn_cli.specs.Large.{RefusesEdit, large_files, large_lines, large_painter, large_painting, large_run, large_told, lines_edited}
+use Rattle.vimsyn_cli.specs.Large.{RefusesEdit, large_files, large_lines, large_painter, large_painting, large_run, large_standing, large_told, lines_edited}
 use Rattle.vimsyn_cli.specs.LargeRun.{DeliversLarge, IsLarge, IsOutcome, RunsLarge, TellsRefusal}
 use Rattle.vimsyn_cli.specs.Painting.{IsRefusedPainting, IsUnreadPaint, lines_told, painted_told, painting_told, text_limit, text_told, with_spans}
 use Rattle.vimsyn_cli.specs.Plans.{FollowsFiles, IsExpected, OrUnread, RaisesItsCount, and_then, is_unread}
@@ -36,9 +41,9 @@ use Rattle.vimsyn_cli.specs.Report.{cause_status}
 use Rattle.vimsyn_cli.specs.Runs.{Runs}
 use Rattle.vimsyn_cli.specs.Laws.{IsLargePainted}
 use Rattle.vimsyn_cli.specs.Session.{lines_in, session, with_asked}
-use Rattle.vimsyn_cli.specs.Written.{Session, ends}
+use Rattle.vimsyn_cli.specs.Written.{Session, ends, shows}
 use Rattle.vimsyn_cli.proofs.KeptLaws.{kept_syntax}
-use Rattle.vimsyn_cli.proofs.RunLaws.{all_of, none_of, part_of, sink_failed, told_all, unfailed_of, untouched, written_other}
+use Rattle.vimsyn_cli.proofs.RunLaws.{all_of, none_of, part_of, sink_failed, takes_few_none, told_all, unfailed_of, untouched, written_other}
 use Rattle.vimsyn_cli.proofs.SessionLaws.{file_is, told_by, with_lines}
 
 -- ---- the first painting
@@ -88,16 +93,25 @@ painted_few words painted some few is =
     let count : length painted.text ≡ words.lines = ap length (painted_text words painted some few is) ∙ text_count words.seed words.lines in
     omega arith
 
-refused_in : (words : LargeWords) (syntax : Syntax) (lines : List (List ℕ)) (fault : FaultOf) (spans : Result (List (List Span)) EditError) → with_spans (large_page words).painting syntax lines spans ≡ Err fault → IsRefusedPainting (codes "large") fault
-refused_in words syntax lines fault (Ok spans) is = absurd cc
-refused_in words syntax lines fault (Err error) is = record { syntax = syntax; refusal = error; told = cc }
+-- the rules of painting know no want of memory
+refused_by : (l col : ℕ) (why : Cause) (error : EditError) → refused_at l (record { col = col; cause = why }) ≡ error → error ≢ OutOfMemory
+refused_by l col (TooCostly i) error is at = absurd (cc (is, at))
+refused_by l col TooDeep error is at = absurd (cc (is, at))
+
+refusal_known : (p : Painting) (error : EditError) → spans_told p ≡ Err error → error ≢ OutOfMemory
+refusal_known (Whole notes) error is = absurd cc
+refusal_known (Fails l refusal) error is = refused_by l refusal.col refusal.cause error (cc is)
+
+refused_in : (words : LargeWords) (syntax : Syntax) (lines : List (List ℕ)) (fault : FaultOf) (spans : Result (List (List Span)) EditError) → ((error : EditError) → spans ≡ Err error → error ≢ OutOfMemory) → with_spans (large_page words).painting syntax lines spans ≡ Err fault → IsRefusedPainting (codes "large") fault
+refused_in words syntax lines fault (Ok spans) known is = absurd cc
+refused_in words syntax lines fault (Err error) known is = record { syntax = syntax; refusal = error; told = cc; known = known error refl }
 
 -- where there is no painted text, its painting was refused
 pub painting_refused : (words : LargeWords) (fault : FaultOf) → 1 ≤ words.lines → words.lines ≤ 100000 → large_painting words ≡ Err fault → IsRefusedPainting (codes "large") fault
 painting_refused words fault some few is =
     let syntax = (kept_syntax words).0 in
     let text = large_text words.seed words.lines in
-    refused_in words syntax text fault (text_spans syntax words.budget text) (sym (painting_kept words some few) ∙ is)
+    refused_in words syntax text fault (text_spans syntax words.budget text) (λ error. refusal_known (painting (syntax_rules syntax words.budget) text) error) (sym (painting_kept words some few) ∙ is)
 
 refused_cause : (fault : FaultOf) → IsRefusedPainting (codes "large") fault → fault.cause ≡ cause.Content
 refused_cause fault is = ap (λ (f : FaultOf). f.cause) is.told
@@ -210,6 +224,7 @@ large_runs words files script out err answer kept faults misses longs left reada
   err_part_or_unread = told_all files.told (Some []) _ (λ known bytes. inl run.err_part);
   usage = λ is. absurd (run.in_table is);
   faulty = λ w. absurd (cc w);
+  faulty_told = λ w. absurd (cc w);
   refused = λ is. by_cause (run.refused is) is;
   read_fault = λ is. absurd (run.readable is);
   read_fault_line = λ is. absurd (run.readable is);
@@ -223,12 +238,14 @@ large_runs words files script out err answer kept faults misses longs left reada
   done_misses = λ is. misses;
   done_longs = λ is. longs;
   files_kept = kept;
+  files_left = record { told = kept; faults = faults; misses = misses; longs = longs };
   script_left = (left, readable);
+  script_taken = takes_few_none script left;
   script_ended = λ is. tt;
 }
   where
-    by_cause : TellsRefusal words err ⊎ (RefusesEdit words × (err.after ≡ err.before)) → answer ≡ Refused → TellsFault (Large words) err.before err.after files.longs files.longs_after answer ⊎ ((err.after ≡ err.before) × RefusesEdit words)
-    by_cause (inl tells) is = inl (fault_told words err files.longs files.longs_after answer tells is)
+    by_cause : TellsRefusal words err ⊎ (RefusesEdit words × (err.after ≡ err.before)) → answer ≡ Refused → (TellsFault (Large words) err.before err.after files.longs files.longs_after answer × IsUntaken script) ⊎ ((err.after ≡ err.before) × RefusesEdit words)
+    by_cause (inl tells) is = inl (fault_told words err files.longs files.longs_after answer tells is, (left, readable))
     by_cause (inr refuses) is = inr (refuses.1, refuses.0)
 
 -- ---- the law of accepted texts
@@ -249,6 +266,16 @@ large_is words painted is =
 pub accepted_large : (typed : List (List ℕ)) (files : FileMap) (script : List ℕ) (words : LargeWords) (painted : PaintedText) → asked_of typed ≡ Some (Large words) → IsLargePainted words painted → session typed files script ≡ large_told words (Ok painted)
 accepted_large typed files script words painted asked is =
     ap (with_asked files script) asked ∙ ap (large_told words) (large_is words painted is)
+
+done_told : (words : LargeWords) (painted : PaintedText) → has_refused (large_standing words painted) ≡ false → large_told words (Ok painted) ≡ shows (five_lines (large_standing words painted))
+done_told words painted none =
+    ap (λ (r : Bool). let s : Session = record { out = five_lines (large_standing words painted); err = []; status = script_status r } in s) none
+
+-- where each painting is accepted, it ends well
+pub accepted_large_done : (typed : List (List ℕ)) (files : FileMap) (script : List ℕ) (words : LargeWords) (painted : PaintedText) → asked_of typed ≡ Some (Large words) → IsLargePainted words painted → ArePainted (large_painter words painted) (edit_count words.lines) (start (shown_of painted)) (number_behind words.seed words.lines) → session typed files script ≡ shows (five_lines (large_standing words painted))
+accepted_large_done typed files script words painted asked is all =
+    let none = all_carried_out (large_painter words painted) (shown_of painted) (edit_count words.lines) (number_behind words.seed words.lines) all in
+    accepted_large typed files script words painted asked is ∙ done_told words painted none.1
 
 -- ---- steps
 

@@ -1,9 +1,9 @@
 -- What a run delivers, against the session that it is a run of.
-use Rattle.std.proofs.Common.{◌≡◌, ◌≢◌, ℕ, Bool, true, false, List, [], length, refl, ap, subst, sym, ◌∙◌, inl, inr}
+use Rattle.std.proofs.Common.{◌≡◌, ◌≢◌, ℕ, Bool, true, false, List, [], length, refl, ap, subst, sym, ◌∙◌, inl, inr, arith}
 use Rattle.std.specs.Prelude.{◌⊎◌, Option, Some, None, Result, Ok, Err, IfSome}
 use Rattle.std.proofs.lemmas.List.{append-nil}
 use Rattle.std.proofs.Math.Seq.{take-length}
-use Rattle.edit_session.specs.Ends.{SinkChange, SourceChange, Takes}
+use Rattle.edit_session.specs.Ends.{SinkChange, SourceChange, Takes, TakesFew}
 use Rattle.program_words.specs.declared.words.Asked.{Asked}
 use Rattle.program_words.specs.declared.words.Asked.TheVariants.{Edit, Large, Print}
 use Rattle.syn_base.specs.Causes.{Counted, Rose}
@@ -20,7 +20,7 @@ use Rattle.vimsyn_cli.specs.Changes.{FilesChange}
 use Rattle.vimsyn_cli.specs.Report.{cause_status, usage_line}
 use Rattle.vimsyn_cli.specs.Session.{asked_session, script_read}
 use Rattle.vimsyn_cli.specs.Plans.{RaisesItsCount, IfFault, OrUnread, is_missing, is_too_long, is_unread}
-use Rattle.vimsyn_cli.specs.Runs.{EndsScript, IfTold, LeavesScript, Runs, StopsSoFar}
+use Rattle.vimsyn_cli.specs.Runs.{EndsScript, IfTold, LeavesFiles, LeavesScript, Runs, StopsSoFar}
 use Rattle.vimsyn_cli.proofs.PlanLaws.{Plans}
 use Rattle.vimsyn_cli.specs.Written.{Session, ends}
 
@@ -192,6 +192,15 @@ told_both (Some known) (Some bytes) P Q f told = f known bytes told refl
 
 -- ---- faulty words
 
+-- nothing was taken of a script
+takes_none : (before after : Option (List ℕ)) → after ≡ before → Takes [] before after
+takes_none before None same = sym same
+takes_none before (Some rest) same = sym same
+
+pub takes_few_none : (script : SourceChange) → script.after ≡ script.before → TakesFew script
+takes_few_none script left =
+    record { bytes = []; taken = takes_none script.before script.after left; few = omega arith }
+
 usage_answer : (err : SinkChange) (answer : Status) → Writes err usage_line Usage answer → (answer ≡ Usage) ⊎ (answer ≡ WriteFault)
 usage_answer err answer (inl all) = inl all.status
 usage_answer err answer (inr some) = inr some.status
@@ -216,6 +225,7 @@ usage_runs files script out err answer kept faults misses longs left readable sa
       err_part_or_unread = told_all files.told (Some []) _ (λ known bytes. inl (part_of err usage_line Usage answer written));
       usage = λ is. refl;
       faulty = λ is. by;
+      faulty_told = λ is. (same, written);
       refused = λ is. neither answer Refused is by (λ w. absurd cc) (λ w. absurd cc);
       read_fault = λ is. neither answer ReadFault is by (λ w. absurd cc) (λ w. absurd cc);
       read_fault_line = λ is. neither answer ReadFault is by (λ w. absurd cc) (λ w. absurd cc);
@@ -229,7 +239,9 @@ usage_runs files script out err answer kept faults misses longs left readable sa
       done_misses = λ is. misses;
       done_longs = λ is. longs;
       files_kept = kept;
+      files_left = record { told = kept; faults = faults; misses = misses; longs = longs };
       script_left = (left, readable);
+      script_taken = takes_few_none script left;
       script_ended = λ is. tt;
     }
 
@@ -307,14 +319,11 @@ delivered_done test (Ok bytes) out err before after answer delivered counted is 
 delivered_done test (Err stop.Memory) out err before after answer delivered counted is = absurd (cc (is, delivered.2))
 delivered_done test (Err (stop.Fault fault)) out err before after answer delivered counted is = absurd (written_other err fault.line (cause_status fault.cause) answer Done delivered.1 is (not_done fault.cause) (λ w. absurd cc))
 
-leaves : (asked : Asked) (script : SourceChange) → script.after ≡ script.before → script.faults_after ≡ script.faults → LeavesScript (Some asked) script
-leaves (Print printing) script left readable = (left, readable)
-leaves (Edit words) script left readable = tt
-leaves (Large words) script left readable = (left, readable)
-
-takes_none : (before after : Option (List ℕ)) → after ≡ before → Takes [] before after
-takes_none before None same = sym same
-takes_none before (Some rest) same = sym same
+leaves : (asked : Asked) (told : Option FileMap) (script : SourceChange) → script.after ≡ script.before → script.faults_after ≡ script.faults → LeavesScript (Some asked) told script
+leaves (Print printing) told script left readable = (left, readable)
+leaves (Edit words) None script left readable = tt
+leaves (Edit words) (Some known) script left readable = λ fault is. (left, readable)
+leaves (Large words) told script left readable = (left, readable)
 
 -- a script of which nothing was read, while `out` wasn't touched
 stops_at_start : (asked : Asked) (files : Option FileMap) (script : SourceChange) (out : SinkChange) → script.after ≡ script.before → out.after ≡ appended out.before [] → IfSome files (λ known. StopsSoFar (Some asked) known script out)
@@ -333,9 +342,9 @@ out_left (Err (stop.Fault fault)) out err answer delivered is = untouched out de
 pub delivered_runs : (asked : Asked) (result : Result (List ℕ) Stop) (files : FilesChange) (script : SourceChange) (out err : SinkChange) (answer : Status) →
     IfTold files.told (script_read (Some asked) script.before) (λ known bytes. Plans (asked_session asked known bytes) (IsUnreadLine asked known) result) →
     IfFault result (IsFaultOfAsked asked) → RaisesItsCount is_unread result files.faults files.faults_after → RaisesItsCount is_missing result files.misses files.misses_after → RaisesItsCount is_too_long result files.longs files.longs_after →
-    files.told_after ≡ files.told → script.after ≡ script.before → script.faults_after ≡ script.faults → Delivers result out err answer → (answer ≡ Done → EndsScript (Some asked) files.told script out) →
+    files.told_after ≡ files.told → LeavesFiles (Some asked) files → script.after ≡ script.before → script.faults_after ≡ script.faults → Delivers result out err answer → (answer ≡ Done → EndsScript (Some asked) files.told script out) →
     Runs (Some asked) files script out err answer
-delivered_runs asked result files script out err answer planned told unread missing long kept left readable delivered ended =
+delivered_runs asked result files script out err answer planned told unread missing long kept alone left readable delivered ended =
     let scripts = script_read (Some asked) script.before in
     let Q : FileMap → List ℕ → Type 0 = λ known bytes. Plans (asked_session asked known bytes) (IsUnreadLine asked known) result in
     record {
@@ -344,10 +353,11 @@ delivered_runs asked result files script out err answer planned told unread miss
       err_part = told_map files.told scripts Q _ (λ known bytes plan r t. err_part_of (asked_session asked known bytes) (IsUnreadLine asked known) result out err files.faults files.faults_after answer plan delivered unread r) planned;
       err_part_or_unread = told_map files.told scripts Q _ (λ known bytes plan. err_part_or (asked_session asked known bytes) asked known result out err answer plan delivered) planned;
       faulty = λ w. absurd (cc w);
+      faulty_told = λ w. absurd (cc w);
       usage = λ is. absurd (delivered_unused result out err answer delivered is);
-      refused = λ is. inl (tells_of asked result out err files.longs files.longs_after answer told delivered long (λ w. absurd (cc (is, w))) (λ w. absurd (cc (is, w))) (λ w. absurd (cc (is, w))));
+      refused = λ is. inl (tells_of asked result out err files.longs files.longs_after answer told delivered long (λ w. absurd (cc (is, w))) (λ w. absurd (cc (is, w))) (λ w. absurd (cc (is, w))), (left, readable));
       read_fault = λ is. by_cause (delivered_read result out err files.faults files.faults_after files.misses files.misses_after answer delivered unread missing is);
-      read_fault_line = λ is. inl (tells_of asked result out err files.longs files.longs_after answer told delivered long (λ w. absurd (cc (is, w))) (λ w. absurd (cc (is, w))) (λ w. absurd (cc (is, w))));
+      read_fault_line = λ is. inl (tells_of asked result out err files.longs files.longs_after answer told delivered long (λ w. absurd (cc (is, w))) (λ w. absurd (cc (is, w))) (λ w. absurd (cc (is, w))), (left, readable));
       read_fault_told = λ is. told_map files.told scripts Q _ (λ known bytes plan. read_fault_told_of (asked_session asked known bytes) asked known result out err answer plan delivered is) planned;
       write_fault = λ is. delivered_failed result out err answer delivered is;
       stopped = λ is rose. stops_at_start asked files.told script out left (out_left result out err answer delivered is);
@@ -358,7 +368,9 @@ delivered_runs asked result files script out err answer planned told unread miss
       done_misses = λ is. delivered_done is_missing result out err files.misses files.misses_after answer delivered missing is;
       done_longs = λ is. delivered_done is_too_long result out err files.longs files.longs_after answer delivered long is;
       files_kept = kept;
-      script_left = leaves asked script left readable;
+      files_left = alone;
+      script_left = leaves asked files.told script left readable;
+      script_taken = takes_few_none script left;
       script_ended = ended;
     }
   where

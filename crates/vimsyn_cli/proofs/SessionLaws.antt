@@ -1,20 +1,27 @@
 -- Accepted files are painted, and accepted syntax files are counted.
-use Rattle.std.proofs.Common.{◌≡◌, ℕ, List, refl, ap, sym, ◌∙◌, ◌≤◌, length}
+use Rattle.std.proofs.Common.{◌≡◌, ℕ, Bool, false, List, [], refl, ap, sym, subst, ◌∙◌, ◌≤◌, length}
 use Rattle.std.proofs.lemmas.Bool.{le-ltb}
-use Rattle.std.specs.Prelude.{Some, Ok, Result, Err}
-use Rattle.edit_session.specs.Session.{is_too_long}
+use Rattle.std.specs.Prelude.{Some, Ok, Result, Err, IsOk}
+use Rattle.edit_session.specs.Laws.{AreCarriedOut}
+use Rattle.edit_session.specs.Session.{Answer, entries_read, is_too_long, most_bytes, start}
+use Rattle.edit_session.proofs.CarriedOutLaws.{none_of_script}
 use Rattle.program_words.specs.declared.words.Asked.TheVariants.{Edit, Print}
 use Rattle.program_words.specs.declared.words.Printing.TheVariants.{Html, Spans}
 use Rattle.program_words.specs.Given.{PageWords, PaintWords}
 use Rattle.program_words.specs.Words.{asked_of}
 use Rattle.syn_base.specs.Outside.{FileMap, file_named}
 use Rattle.syn_reader.specs.declared.syntax.Syntax.{Syntax}
+use Rattle.paint_laws.specs.Accepted.{IsWithinLimits}
+use Rattle.paint_laws.proofs.LineCauses.{texts_within_limits_are_accepted}
+use Rattle.syn_base.specs.declared.places.Span.{Span}
+use Rattle.state_cache.specs.declared.refusal.EditError.{EditError}
 use Rattle.state_cache.specs.PaintedText.{PaintedText}
+use Rattle.state_cache.specs.Spans.{spans_of, spans_told, syntax_rules, text_spans}
 use Rattle.text_buffer.specs.declared.TextError.{TextError}
 use Rattle.vimsyn_cli.specs.declared.fault.Fault.{Fault}
 use Rattle.vimsyn_cli.specs.declared.file_fault.NamedFault.{NamedFault}
 use Rattle.vimsyn_cli.specs.Check.{syntax_counts}
-use Rattle.vimsyn_cli.specs.Editing.{edit_told, script_answer, script_end}
+use Rattle.vimsyn_cli.specs.Editing.{edit_told, painter_of, script_answer, script_end, script_status, shown_of, with_words}
 use Rattle.vimsyn_cli.specs.Laws.{AcceptedSyntaxFile, IsAccepted}
 use Rattle.vimsyn_cli.specs.Painting.{bytes_told, file_bytes, lines_told, painted_told, painting_told, text_limit, text_told, with_spans}
 use Rattle.vimsyn_cli.specs.Plans.{and_then}
@@ -23,7 +30,7 @@ use Rattle.vimsyn_cli.specs.Reading.{syntax_told, with_told}
 use Rattle.vimsyn_cli.specs.Report.{fault_of}
 use Rattle.vimsyn_cli.specs.TextFault.{text_fault}
 use Rattle.vimsyn_cli.specs.Session.{session, session_told, with_asked}
-use Rattle.vimsyn_cli.specs.Written.{shows}
+use Rattle.vimsyn_cli.specs.Written.{Session, shows}
 
 -- the bytes of a file, or its fault
 abbrev pub told_by : List ℕ → Result (List ℕ) NamedFault → Result (List ℕ) Fault
@@ -68,8 +75,35 @@ pub accepted_edited : (typed : List (List ℕ)) (files : FileMap) (script : List
 accepted_edited typed files script words painted asked is =
     ap (with_asked files script) asked ∙ ap (edit_told words script) (painting_is words.painting files painted is)
 
+-- a script that isn't too long, and of which no command was refused
+ends_well : (long : Bool) (answer : Answer) → long ≡ false → answer.stands.refused ≡ false → script_end long answer ≡ shows answer.text
+ends_well long answer short none =
+    ap (λ (l : Bool). script_end l answer) short
+    ∙ ap (λ (r : Bool). let s : Session = record { out = answer.text; err = []; status = script_status r } in s) none
+
+-- where each command is carried out, it ends well
+pub accepted_carried_out : (typed : List (List ℕ)) (files : FileMap) (script : List ℕ) (words : PageWords) (painted : PaintedText) → asked_of typed ≡ Some (Edit words) → IsAccepted words.painting files painted → length script ≤ 67108864 → AreCarriedOut (painter_of words painted.syntax painted.budget) (start (shown_of painted)) (entries_read script) → session typed files script ≡ shows (script_answer words painted script).text
+accepted_carried_out typed files script words painted asked is short carried =
+    accepted_edited typed files script words painted asked is
+    ∙ ends_well (is_too_long script) (script_answer words painted script) (le-ltb most_bytes (length script) short)
+    (none_of_script (painter_of words painted.syntax painted.budget) (shown_of painted) script carried)
+
 -- or the counts
 pub accepted_counted : (words : List (List ℕ)) (files : FileMap) (script : List ℕ) (syntax : Syntax) → AcceptedSyntaxFile words files syntax → session words files script ≡ shows (syntax_counts syntax)
 accepted_counted words files script syntax is =
     ap (with_asked files script) is.words_are
     ∙ ap (λ (e : Result Syntax Fault). session_told (and_then e (λ s. Ok (syntax_counts s)))) (ap with_told is.syntax_is)
+
+-- a text within its limits is painted whole
+spans_within : (syntax : Syntax) (budget : ℕ) (text : List (List ℕ)) → IsWithinLimits (syntax_rules syntax budget) text → (spans : List (List Span)) × (text_spans syntax budget text ≡ Ok spans)
+spans_within syntax budget text limits =
+    let accepted = texts_within_limits_are_accepted (syntax_rules syntax budget) text limits in
+    (spans_of accepted.notes, ap spans_told accepted.whole)
+
+pub within_painted : (words : PageWords) (syntax : Syntax) (budget : ℕ) (text : List (List ℕ)) → IsWithinLimits (syntax_rules syntax budget) text → IsOk (text_spans syntax budget text) × IsOk ((painter_of words syntax budget).paint text)
+within_painted words syntax budget text limits =
+    let painted = spans_within syntax budget text limits in
+    let own : with_words syntax (text_spans syntax budget text) ≡ Ok painted.0 = ap (with_words syntax) painted.1 in
+    let P : Result (List (List Span)) EditError → Type 0 = λ r. IsOk r in
+    let Q : Result (List (List Span)) (List ℕ) → Type 0 = λ r. IsOk r in
+    (subst P (sym painted.1) refl, subst Q (sym own) refl)

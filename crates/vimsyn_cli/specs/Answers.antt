@@ -2,7 +2,7 @@
 use Rattle.std.specs.Prelude.{◌≡◌, ◌⊎◌, ℕ, codes, Bool, true, false, List, Option, Result, Ok, Err}
 use Rattle.edit_session.specs.declared.reading.End.{End}
 use Rattle.edit_session.specs.declared.reading.End.TheVariants as end
-use Rattle.edit_session.specs.Ends.{SinkChange}
+use Rattle.edit_session.specs.Ends.{SinkChange, SourceChange}
 use Rattle.program_words.specs.declared.words.Asked.{Asked}
 use Rattle.program_words.specs.declared.words.Asked.TheVariants.{Edit, Large, Print}
 use Rattle.program_words.specs.declared.words.Printing.{Printing}
@@ -20,7 +20,7 @@ use Rattle.vimsyn_cli.specs.declared.status.Status.TheVariants.{Done, Refused, U
 use Rattle.state_cache.specs.PaintedText.{PaintedText}
 use Rattle.vimsyn_cli.specs.Painting.{IsPaintFault, IsRefusedPainting, IsUnreadPaint, painting_told}
 use Rattle.vimsyn_cli.specs.Reading.{IsReadFault, IsUnreadAsked}
-use Rattle.vimsyn_cli.specs.Report.{cause_status, long_script, unread_script}
+use Rattle.vimsyn_cli.specs.Report.{cause_status, long_script, unread_script, usage_line}
 use Rattle.vimsyn_cli.specs.Written.{Session}
 
 -- both sinks got the bytes of the session, and the status is its
@@ -106,10 +106,18 @@ pub record WroteSome (before after : Option (List ℕ)) (faults faults_after : �
 abbrev pub IsUntouched : SinkChange → Type 0
 IsUntouched sink = (sink.after ≡ sink.before) × (sink.faults_after ≡ sink.faults)
 
+-- nothing was taken from a script, and no read of it failed
+abbrev pub IsUntaken : SourceChange → Type 0
+IsUntaken script = (script.after ≡ script.before) × (script.faults_after ≡ script.faults)
+
 abbrev pub Writes : SinkChange → List ℕ → Status → Status → Type 0
 Writes sink bytes planned answer =
     WroteAll sink.before sink.after sink.faults sink.faults_after bytes planned answer
     ⊎ WroteSome sink.before sink.after sink.faults sink.faults_after bytes answer
+
+-- `out` got nothing, and `err` the usage line, or a part of it where a write failed
+abbrev pub TellsUsage : SinkChange → SinkChange → Status → Type 0
+TellsUsage out err answer = IsUntouched out × Writes err usage_line Usage answer
 
 -- what was asked goes to `out`, the line of a fault to `err`, and want of memory is answered in silence
 abbrev pub Delivers : Result (List ℕ) Stop → SinkChange → SinkChange → Status → Type 0

@@ -1,5 +1,5 @@
 -- What a call is given, before and after it.
-use Rattle.std.specs.Prelude.{ℕ, List, Option}
+use Rattle.std.specs.Prelude.{◌≡◌, ℕ, List, Option}
 use Rattle.edit_session.specs.Ends.{SinkChange, SourceChange}
 use Rattle.syn_base.specs.Outside.{FileMap}
 
@@ -13,6 +13,13 @@ pub record FilesChange : Type 0 where
   pub misses_after : ℕ
   pub longs : ℕ
   pub longs_after : ℕ
+
+-- no file was asked for: all is as it was
+pub record AreUnasked (files : FilesChange) : Type 0 where
+  pub told : files.told_after ≡ files.told
+  pub faults : files.faults_after ≡ files.faults
+  pub misses : files.misses_after ≡ files.misses
+  pub longs : files.longs_after ≡ files.longs
 
 abbrev pub files_change : Option FileMap → Option FileMap → ℕ → ℕ → ℕ → ℕ → ℕ → ℕ → FilesChange
 files_change told told_after faults faults_after misses misses_after longs longs_after = record {

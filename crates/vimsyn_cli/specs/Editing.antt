@@ -1,5 +1,6 @@
 -- The session of edits on a text file: its painting by the syntax, and how it is told and printed.
-use Rattle.std.specs.Prelude.{ℕ, ◌+◌, Bool, true, false, List, [], ◌++◌, codes, decimal, Result, Ok, Err}
+use Rattle.std.specs.Prelude.{ℕ, ◌+◌, Bool, true, false, List, [], ◌++◌, length, codes, decimal, Result, Ok, Err}
+use Rattle.edit_script.specs.Edits.{replaced}
 use Rattle.edit_session.specs.Painter.{Painter, Painted}
 use Rattle.edit_session.specs.Session.{Answer, is_too_long, script_session}
 use Rattle.program_words.specs.Given.{PageWords}
@@ -37,11 +38,13 @@ abbrev pub with_words : Syntax → Result (List (List Span)) EditError → Resul
 with_words syntax (Ok spans) = Ok spans
 with_words syntax (Err error) = Err (cause_words syntax error)
 
--- by what the session of a painted text paints and prints; the page is that of `html`
+-- by what the session of a painted text paints and prints; the page is that of `html`. A change costs the lines of the
+-- changed text at most
 abbrev pub painter_of : PageWords → Syntax → ℕ → Painter
 painter_of words syntax budget = record {
   paint = λ text. with_words syntax (text_spans syntax budget text);
   report = λ before after a b count. report before after (record { a = a; b = b; count = count });
+  costs = λ text r. length (replaced text r);
   line = λ number spans. line_text syntax.groups syntax.links number spans true;
   page = λ text spans. page_text (words.painting).text text spans syntax.groups syntax.links (page_options words);
 }

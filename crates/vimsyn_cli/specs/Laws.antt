@@ -1,7 +1,9 @@
 -- Laws of the session in the subject's own terms: what an accepted run gives.
 use Rattle.std.specs.Prelude.{◌≡◌, ℕ, ◌≤◌, List, length, codes, Some, Ok, IsOk}
-use Rattle.edit_session.specs.Session.{is_too_long}
-use Rattle.large_session.specs.LargeSession.{large_text}
+use Rattle.edit_session.specs.Laws.{AreCarriedOut}
+use Rattle.edit_session.specs.Session.{entries_read, is_too_long, start}
+use Rattle.large_session.specs.Laws.{ArePainted}
+use Rattle.large_session.specs.LargeSession.{edit_count, five_lines, large_text, number_behind, start as large_start}
 use Rattle.program_words.specs.declared.words.Asked.TheVariants.{Edit, Large, Print}
 use Rattle.program_words.specs.declared.words.Printing.TheVariants.{Check, Html, Spans}
 use Rattle.program_words.specs.Given.{CheckWords, LargeWords, PageWords, PaintWords}
@@ -10,11 +12,12 @@ use Rattle.syn_base.specs.Outside.{FileMap, file_named}
 use Rattle.syn_reader.specs.declared.syntax.Syntax.{Syntax}
 use Rattle.syn_reader.specs.SyntaxOf.{syntax_of}
 use Rattle.state_cache.specs.PaintedText.{PaintedText}
-use Rattle.state_cache.specs.Spans.{text_spans}
+use Rattle.paint_laws.specs.Accepted.{IsWithinLimits}
+use Rattle.state_cache.specs.Spans.{syntax_rules, text_spans}
 use Rattle.text_buffer.specs.TextOfBytes.{text_of}
 use Rattle.vimsyn_cli.specs.Check.{syntax_counts}
-use Rattle.vimsyn_cli.specs.Editing.{script_answer, script_end}
-use Rattle.vimsyn_cli.specs.Large.{large_files, large_told}
+use Rattle.vimsyn_cli.specs.Editing.{painter_of, script_answer, script_end, shown_of}
+use Rattle.vimsyn_cli.specs.Large.{large_files, large_painter, large_standing, large_told}
 use Rattle.vimsyn_cli.specs.Printing.{page_bytes, spans_bytes}
 use Rattle.vimsyn_cli.specs.Reading.{options_of}
 use Rattle.vimsyn_cli.specs.Session.{session}
@@ -49,6 +52,23 @@ AcceptedTextsAreEdited =
     → asked_of typed ≡ Some (Edit words) → IsAccepted words.painting files painted
     → session typed files script ≡ script_end (is_too_long script) (script_answer words painted script)
 
+-- and where each command of a script fits the text as it is then, and the painting of each text that they
+-- change is accepted, it ends well, with what the commands print
+abbrev pub CarriedOutScriptsAreDone : Type 0
+CarriedOutScriptsAreDone =
+    (typed : List (List ℕ)) (files : FileMap) (script : List ℕ) (words : PageWords) (painted : PaintedText)
+    → asked_of typed ≡ Some (Edit words) → IsAccepted words.painting files painted → length script ≤ 67108864
+    → AreCarriedOut (painter_of words painted.syntax painted.budget) (start (shown_of painted)) (entries_read script)
+    → session typed files script ≡ shows (script_answer words painted script).text
+
+-- a text is painted whole, at first and behind a command, where no attempt that its painting may make costs more
+-- than the budget, and at most 1,000 frames stand wherever something starts
+abbrev pub TextsWithinLimitsArePainted : Type 0
+TextsWithinLimitsArePainted =
+    (words : PageWords) (syntax : Syntax) (budget : ℕ) (text : List (List ℕ))
+    → IsWithinLimits (syntax_rules syntax budget) text
+    → IsOk (text_spans syntax budget text) × IsOk ((painter_of words syntax budget).paint text)
+
 -- the generated text of the large mode, of as many lines as the table of words has it, all of which are
 -- painted by the kept syntax
 pub record IsLargePainted (words : LargeWords) (painted : PaintedText) : Type 0 where
@@ -65,6 +85,14 @@ AcceptedLargeTextsAreEdited =
     (typed : List (List ℕ)) (files : FileMap) (script : List ℕ) (words : LargeWords) (painted : PaintedText)
     → asked_of typed ≡ Some (Large words) → IsLargePainted words painted
     → session typed files script ≡ large_told words (Ok painted)
+
+-- and where the painting of each text that they change is accepted, it ends well
+abbrev pub PaintedLargeTextsAreDone : Type 0
+PaintedLargeTextsAreDone =
+    (typed : List (List ℕ)) (files : FileMap) (script : List ℕ) (words : LargeWords) (painted : PaintedText)
+    → asked_of typed ≡ Some (Large words) → IsLargePainted words painted
+    → ArePainted (large_painter words painted) (edit_count words.lines) (large_start (shown_of painted)) (number_behind words.seed words.lines)
+    → session typed files script ≡ shows (five_lines (large_standing words painted))
 
 -- the kept syntax file is accepted
 abbrev pub KeptSyntaxIsAccepted : Type 0

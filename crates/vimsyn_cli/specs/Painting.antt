@@ -1,6 +1,6 @@
 -- The painting of a text file by a syntax file. The syntax comes first, then the text, then its painting,
 -- and the first of them that has a fault ends the run.
-use Rattle.std.specs.Prelude.{◌≡◌, ◌⊎◌, ℕ, ◌+◌, nat_lt, List, [], ◌++◌, length, codes, decimal, Option, Some, None, Result, Ok, Err, if◌then◌else◌}
+use Rattle.std.specs.Prelude.{◌≡◌, ◌≢◌, ◌⊎◌, ℕ, ◌+◌, nat_lt, List, [], ◌++◌, length, codes, decimal, Option, Some, None, Result, Ok, Err, if◌then◌else◌}
 use Rattle.program_words.specs.Given.{PaintWords}
 use Rattle.syn_base.specs.declared.places.ItemId.{ItemId}
 use Rattle.syn_base.specs.declared.places.Span.{Span}
@@ -10,6 +10,7 @@ use Rattle.syntax_set.specs.Groups.{name_of}
 use Rattle.paint_rules.specs.Rules.{item_of}
 use Rattle.state_cache.specs.declared.refusal.EditError.{EditError}
 use Rattle.state_cache.specs.declared.refusal.EditError.TheVariants as refusal
+use Rattle.state_cache.specs.declared.refusal.EditError.TheVariants.{Memory as OutOfMemory}
 use Rattle.state_cache.specs.PaintedText.{PaintedText}
 use Rattle.state_cache.specs.Spans.{text_spans}
 use Rattle.text_buffer.specs.TextOfBytes.{text_of}
@@ -93,6 +94,8 @@ pub record IsRefusedPainting (name : List ℕ) (fault : Fault) : Type 0 where
   pub syntax : Syntax
   pub refusal : EditError
   pub told : fault ≡ refused_fault name syntax refusal
+  -- it tells a place of the text
+  pub known : refusal ≢ OutOfMemory
 
 -- a fault that the painting of a file can have: of reading the syntax, of the text, or of the painting
 abbrev pub IsPaintFault : PaintWords → Fault → Type 0

@@ -1,25 +1,26 @@
 -- What a run of a command comes to: its answer, what the sinks got, and what became of the files and of the
 -- script.
-use Rattle.std.specs.Prelude.{◌≡◌, ◌≢◌, ◌⊎◌, ℕ, ◌+◌, ◌<◌, ◌≤◌, Bool, true, false, List, length, Option, Some, None, IfSome, IsSomeAnd, Ok, ⊤}
+use Rattle.std.specs.Prelude.{◌≡◌, ◌≢◌, ◌⊎◌, ℕ, ◌+◌, ◌<◌, ◌≤◌, Bool, true, false, List, length, Option, Some, None, IfSome, IsSomeAnd, Ok, Err, ⊤}
 use Rattle.edit_script.specs.Entries.{entries_of}
 use Rattle.edit_session.specs.declared.reading.End.{End}
-use Rattle.edit_session.specs.Ends.{EndsSo, ReadsToEnd, SinkChange, SourceChange, Takes}
+use Rattle.edit_session.specs.Ends.{EndsSo, ReadsToEnd, SinkChange, SourceChange, Takes, TakesFew}
 use Rattle.edit_session.specs.Session.{most_bytes, session, start}
 use Rattle.program_words.specs.declared.words.Asked.{Asked}
 use Rattle.program_words.specs.declared.words.Asked.TheVariants.{Edit, Large, Print}
 use Rattle.program_words.specs.Given.{PageWords}
 use Rattle.syn_base.specs.Causes.{Rose}
 use Rattle.syn_base.specs.Outside.{AppendsPrefix, FileMap, appended}
-use Rattle.state_cache.specs.PaintedText.{PaintedText}
+use Rattle.state_cache.specs.PaintedText.{IsPainted, PaintedText}
+use Rattle.vimsyn_cli.specs.declared.fault.Fault.{Fault}
 use Rattle.vimsyn_cli.specs.declared.status.Status.{Status}
 use Rattle.vimsyn_cli.specs.declared.status.Status.TheVariants.{Done, Refused, Usage, ReadFault, WriteFault, Memory}
-use Rattle.vimsyn_cli.specs.Answers.{Closes, GivesSession, TellsAllUnread, TellsFault, TellsUnread, is_unfailed}
-use Rattle.vimsyn_cli.specs.Changes.{FilesChange}
+use Rattle.vimsyn_cli.specs.Answers.{Closes, GivesSession, IsUntaken, TellsAllUnread, TellsFault, TellsUnread, TellsUsage, is_unfailed}
+use Rattle.vimsyn_cli.specs.Changes.{AreUnasked, FilesChange}
 use Rattle.vimsyn_cli.specs.Editing.{painter_of, script_answer, shown_of}
 use Rattle.vimsyn_cli.specs.Large.{RefusesEdit, large_lines}
 use Rattle.vimsyn_cli.specs.Painting.{painting_told}
 use Rattle.vimsyn_cli.specs.Report.{long_script, unread_script}
-use Rattle.vimsyn_cli.specs.Session.{print_lines, script_read, with_asked}
+use Rattle.vimsyn_cli.specs.Session.{edit_lines, print_lines, script_read, with_asked}
 
 -- where what a command reads of the files and of the script is told
 abbrev pub IfTold : Option FileMap → Option (List ℕ) → (FileMap → List ℕ → Type 0) → Type 0
@@ -35,6 +36,7 @@ IsLongScript script = (bytes : List ℕ) × Takes bytes script.before script.aft
 -- commands print on that text was written; one of them was refused, or none
 pub record ReadsScript (words : PageWords) (told : Option FileMap) (refused : Bool) (script : SourceChange) (out : SinkChange) : Type 0 where
   pub painted : PaintedText
+  pub is_painted : IsPainted painted
   pub of_files : IfSome told (λ known. painting_told words.painting known ≡ Ok painted)
   pub read : ReadsToEnd (painter_of words painted.syntax painted.budget) (start (shown_of painted)) refused script out
 
@@ -65,10 +67,19 @@ StopsSoFar (Some (Edit words)) files script out =
     (painted : PaintedText) → painting_told words.painting files ≡ Ok painted → PrintsSoFar words painted script out
 StopsSoFar asked files script out = ⊤
 
--- words that ask for no session of edits leave the script alone
-abbrev pub LeavesScript : Option Asked → SourceChange → Type 0
-LeavesScript (Some (Edit words)) script = ⊤
-LeavesScript asked script = (script.after ≡ script.before) × (script.faults_after ≡ script.faults)
+-- words that ask for no session of edits leave the script alone; and so does a session of edits where its syntax file,
+-- its text or the first painting isn't accepted
+abbrev pub LeavesScript : Option Asked → Option FileMap → SourceChange → Type 0
+LeavesScript (Some (Edit words)) told script =
+    IfSome told (λ known. (fault : Fault) → painting_told words.painting known ≡ Err fault → IsUntaken script)
+LeavesScript asked told script = IsUntaken script
+
+-- words that aren't in the table leave the files alone, and so does the large mode, whose files are its own
+abbrev pub LeavesFiles : Option Asked → FilesChange → Type 0
+LeavesFiles None files = AreUnasked files
+LeavesFiles (Some (Large words)) files = AreUnasked files
+LeavesFiles (Some (Print printing)) files = ⊤
+LeavesFiles (Some (Edit words)) files = ⊤
 
 -- a session of edits reads its script to the end, and none of its commands was refused
 abbrev pub EndsScript : Option Asked → Option FileMap → SourceChange → SinkChange → Type 0
@@ -94,12 +105,15 @@ pub record Runs (asked : Option Asked) (files : FilesChange) (script : SourceCha
   -- each answer and its cause
   pub usage : answer ≡ Usage → asked ≡ None
   pub faulty : asked ≡ None → (answer ≡ Usage) ⊎ (answer ≡ WriteFault)
+  pub faulty_told : asked ≡ None → TellsUsage out err answer
   pub refused : answer ≡ Refused → IsSomeAnd asked (λ a.
-      TellsFault a err.before err.after files.longs files.longs_after answer ⊎ RefusesScript a files.told script out err)
+      (TellsFault a err.before err.after files.longs files.longs_after answer × IsUntaken script)
+      ⊎ RefusesScript a files.told script out err)
   pub read_fault : answer ≡ ReadFault →
       Rose files.faults files.faults_after ⊎ Rose files.misses files.misses_after ⊎ Rose script.faults script.faults_after
   pub read_fault_line : answer ≡ ReadFault → IsSomeAnd asked (λ a.
-      TellsFault a err.before err.after files.longs files.longs_after answer ⊎ FailsScript a script err)
+      (TellsFault a err.before err.after files.longs files.longs_after answer × IsUntaken script)
+      ⊎ FailsScript a script err)
   pub read_fault_told : answer ≡ ReadFault → IfTold files.told (script_read asked script.before) (λ known bytes.
       (err.after ≡ appended err.before (with_asked known bytes asked).err)
       ⊎ IsSomeAnd asked (λ a. TellsAllUnread a known err.before err.after))
@@ -114,19 +128,23 @@ pub record Runs (asked : Option Asked) (files : FilesChange) (script : SourceCha
   pub done_misses : answer ≡ Done → files.misses_after ≡ files.misses
   pub done_longs : answer ≡ Done → files.longs_after ≡ files.longs
   pub files_kept : files.told_after ≡ files.told
-  pub script_left : LeavesScript asked script
+  pub files_left : LeavesFiles asked files
+  pub script_left : LeavesScript asked files.told script
+  pub script_taken : TakesFew script
   pub script_ended : answer ≡ Done → EndsScript asked files.told script out
 
--- how many lines are painted at most for a command that prints at once, and for the large mode
-abbrev pub PaintsFew : Option Asked → FileMap → ℕ → ℕ → Type 0
-PaintsFew None files before after = after ≡ before
-PaintsFew (Some (Print printing)) files before after = after ≤ before + print_lines printing files
-PaintsFew (Some (Edit words)) files before after = ⊤
-PaintsFew (Some (Large words)) files before after = after ≤ before + large_lines words
+-- how many lines are painted at most, by what a command reads of the files and of the script
+abbrev pub PaintsFew : Option Asked → FileMap → List ℕ → ℕ → ℕ → Type 0
+PaintsFew None files script before after = after ≡ before
+PaintsFew (Some (Print printing)) files script before after = after ≤ before + print_lines printing files
+PaintsFew (Some (Edit words)) files script before after = after ≤ before + edit_lines words files script
+PaintsFew (Some (Large words)) files script before after = after ≤ before + large_lines words
 
 -- a script was carried out on a painted text
 pub record EditsPainted (words : PageWords) (painted : PaintedText) (script : SourceChange) (out err : SinkChange) (answer : Status) : Type 0 where
+  pub is_painted : IsPainted painted
   pub end : End
   pub ends : EndsSo (painter_of words painted.syntax painted.budget) (shown_of painted) script out end
   pub closes : Closes end err answer
+  pub taken : TakesFew script
   pub part : IfSome script.before (λ bytes. AppendsPrefix out.before out.after (script_answer words painted bytes).text)

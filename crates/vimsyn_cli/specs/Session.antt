@@ -1,18 +1,21 @@
 -- The session: what a run writes on `out` and on `err`, and its status, as a function of the words, the
 -- files and the script.
-use Rattle.std.specs.Prelude.{ℕ, List, [], length, Option, Some, None, Result, Ok, Err}
+use Rattle.std.specs.Prelude.{ℕ, ◌+◌, List, [], length, Option, Some, None, Result, Ok, Err}
+use Rattle.edit_session.specs.Session.{script_costs}
+use Rattle.program_words.specs.Given.{PageWords}
 use Rattle.program_words.specs.declared.words.Asked.{Asked}
 use Rattle.program_words.specs.declared.words.Asked.TheVariants.{Edit, Large, Print}
 use Rattle.program_words.specs.declared.words.Printing.{Printing}
 use Rattle.program_words.specs.declared.words.Printing.TheVariants.{Check, Html, Spans}
 use Rattle.program_words.specs.Words.{asked_of}
+use Rattle.state_cache.specs.PaintedText.{PaintedText}
 use Rattle.syn_base.specs.Outside.{FileMap}
 use Rattle.vimsyn_cli.specs.declared.fault.Fault.{Fault}
 use Rattle.vimsyn_cli.specs.declared.status.Status.TheVariants.{Usage}
 use Rattle.vimsyn_cli.specs.Check.{check_told}
-use Rattle.vimsyn_cli.specs.Editing.{edit_session}
+use Rattle.vimsyn_cli.specs.Editing.{edit_session, painter_of, shown_of}
 use Rattle.vimsyn_cli.specs.Large.{large_run}
-use Rattle.vimsyn_cli.specs.Painting.{text_told}
+use Rattle.vimsyn_cli.specs.Painting.{painting_told, text_told}
 use Rattle.vimsyn_cli.specs.Printing.{html_told, spans_told}
 use Rattle.vimsyn_cli.specs.Report.{usage_line}
 use Rattle.vimsyn_cli.specs.Written.{Session, ends, shows, tells}
@@ -57,3 +60,13 @@ abbrev pub print_lines : Printing → FileMap → ℕ
 print_lines (Check words) files = 0
 print_lines (Spans words) files = lines_in (text_told words.text files)
 print_lines (Html words) files = lines_in (text_told (words.painting).text files)
+
+-- and how many for the commands of a script: those of each change that they come to
+abbrev pub script_lines : PageWords → List ℕ → Result PaintedText Fault → ℕ
+script_lines words script (Ok painted) =
+    script_costs (painter_of words painted.syntax painted.budget) (shown_of painted) script
+script_lines words script (Err fault) = 0
+
+abbrev pub edit_lines : PageWords → FileMap → List ℕ → ℕ
+edit_lines words files script =
+    lines_in (text_told (words.painting).text files) + script_lines words script (painting_told words.painting files)

@@ -1,8 +1,12 @@
 //! What `edit` does: a text is painted, and a script of edits is carried out on it (this profile).
+ghost use Rattle.std.specs.Prelude.{◌≤◌, ◌+◌, IfSome};
+ghost use Rattle.edit_session.specs.Session.{script_costs};
 ghost use Rattle.program_words.specs.declared.words.Asked.TheVariants.{Edit};
 ghost use Rattle.vimsyn_cli.specs.Answers.{Closes};
 ghost use Rattle.vimsyn_cli.specs.Changes.{files_change, sink_change, source_change};
-ghost use Rattle.vimsyn_cli.specs.Runs.{EditsPainted, Runs};
+ghost use Rattle.vimsyn_cli.specs.Editing.{painter_of, shown_of};
+ghost use Rattle.vimsyn_cli.specs.Runs.{EditsPainted, IfTold, Runs};
+ghost use Rattle.vimsyn_cli.specs.Session.{edit_lines};
 
 use crate::Status;
 use crate::deliver::{deliver, finish};
@@ -31,7 +35,7 @@ pub(crate) fn run_edit<F: Files, I: Source, O: Sink, E: Sink, L: Ledger>(
     err: &mut E,
     steps: &mut Steps<L>,
 ) -> Status
-    ensures { Runs (Some (Edit words.now))
+    ensures runs { Runs (Some (Edit words.now))
         (files_change (F.told files.old) (F.told files.new)
         (F.faults files.old) (F.faults files.new) (F.misses files.old) (F.misses files.new)
         (F.longs files.old) (F.longs files.new))
@@ -40,6 +44,8 @@ pub(crate) fn run_edit<F: Files, I: Source, O: Sink, E: Sink, L: Ledger>(
         (sink_change (O.written out.old) (O.written out.new) (O.faults out.old) (O.faults out.new))
         (sink_change (E.written err.old) (E.written err.new) (E.faults err.old) (E.faults err.new))
         result }
+    ensures steps { IfTold (F.told files.old) (I.left script.old) (λ known bytes.
+        steps.new ≤ steps.old + edit_lines words.now known bytes) }
 {
     match paint(alloc, files, words.painting(), steps) {
         Ok(painted) => edit_painted(alloc, words, painted, script, out, err, steps),
@@ -57,13 +63,17 @@ fn edit_painted<I: Source, O: Sink, E: Sink, L: Ledger>(
     err: &mut E,
     steps: &mut Steps<L>,
 ) -> Status
-    ensures { EditsPainted words.now painted
+    ensures edits { EditsPainted words.now painted
         (source_change (I.left script.old) (I.left script.new)
         (I.faults script.old) (I.faults script.new))
         (sink_change (O.written out.old) (O.written out.new) (O.faults out.old) (O.faults out.new))
         (sink_change (E.written err.old) (E.written err.new) (E.faults err.old) (E.faults err.new))
         result }
+    ensures steps { IfSome (I.left script.old) (λ bytes. steps.new ≤ steps.old
+        + script_costs (painter_of words.now painted.syntax painted.budget) (shown_of painted)
+        bytes) }
 {
+    let _syntax = painted.syntax();
     let sheet = Sheet { painted, words };
     let end = carry_out_script(alloc, sheet, script, out, steps);
     close(end, err)

@@ -4,14 +4,15 @@
 //! either that on `out` or one line on `err`. A session of edits writes what each of its commands
 //! prints before the next one is read.
 ghost use Rattle.std.specs.Prelude.{◌≡◌, ◌≢◌, ◌⊎◌, ◌≤◌, ◌+◌, None, Some, IfSome, IsSomeAnd, true};
+ghost use Rattle.edit_session.specs.Ends.{TakesFew};
 ghost use Rattle.program_words.specs.declared.words.Asked.TheVariants.{Print};
 ghost use Rattle.program_words.specs.Words.{asked_of, texts_of};
 ghost use Rattle.syn_base.specs.Causes.{Rose};
 ghost use Rattle.syn_base.specs.Outside.{AppendsPrefix, appended};
-ghost use Rattle.vimsyn_cli.specs.Answers.{GivesSession, TellsAllUnread, TellsFault, TellsUnread, is_unfailed};
+ghost use Rattle.vimsyn_cli.specs.Answers.{GivesSession, IsUntaken, TellsAllUnread, TellsFault, TellsUnread, TellsUsage, is_unfailed};
 ghost use Rattle.vimsyn_cli.specs.Changes.{files_change, sink_change, source_change};
 ghost use Rattle.vimsyn_cli.specs.LargeRun.{RunsIfLarge};
-ghost use Rattle.vimsyn_cli.specs.Runs.{EndsScript, FailsScript, IfTold, LeavesScript, PaintsFew, RefusesScript, Runs, StopsSoFar};
+ghost use Rattle.vimsyn_cli.specs.Runs.{EndsScript, FailsScript, IfTold, LeavesFiles, LeavesScript, PaintsFew, RefusesScript, Runs, StopsSoFar};
 ghost use Rattle.vimsyn_cli.specs.Session.{print_lines, script_read, session};
 
 use crate::Status;
@@ -80,9 +81,15 @@ pub fn run<F: Files, I: Source, O: Sink, E: Sink, L: Ledger>(
     ensures usage { result ≡ Status.Usage → asked_of (texts_of words.now) ≡ None }
     ensures faulty_words { asked_of (texts_of words.now) ≡ None → (result ≡ Status.Usage)
         ⊎ (result ≡ Status.WriteFault) }
+    ensures faulty_words_told { asked_of (texts_of words.now) ≡ None → TellsUsage
+        (sink_change (O.written out.old) (O.written out.new) (O.faults out.old) (O.faults out.new))
+        (sink_change (E.written err.old) (E.written err.new)
+        (E.faults err.old) (E.faults err.new)) result }
     ensures refused { result ≡ Status.Refused → IsSomeAnd (asked_of (texts_of words.now)) (λ asked.
-        TellsFault asked (E.written err.old) (E.written err.new)
+        (TellsFault asked (E.written err.old) (E.written err.new)
         (F.longs files.old) (F.longs files.new) result
+        × IsUntaken (source_change (I.left script.old) (I.left script.new)
+        (I.faults script.old) (I.faults script.new)))
         ⊎ RefusesScript asked (F.told files.old)
         (source_change (I.left script.old) (I.left script.new)
         (I.faults script.old) (I.faults script.new))
@@ -95,8 +102,10 @@ pub fn run<F: Files, I: Source, O: Sink, E: Sink, L: Ledger>(
         ⊎ Rose (I.faults script.old) (I.faults script.new) }
     ensures read_fault_line { result ≡ Status.ReadFault
         → IsSomeAnd (asked_of (texts_of words.now)) (λ asked.
-        TellsFault asked (E.written err.old) (E.written err.new)
+        (TellsFault asked (E.written err.old) (E.written err.new)
         (F.longs files.old) (F.longs files.new) result
+        × IsUntaken (source_change (I.left script.old) (I.left script.new)
+        (I.faults script.old) (I.faults script.new)))
         ⊎ FailsScript asked
         (source_change (I.left script.old) (I.left script.new)
         (I.faults script.old) (I.faults script.new))
@@ -131,6 +140,10 @@ pub fn run<F: Files, I: Source, O: Sink, E: Sink, L: Ledger>(
     ensures done_misses { result ≡ Status.Done → F.misses files.new ≡ F.misses files.old }
     ensures done_longs { result ≡ Status.Done → F.longs files.new ≡ F.longs files.old }
     ensures files_kept { F.told files.new ≡ F.told files.old }
+    ensures files_left { LeavesFiles (asked_of (texts_of words.now))
+        (files_change (F.told files.old) (F.told files.new)
+        (F.faults files.old) (F.faults files.new) (F.misses files.old) (F.misses files.new)
+        (F.longs files.old) (F.longs files.new)) }
 
     // Of the large mode all this holds whatever the files and the script tell.
     ensures large { RunsIfLarge (asked_of (texts_of words.now))
@@ -139,8 +152,12 @@ pub fn run<F: Files, I: Source, O: Sink, E: Sink, L: Ledger>(
         (sink_change (E.written err.old) (E.written err.new)
         (E.faults err.old) (E.faults err.new)) result }
 
-    // No command but `edit` takes from the script, and that one reads it to its end.
-    ensures script_left { LeavesScript (asked_of (texts_of words.now))
+    // No command but `edit` takes from the script, and that one not before there is a painted
+    // text. It reads the script to its end, and never more than its limit and one byte.
+    ensures script_left { LeavesScript (asked_of (texts_of words.now)) (F.told files.old)
+        (source_change (I.left script.old) (I.left script.new)
+        (I.faults script.old) (I.faults script.new)) }
+    ensures script_taken { TakesFew
         (source_change (I.left script.old) (I.left script.new)
         (I.faults script.old) (I.faults script.new)) }
     ensures script_ended { result ≡ Status.Done → EndsScript (asked_of (texts_of words.now))
@@ -150,11 +167,13 @@ pub fn run<F: Files, I: Source, O: Sink, E: Sink, L: Ledger>(
         (sink_change (O.written out.old) (O.written out.new)
         (O.faults out.old) (O.faults out.new)) }
 
-    // Lines that are painted for a command that prints at once: at most those of its text, and
-    // none for words that name no text. For the large mode: at most those of its text, and at each
-    // edit those of the changed text.
-    ensures steps { IfSome (F.told files.old) (λ known.
-        PaintsFew (asked_of (texts_of words.now)) known steps.old steps.new) }
+    // Lines that are painted: at most those of the text, and none for words that name no text. For
+    // a session of edits, and for the large mode, besides at each edit that fits the text those that
+    // its painting costs.
+    ensures steps { IfTold (F.told files.old)
+        (script_read (asked_of (texts_of words.now)) (I.left script.old))
+        (λ known bytes. PaintsFew (asked_of (texts_of words.now)) known bytes
+        steps.old steps.new) }
     ensures steps_kept { asked_of (texts_of words.now) ≡ None → steps.new ≡ steps.old }
 {
     let asked = Asked::read(words);
@@ -171,8 +190,8 @@ fn run_asked<F: Files, I: Source, O: Sink, E: Sink, L: Ledger>(
     err: &mut E,
     steps: &mut Steps<L>,
 ) -> Status
-    ensures steps { IfSome (F.told files.old) (λ known.
-        PaintsFew asked.entry known steps.old steps.new) }
+    ensures steps { IfTold (F.told files.old) (script_read asked.entry (I.left script.old))
+        (λ known bytes. PaintsFew asked.entry known bytes steps.old steps.new) }
     ensures steps_kept { asked.entry ≡ None → steps.new ≡ steps.old }
     ensures large { RunsIfLarge asked.entry
         (sink_change (O.written out.old) (O.written out.new)

@@ -1,9 +1,11 @@
 use Rattle.vimsyn_cli.proofs.edit.edit_painted.Goals as goal
 
-pub returns : goal.returns
-returns g c = record {
+pub returns-clause-edits : goal.returns-clause-edits
+returns-clause-edits g c = record {
+  is_painted = c.syntax-syntax.ensures.painted;
   end = c.carry_out_script-end.result;
   ends = c.carry_out_script-end.ensures.ends;
   closes = c.close.ensures;
+  taken = c.carry_out_script-end.ensures.taken;
   part = c.carry_out_script-end.ensures.part;
 }

@@ -3,12 +3,12 @@ use Rattle.std.specs.Prelude.{Err}
 use Rattle.program_words.specs.declared.words.Asked.TheVariants.{Edit}
 use Rattle.state_cache.specs.PaintedText.{PaintedText}
 use Rattle.vimsyn_cli.specs.Plans.{is_missing, is_too_long, is_unread}
-use Rattle.vimsyn_cli.proofs.EditLaws.{edit_fault, edit_painted_told, edit_planned, edited_runs, raises_again, stop_undone}
+use Rattle.vimsyn_cli.proofs.EditLaws.{edit_fault, edit_painted_told, edit_planned, edited_count, edited_runs, raises_again, stop_undone, unedited_count}
 use Rattle.vimsyn_cli.proofs.RunLaws.{delivered_runs}
 use Rattle.vimsyn_cli.proofs.edit.run_edit.Goals as goal
 
-pub returns-in-Ok : goal.returns-in-Ok
-returns-in-Ok g c =
+pub returns-in-Ok-clause-runs : goal.returns-in-Ok-clause-runs
+returns-in-Ok-clause-runs g c =
     edited_runs c.args.words.now c.in-Ok.painted
     (record { told = g.F.Files.told c.args.files.now; told_after = g.F.Files.told c.paint.new.files; faults = g.F.Files.faults c.args.files.now; faults_after = g.F.Files.faults c.paint.new.files; misses = g.F.Files.misses c.args.files.now; misses_after = g.F.Files.misses c.paint.new.files; longs = g.F.Files.longs c.args.files.now; longs_after = g.F.Files.longs c.paint.new.files })
     (record { before = g.I.Source.left c.args.script.now; after = g.I.Source.left c.edit_painted.new.script; faults = g.I.Source.faults c.args.script.now; faults_after = g.I.Source.faults c.edit_painted.new.script })
@@ -16,10 +16,10 @@ returns-in-Ok g c =
     (record { before = g.E.Sink.written c.args.err.now; after = g.E.Sink.written c.edit_painted.new.err; faults = g.E.Sink.faults c.args.err.now; faults_after = g.E.Sink.faults c.edit_painted.new.err })
     c.edit_painted.result
     (edit_painted_told c.args.words.now c.painting.result.now (g.F.Files.told c.args.files.now) c.in-Ok.painted c.painting.ensures c.in-Ok.ensures.planned)
-    c.in-Ok.ensures.kept c.in-Ok.ensures.faults c.in-Ok.ensures.misses c.in-Ok.ensures.longs c.edit_painted.ensures
+    c.in-Ok.ensures.kept c.in-Ok.ensures.faults c.in-Ok.ensures.misses c.in-Ok.ensures.longs c.edit_painted.ensures.edits
 
-pub returns-in-Err : goal.returns-in-Err
-returns-in-Err g c =
+pub returns-in-Err-clause-runs : goal.returns-in-Err-clause-runs
+returns-in-Err-clause-runs g c =
     delivered_runs (Edit c.args.words.now) (Err c.in-Err.stop)
     (record { told = g.F.Files.told c.args.files.now; told_after = g.F.Files.told c.paint.new.files; faults = g.F.Files.faults c.args.files.now; faults_after = g.F.Files.faults c.paint.new.files; misses = g.F.Files.misses c.args.files.now; misses_after = g.F.Files.misses c.paint.new.files; longs = g.F.Files.longs c.args.files.now; longs_after = g.F.Files.longs c.paint.new.files })
     (record { before = g.I.Source.left c.args.script.now; after = g.I.Source.left c.args.script.now; faults = g.I.Source.faults c.args.script.now; faults_after = g.I.Source.faults c.args.script.now })
@@ -29,4 +29,16 @@ returns-in-Err g c =
     (edit_planned c.args.words.now c.painting.result.now (g.F.Files.told c.args.files.now) (g.I.Source.left c.args.script.now) c.in-Err.stop c.painting.ensures c.in-Err.ensures.planned)
     (edit_fault c.args.words.now c.painting.result.now c.in-Err.stop c.painting.ensures c.in-Err.ensures.told)
     (raises_again PaintedText (List ℕ) is_unread c.in-Err.stop _ _ c.in-Err.ensures.faults) (raises_again PaintedText (List ℕ) is_missing c.in-Err.stop _ _ c.in-Err.ensures.misses) (raises_again PaintedText (List ℕ) is_too_long c.in-Err.stop _ _ c.in-Err.ensures.longs)
-    c.in-Err.ensures.kept refl refl c.deliver.ensures (λ is. absurd (stop_undone c.in-Err.stop _ _ c.deliver.result c.deliver.ensures is))
+    c.in-Err.ensures.kept tt refl refl c.deliver.ensures (λ is. absurd (stop_undone c.in-Err.stop _ _ c.deliver.result c.deliver.ensures is))
+
+pub returns-in-Ok-clause-steps : goal.returns-in-Ok-clause-steps
+returns-in-Ok-clause-steps g c =
+    edited_count c.args.words.now c.painting.result.now (g.F.Files.told c.args.files.now) (g.I.Source.left c.args.script.now) c.in-Ok.painted
+    c.args.steps.now c.paint.new.steps c.edit_painted.new.steps c.painting.ensures
+    (edit_painted_told c.args.words.now c.painting.result.now (g.F.Files.told c.args.files.now) c.in-Ok.painted c.painting.ensures c.in-Ok.ensures.planned)
+    c.in-Ok.ensures.steps c.edit_painted.ensures.steps
+
+pub returns-in-Err-clause-steps : goal.returns-in-Err-clause-steps
+returns-in-Err-clause-steps g c =
+    unedited_count c.args.words.now c.painting.result.now (g.F.Files.told c.args.files.now) (g.I.Source.left c.args.script.now)
+    c.args.steps.now c.paint.new.steps c.painting.ensures c.in-Err.ensures.steps

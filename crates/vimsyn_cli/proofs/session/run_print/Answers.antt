@@ -18,4 +18,4 @@ returns-clause-runs g c =
     c.deliver.result
     (some_told (g.F.Files.told c.args.files.now) (Some []) _ (planned (g.F.Files.told c.args.files.now) (print_told c.args.printing.now) (IsUnreadPrint c.args.printing.now) c.print-answer.result c.print-answer.ensures.planned))
     c.print-answer.ensures.told c.print-answer.ensures.faults c.print-answer.ensures.misses c.print-answer.ensures.longs
-    c.print-answer.ensures.kept refl refl c.deliver.ensures (λ is. tt)
+    c.print-answer.ensures.kept tt refl refl c.deliver.ensures (λ is. tt)
