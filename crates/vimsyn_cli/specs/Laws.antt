@@ -91,7 +91,8 @@ abbrev pub PaintedLargeTextsAreDone : Type 0
 PaintedLargeTextsAreDone =
     (typed : List (List ℕ)) (files : FileMap) (script : List ℕ) (words : LargeWords) (painted : PaintedText)
     → asked_of typed ≡ Some (Large words) → IsLargePainted words painted
-    → ArePainted (large_painter words painted) (edit_count words.lines) (large_start (shown_of painted)) (number_behind words.seed words.lines)
+    → ArePainted (large_painter words painted) (edit_count words.lines) (large_start (shown_of painted))
+    (number_behind words.seed words.lines)
     → session typed files script ≡ shows (five_lines (large_standing words painted))
 
 -- the kept syntax file is accepted

@@ -1,5 +1,7 @@
 //! Laws of the definitions: the contracts of functions that have no code.
-ghost use Rattle.vimsyn_cli.specs.Laws.{AcceptedFilesArePages, AcceptedFilesArePainted, AcceptedLargeTextsAreEdited, AcceptedSyntaxFilesAreCounted, AcceptedTextsAreEdited, CarriedOutScriptsAreDone, KeptSyntaxIsAccepted, PaintedLargeTextsAreDone, TextsWithinLimitsArePainted};
+ghost use Rattle.vimsyn_cli.specs.Laws.{AcceptedFilesArePages, AcceptedFilesArePainted, AcceptedLargeTextsAreEdited};
+ghost use Rattle.vimsyn_cli.specs.Laws.{AcceptedSyntaxFilesAreCounted, AcceptedTextsAreEdited, CarriedOutScriptsAreDone};
+ghost use Rattle.vimsyn_cli.specs.Laws.{KeptSyntaxIsAccepted, PaintedLargeTextsAreDone, TextsWithinLimitsArePainted};
 
 /// Where the syntax is accepted and the text is painted whole, `spans` prints its spans and `html`
 /// its page, and the status is Done; `edit` carries out its script.
@@ -21,16 +23,17 @@ pub fn accepted_syntax_files_are_counted()
     ensures { AcceptedSyntaxFilesAreCounted }
 {}
 
-/// Where besides each command of the script fits the text as it is then, and the painting of each
-/// text that they change is accepted, the status of `edit` is Done; so it is for `large`, whose
-/// edits always fit.
+/// `edit` ends Done, with what its commands print, where besides each command of a short enough
+/// script fits the text as it is then, and the painting of each text that they change is accepted.
+/// `large` ends Done where the painting of each text that its edits change is accepted: they fit.
 pub fn accepted_edits_are_carried_out()
     ensures script { CarriedOutScriptsAreDone }
     ensures large { PaintedLargeTextsAreDone }
 {}
 
-/// What these laws ask of a painting, that it is accepted, holds of a text whose attempts stay
-/// within the budget, and whose frames number at most 1,000.
+/// A painting is accepted, as these laws ask it of the text at first and behind each command, where
+/// no attempt that it may make costs more than the budget, and at most 1,000 frames stand wherever
+/// something starts.
 pub fn texts_within_limits_are_painted()
     ensures { TextsWithinLimitsArePainted }
 {}

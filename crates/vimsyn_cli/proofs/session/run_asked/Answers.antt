@@ -52,7 +52,7 @@ returns-in-Some-Print-clause-steps g c =
     let R : Option Asked → Type 0 = λ asked. IfTold (g.F.Files.told c.args.files.now) (script_read asked (g.I.Source.left c.args.script.now))
     (λ known bytes. PaintsFew asked known bytes c.args.steps.now c.run_print.new.steps) in
     let is : c.args.asked ≡ Some (Print c.in-Some-Print.printing) = cc (c.in-Some-Print.is, c.in-Some-Print.field-0-is, c.in-Some-Print.printing-is) in
-    subst R (sym is) 
+    subst R (sym is)
     (some_told (g.F.Files.told c.args.files.now) (Some []) (λ known. c.run_print.new.steps ≤ c.args.steps.now + print_lines c.in-Some-Print.printing known) c.run_print.ensures.steps)
 
 pub returns-in-Some-Edit-clause-steps : goal.returns-in-Some-Edit-clause-steps
@@ -67,5 +67,5 @@ returns-in-Some-Large-clause-steps g c =
     let R : Option Asked → Type 0 = λ asked. IfTold (g.F.Files.told c.args.files.now) (script_read asked (g.I.Source.left c.args.script.now))
     (λ known bytes. PaintsFew asked known bytes c.args.steps.now c.run_large.new.steps) in
     let is : c.args.asked ≡ Some (Large c.in-Some-Large.words) = cc (c.in-Some-Large.is, c.in-Some-Large.field-0-is, c.in-Some-Large.words-is) in
-    subst R (sym is) 
+    subst R (sym is)
     (told_all (g.F.Files.told c.args.files.now) (Some []) (λ known bytes. c.run_large.new.steps ≤ c.args.steps.now + large_lines c.in-Some-Large.words) (λ known bytes. c.run_large.ensures.steps))
