@@ -50,8 +50,8 @@ pub record RefusesEdit (words : LargeWords) : Type 0 where
   pub accepted : large_painting words ≡ Ok painted
   pub refused : has_refused (large_standing words painted) ≡ true
 
--- how many lines are painted at most: those of the text at the start, and at each edit those of the
--- changed text
+-- how many lines are painted at most: those of the text at the start, and at each edit those that it
+-- costs
 abbrev pub lines_edited : LargeWords → Result PaintedText Fault → ℕ
 lines_edited words (Ok painted) =
     lines_of_edits (large_painter words painted) (edit_count words.lines) (start (shown_of painted)) (number_behind words.seed words.lines)
