@@ -1,11 +1,11 @@
 -- The session of edits on a text file: its painting by the syntax, and how it is told and printed.
-use Rattle.std.specs.Prelude.{ℕ, ◌+◌, Bool, true, false, List, [], ◌++◌, length, codes, decimal, Result, Ok, Err}
-use Rattle.edit_script.specs.Edits.{replaced}
+use Rattle.std.specs.Prelude.{ℕ, ◌+◌, Bool, true, false, List, [], ◌++◌, codes, decimal, Result, Ok, Err}
 use Rattle.edit_session.specs.Painter.{Painter, Painted}
 use Rattle.edit_session.specs.Session.{Answer, is_too_long, script_session}
 use Rattle.program_words.specs.Given.{PageWords}
 use Rattle.span_print.specs.SpanText.{line_text}
 use Rattle.html_writer.specs.Page.{page_text}
+use Rattle.paint_reuse.specs.Reuse.{lines_to_paint}
 use Rattle.syn_base.specs.declared.places.Span.{Span}
 use Rattle.syn_base.specs.Outside.{FileMap}
 use Rattle.syn_reader.specs.declared.syntax.Syntax.{Syntax}
@@ -13,7 +13,7 @@ use Rattle.state_cache.specs.declared.refusal.EditError.{EditError}
 use Rattle.state_cache.specs.declared.refusal.EditError.TheVariants as refusal
 use Rattle.state_cache.specs.PaintedText.{PaintedText}
 use Rattle.state_cache.specs.Report.{report}
-use Rattle.state_cache.specs.Spans.{text_spans}
+use Rattle.state_cache.specs.Spans.{syntax_rules, text_spans}
 use Rattle.vimsyn_cli.specs.declared.fault.Fault.{Fault}
 use Rattle.vimsyn_cli.specs.declared.status.Status.{Status}
 use Rattle.vimsyn_cli.specs.declared.status.Status.TheVariants.{Done, Refused}
@@ -38,13 +38,13 @@ abbrev pub with_words : Syntax → Result (List (List Span)) EditError → Resul
 with_words syntax (Ok spans) = Ok spans
 with_words syntax (Err error) = Err (cause_words syntax error)
 
--- by what the session of a painted text paints and prints; the page is that of `html`. A change costs the lines of the
--- changed text at most
+-- by what the session of a painted text paints and prints; the page is that of `html`. A change costs the lines that
+-- aren't reusable behind it
 abbrev pub painter_of : PageWords → Syntax → ℕ → Painter
 painter_of words syntax budget = record {
   paint = λ text. with_words syntax (text_spans syntax budget text);
   report = λ before after a b count. report before after (record { a = a; b = b; count = count });
-  costs = λ text r. length (replaced text r);
+  costs = λ text r. lines_to_paint (syntax_rules syntax budget) text r.a r.b r.new;
   line = λ number spans. line_text syntax.groups syntax.links number spans true;
   page = λ text spans. page_text (words.painting).text text spans syntax.groups syntax.links (page_options words);
 }
