@@ -33,18 +33,22 @@ pub(crate) fn write_answers<W: Write>(
     Ok(status)
 }
 
-/// Writes the line of one run, and answers its status.
+/// Writes the line of one run, with that of its count where this is asked for, and answers its status.
 fn write_answer<W: Write>(
     alloc: Global,
     out: &mut W,
     session: &Session,
     call: Option<u64>,
 ) -> io::Result<Status> {
-    let Ok((sinks, status)) = outcome_of(alloc, session, call) else {
+    let Ok(outcome) = outcome_of(alloc, session, call) else {
         return Err(out_of_memory());
     };
-    write_outcome(out, &sinks, status)?;
-    Ok(status)
+    write_outcome(out, &outcome.sinks, outcome.status)?;
+    if session.counts_steps {
+        let steps = outcome.steps;
+        writeln!(out, "steps {steps}")?;
+    }
+    Ok(outcome.status)
 }
 
 /// Writes a status, and what the sinks got.

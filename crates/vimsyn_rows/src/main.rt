@@ -13,6 +13,7 @@
 //!     room out 100              how many bytes there is room for in `out` or `err`
 //!     failing files 2 3         the calls of `files`, `script`, `out` or `err` that fail, counted from 1
 //!     each out err 1 2 30       a run for each of these numbers, in which that call of those fails too
+//!     count steps               how many lines each run painted is told too
 //!     # a remark
 //!
 //! What isn't given is empty; a call moves up to a million bytes, there is room for as many, and no call
@@ -28,6 +29,7 @@
 //!
 //! An answer is a line of three parts with a tab between any two: the status as a word and as its number,
 //! `out=` and what `out` got, `err=` and what `err` got, with escapes for all that isn't printable ASCII.
+//! Where it is asked for, a line `steps 6` follows.
 //! A session with a mistake is answered by one line, which tells the first one with the number of its line
 //! within the session, from 1: `mistake in line 7: bad escape`.
 //!
@@ -36,6 +38,7 @@
 
 mod answer;
 mod behaviour;
+mod count;
 mod mistake;
 mod running;
 mod session;

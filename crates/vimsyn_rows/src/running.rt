@@ -3,12 +3,13 @@
 ghost use Rattle.std.specs.Prelude.{◌≡◌, ◌<◌};
 
 use crate::behaviour::Behaviour;
+use crate::count::LineCount;
 use crate::session::{NamedFile, Session};
 use std::alloc::Global;
 use std::marker::Brand;
 use std::sync::ledger;
 use std::sync::ledger::Blank;
-use syn_base::{List, Memory, MemoryFiles, MemorySink, MemorySource, NoLedger, Steps};
+use syn_base::{List, Memory, MemoryFiles, MemorySink, MemorySource, Steps};
 use vimsyn_cli::{Status, run};
 
 /// What a run reads.
@@ -25,33 +26,48 @@ pub(crate) struct Sinks {
     pub(crate) err: MemorySink,
 }
 
-/// Runs the session once, and answers what the sinks got and the status. Where a behaviour says so,
-/// the call of this number fails, if there is one.
+/// What a run came to.
+#[derive(Drop)]
+pub(crate) struct Outcome {
+    pub(crate) sinks: Sinks,
+    pub(crate) status: Status,
+    /// How many lines were painted.
+    pub(crate) steps: u64,
+}
+
+/// Runs the session once. Where a behaviour says so, the call of this number fails, if there is one.
 pub(crate) fn outcome_of(
     alloc: Global,
     session: &Session,
     call: Option<u64>,
-) -> Result<(Sinks, Status), Memory> {
+) -> Result<Outcome, Memory> {
     let mut sinks = sinks_of(alloc, session, call)?;
     let mut inputs = inputs_of(alloc, session, call)?;
     let words = session.words.as_slice();
-    let status = status_of::<Brand>(alloc, words, &mut inputs, &mut sinks, Blank::new(1));
-    Ok((sinks, status))
+    let blank = Blank::new(1);
+    let mut steps = 0;
+    let status = status_of::<Brand>(alloc, words, &mut inputs, &mut sinks, blank, &mut steps);
+    Ok(Outcome {
+        sinks,
+        status,
+        steps,
+    })
 }
 
-/// The run itself. The blank is what nothing is counted with.
+/// The run itself. Each line that it paints is counted.
 fn status_of<B: ledger::Ledger>(
     alloc: Global,
     words: &[String],
     inputs: &mut Inputs,
     sinks: &mut Sinks,
     blank: Blank,
+    count: &mut u64,
 ) -> Status
     requires name { blank.name ≡ B.name }
     requires parts { blank.parts ≡ B.parts }
     requires some { 0 < blank.parts }
 {
-    let mut steps = Steps::new(NoLedger::<B>::open(blank));
+    let mut steps = Steps::new(LineCount::<B>::open(blank, count));
     run(
         alloc,
         words,

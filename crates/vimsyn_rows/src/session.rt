@@ -33,6 +33,8 @@ pub(crate) struct Session {
     pub(crate) err: Behaviour,
     /// For each run, the call that fails where a behaviour says so; if there are none, there is one run.
     pub(crate) each: Vec<u64>,
+    /// Whether the count of painted lines is asked for.
+    pub(crate) counts_steps: bool,
     /// Whether it has any line but remarks.
     pub(crate) is_begun: bool,
     /// The first mistake, with the number of its line.
@@ -56,6 +58,7 @@ impl Session {
             out: Behaviour::ample(alloc),
             err: Behaviour::ample(alloc),
             each: Vec::new(alloc),
+            counts_steps: false,
             is_begun: false,
             mistake: None,
             lines: 0,
@@ -94,6 +97,7 @@ impl Session {
             b"room" => self.set_room(&Said::read(alloc, text)?),
             b"failing" => self.fail_at(&Said::read(alloc, text)?),
             b"each" => self.fail_each(&Said::read(alloc, text)?),
+            b"count" => self.count(text),
             _ => Err(Unread::Mistake(Mistake::Verb)),
         }
     }
@@ -182,6 +186,16 @@ impl Session {
         self.out.fails_each |= said.channels.out;
         self.err.fails_each |= said.channels.err;
         Ok(())
+    }
+
+    fn count(&mut self, text: &[u8]) -> Result<(), Unread> {
+        match text {
+            b"steps" => {
+                self.counts_steps = true;
+                Ok(())
+            }
+            _ => Err(Unread::Mistake(Mistake::Channel)),
+        }
     }
 }
 
