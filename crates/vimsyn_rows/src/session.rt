@@ -97,7 +97,7 @@ impl Session {
             b"room" => self.set_room(&Said::read(alloc, text)?),
             b"failing" => self.fail_at(&Said::read(alloc, text)?),
             b"each" => self.fail_each(&Said::read(alloc, text)?),
-            b"count" => self.count(text),
+            b"count" => self.set_count(text),
             _ => Err(Unread::Mistake(Mistake::Verb)),
         }
     }
@@ -188,7 +188,7 @@ impl Session {
         Ok(())
     }
 
-    fn count(&mut self, text: &[u8]) -> Result<(), Unread> {
+    fn set_count(&mut self, text: &[u8]) -> Result<(), Unread> {
         match text {
             b"steps" => {
                 self.counts_steps = true;
