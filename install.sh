@@ -1,6 +1,7 @@
 #!/bin/sh
-# install.sh [PROGRAM]: puts the program (the proved one, unless another is named), its page and its completions where
-# they belong, below PREFIX (/usr/local where it isn't set). DESTDIR stands before it, for those who make packages.
+# install.sh [PROGRAM]: puts the program (the proved one, unless another is named), its page, its completions and the
+# doors of integrations/ where they belong, below PREFIX (/usr/local where it isn't set). DESTDIR stands before it, for
+# those who make packages.
 set -eu
 from=$(dirname "$0")
 program=${1:-$from/crates/vimsyn/out/vimsyn}
@@ -19,3 +20,13 @@ put 644 "$from/completions/vimsyn.bash" "$to/share/bash-completion/completions/v
 put 644 "$from/completions/_vimsyn" "$to/share/zsh/site-functions/_vimsyn"
 put 644 "$from/completions/vimsyn.fish" "$to/share/fish/vendor_completions.d/vimsyn.fish"
 put 644 "$from/tools/flatten.vim" "$to/share/vimsyn/flatten.vim"
+
+# vimsyn-paint finds its parts beside the file that the link leads to
+for part in detect.vim detection.py flat_files.py palette.py programs.py terminal.py words.py; do
+  put 644 "$from/integrations/paint/$part" "$to/share/vimsyn/paint/$part"
+done
+put 755 "$from/integrations/paint/vimsyn-paint" "$to/share/vimsyn/paint/vimsyn-paint"
+ln -sf ../share/vimsyn/paint/vimsyn-paint "$to/bin/vimsyn-paint"
+put 644 "$from/integrations/python/vimsyn.py" "$to/share/vimsyn/python/vimsyn.py"
+put 755 "$from/integrations/python/typing_demo.py" "$to/share/vimsyn/python/typing_demo.py"
+put 644 "$from/integrations/pandoc/vimsyn.lua" "$to/share/vimsyn/pandoc/vimsyn.lua"

@@ -5,10 +5,11 @@
 -- The first class of a block names its language. Blocks that can't be coloured stay as they are, and pandoc colours them
 -- where it can. README.md is the page of this filter.
 
-local stringify = pandoc.utils.stringify
-
--- The programs; the document's `vimsyn` and `vimsyn-paint` name others.
-local programs = { ["vimsyn"] = os.getenv("VIMSYN") or "vimsyn", ["vimsyn-paint"] = "vimsyn-paint" }
+-- (a document can't name programs: it may be someone else's)
+local programs = {
+  vimsyn = os.getenv("VIMSYN") or "vimsyn",
+  paint = os.getenv("VIMSYN_PAINT") or "vimsyn-paint",
+}
 
 local flat_files = {}  -- of each language its flat file, or false
 local styles = {}      -- the lines of style that the blocks need, each once
@@ -32,7 +33,7 @@ end
 -- The flat file of a language; it is asked for once, since Vim may have to make it.
 local function flat_file(language)
   if flat_files[language] == nil then
-    local path = output(programs["vimsyn-paint"], { "--flat", "--language=" .. language })
+    local path = output(programs.paint, { "--flat", "--language=" .. language })
     flat_files[language] = path and path:gsub("\n$", "") or false
   end
   return flat_files[language]
@@ -50,7 +51,7 @@ local function page(language, text)
     file:write(text, "\n")
     file:close()
     local folder = syntax:match("^(.*)/syntax/[^/]*$")
-    return output(programs["vimsyn"], { "html", "--folder=" .. folder, "--", syntax, name })
+    return output(programs.vimsyn, { "html", "--folder=" .. folder, "--", syntax, name })
   end)
 end
 
@@ -97,30 +98,24 @@ local function coloured(block)
   return pandoc.RawBlock("html", "<pre" .. attributes(block) .. "><code>" .. inside .. "</code></pre>")
 end
 
-local function read_names(meta)
-  for name in pairs(programs) do
-    if meta[name] then
-      programs[name] = stringify(meta[name])
-    end
-  end
-end
-
 local function add_styles(meta)
   if #styles == 0 then
     return nil
   end
-  local header = meta["header-includes"] or {}
-  if header.t and header.t ~= "MetaList" or #header == 0 then
-    header = { header }
-  end
+  local header = meta["header-includes"]
+  local all = pandoc.utils.type(header) == "List" and header or pandoc.List({ header })
   local sheet = "<style>\n" .. table.concat(styles, "\n") .. "\n</style>"
-  header[#header + 1] = pandoc.MetaBlocks({ pandoc.RawBlock("html", sheet) })
-  meta["header-includes"] = header
+  all:insert(pandoc.MetaBlocks({ pandoc.RawBlock("html", sheet) }))
+  meta["header-includes"] = all
   return meta
 end
 
 -- Other formats than pages keep their blocks.
-if not FORMAT:match("^html") and not FORMAT:match("^epub") and FORMAT ~= "revealjs" and FORMAT ~= "slidy" then
+local is_page = FORMAT:match("^html") or FORMAT:match("^epub")
+for _, slides in ipairs({ "revealjs", "slidy", "slideous", "dzslides", "s5" }) do
+  is_page = is_page or FORMAT == slides
+end
+if not is_page then
   return {}
 end
-return { { Meta = read_names }, { CodeBlock = coloured }, { Meta = add_styles } }
+return { { CodeBlock = coloured }, { Meta = add_styles } }
