@@ -6,6 +6,7 @@ gives the same answers, as long as nothing that it was made of has changed.
 """
 from __future__ import annotations
 
+import fcntl
 import hashlib
 import json
 import os
@@ -111,15 +112,23 @@ class FlatFiles:
         except (OSError, ValueError, KeyError):
             return False
 
-    def make(self, language: Language, text: Text) -> Flat | None:
-        """A new flat file, also where one is kept; None where Vim has no syntax of this name."""
+    def make(self, language: Language, text: Text, fresh: bool) -> Flat | None:
+        """A new flat file; None where Vim has no syntax of this name.
+
+        One run makes them at a time: another that waited takes what the first one made, unless it wants a fresh one.
+        """
         home = self.cache / language.syntax
         home.mkdir(parents=True, exist_ok=True, mode=0o700)
-        room = Path(tempfile.mkdtemp(prefix=".new-", dir=home))
-        try:
-            return self.make_in(room, home, language, text)
-        finally:
-            shutil.rmtree(room, ignore_errors=True)
+        with open(home / ".lock", "w") as lock:
+            fcntl.flock(lock, fcntl.LOCK_EX)
+            kept = None if fresh else self.find(language, text)
+            if kept:
+                return kept
+            room = Path(tempfile.mkdtemp(prefix=".new-", dir=home))
+            try:
+                return self.make_in(room, home, language, text)
+            finally:
+                shutil.rmtree(room, ignore_errors=True)
 
     def make_in(self, room: Path, home: Path, language: Language, text: Text) -> Flat | None:
         words = ["-S", self.flatten, language.syntax, str(room)] + ([text.path] if text.path else [])
@@ -131,10 +140,11 @@ class FlatFiles:
             if status == 1:
                 return None
             raise VimFailed(f"flatten.vim made no file of '{language.syntax}', and Vim ended with status {status}")
-        name = self.record(room, language, text)
-        put_in_place(room, home / name)
+        place = home / self.record(room, language, text)
+        shutil.rmtree(place, ignore_errors=True)
+        room.rename(place)
         self.forget_oldest(home)
-        return Flat(home / name, home / name / "syntax" / f"{language.syntax}.vim")
+        return Flat(place, place / "syntax" / f"{language.syntax}.vim")
 
     def record(self, room: Path, language: Language, text: Text) -> str:
         """Writes what a flat file was made of and for, and answers a name for it."""
@@ -153,14 +163,3 @@ class FlatFiles:
         kept = sorted(home.glob("*/made.json"), key=lambda record: stamp(str(record)), reverse=True)
         for record in kept[MOST_OF_A_LANGUAGE:]:
             shutil.rmtree(record.parent, ignore_errors=True)
-
-
-def put_in_place(room: Path, place: Path) -> None:
-    """Moves what was made to its place. Where another run was first, either's will do."""
-    room.chmod(0o700)
-    shutil.rmtree(place, ignore_errors=True)
-    try:
-        room.rename(place)
-    except OSError:
-        if not (place / "made.json").exists():
-            raise

@@ -10,7 +10,7 @@ def read(words: list[str] | None = None) -> argparse.Namespace:
     parser = argparse.ArgumentParser(
         prog="vimsyn-paint",
         description="Shows files in the colours of Vim's syntax files. '-' is standard input.",
-        epilog="status: 0 all was shown, plain where standard error says so; 1 a file couldn't be read, or has no page; "
+        epilog="status: 0 all was shown, plain where standard error says so; 1 a file couldn't be read, or has no page or flat file; "
         "2 wrong words; 3 vimsyn, Vim or flatten.vim isn't there; 4 it couldn't be written",
     )
     parser.add_argument("files", nargs="*", metavar="FILE")

@@ -38,7 +38,7 @@ same "other formats keep their blocks" "$(pandoc -t latex notes.md)" "$(filtered
 has "no vimsyn-paint" '<pre class="tiny"><code>if</code></pre>' "$(printf '~~~ tiny\nif\n~~~\n' | VIMSYN_PAINT=none filtered)"
 has "is told too" "none couldn't be run" "$(cat said)"
 filtered --standalone -t epub3 notes.md -o notes.epub
-has "a book" 'class="vimsyn tiny"' "$(python3 -c 'import sys, zipfile
+has "a book" '<span class="Statement" style="color: #a52a2a; font-weight: bold;">if</span>' "$(python3 -c 'import sys, zipfile
 book = zipfile.ZipFile(sys.argv[1])
 print("".join(book.read(name).decode() for name in book.namelist() if name.endswith("html")))' notes.epub)"
 ended

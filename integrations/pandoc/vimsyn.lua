@@ -12,6 +12,7 @@ local programs = {
 }
 
 local flat_files = {}  -- of each language its flat file, or false
+local is_book = FORMAT:match("^epub")
 local styles = {}      -- the lines of style that the blocks need, each once
 local has_style = {}
 
@@ -55,15 +56,31 @@ local function page(language, text)
   end)
 end
 
--- The page's styles but that of its body, held to these blocks.
-local function keep_styles(made)
-  local lines = made:match("<style>\n(.-)</style>")
-  for line in lines:gmatch("(%.[^\n]+)\n") do
-    if not has_style[line] then
-      has_style[line] = true
-      styles[#styles + 1] = "pre.vimsyn " .. line
+-- The page's styles but that of its body: of each group its own.
+local function styles_of(made)
+  local found = {}
+  for group, style in made:match("<style>\n(.-)</style>"):gmatch("%.(%S+) { ([^\n]*) }\n") do
+    found[(group:gsub("\\", ""))] = style
+  end
+  return found
+end
+
+-- A book's chapters have no head of their own in which styles could stand, so there each span has its style.
+local function with_styles(inside, found)
+  return (inside:gsub('<span class="([^"]*)">', function(group)
+    return found[group] and '<span class="' .. group .. '" style="' .. found[group] .. '">' or nil
+  end))
+end
+
+-- For the head of a page, held to these blocks.
+local function keep_styles(found)
+  for group, style in pairs(found) do
+    if not has_style[group .. style] then
+      has_style[group .. style] = true
+      styles[#styles + 1] = "pre.vimsyn ." .. group:gsub("%.", "\\.") .. " { " .. style .. " }"
     end
   end
+  table.sort(styles)
 end
 
 local function escaped(text)
@@ -93,8 +110,13 @@ local function coloured(block)
     say("a block of '" .. language .. "' isn't coloured")
     return nil
   end
-  keep_styles(made)
+  local found = styles_of(made)
   local inside = made:match("\n<pre>\n(.*)\n</pre>\n</body>\n</html>\n$")
+  if is_book then
+    inside = with_styles(inside, found)
+  else
+    keep_styles(found)
+  end
   return pandoc.RawBlock("html", "<pre" .. attributes(block) .. "><code>" .. inside .. "</code></pre>")
 end
 
@@ -111,7 +133,7 @@ local function add_styles(meta)
 end
 
 -- Other formats than pages keep their blocks.
-local is_page = FORMAT:match("^html") or FORMAT:match("^epub")
+local is_page = is_book or FORMAT:match("^html")
 for _, slides in ipairs({ "revealjs", "slidy", "slideous", "dzslides", "s5" }) do
   is_page = is_page or FORMAT == slides
 end
