@@ -1,10 +1,10 @@
 #!/bin/sh
-# try.sh [DOOR..]: tries each door, or those that are named, as far as its tools are here. It says what was tried and what
-# was skipped, and its status is 1 where something failed. The program is that of the variable VIMSYN, of the path or of
-# the checkout.
+# try.sh [DOOR..]: tries each door, or those that are named, as far as its tools are here. It says how much was tried
+# and what was skipped, and its status is 1 where something failed. The program is that of the variable VIMSYN, of the
+# path or of the checkout.
 set -eu
 cd "$(dirname "$0")"
-[ $# -gt 0 ] || set -- paint python less pandoc install
+[ $# -gt 0 ] || set -- paint python less pandoc installed
 status=0
 for door in "$@"; do
   printf '%s: ' "$door"

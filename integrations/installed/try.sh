@@ -11,7 +11,7 @@ export PATH
 escape=$(printf '\033')
 cd "$room"
 printf 'if x\n' > a.tiny
-same "vimsyn-paint" "$escape[1;38;5;227mif$escape[0m x" "$(vimsyn-paint --color=always a.tiny)"
+same "vimsyn-paint" "${escape}[1;38;5;227mif${escape}[0m x" "$(vimsyn-paint --color=always a.tiny)"
 same "the module" "[Span(first=1, last=2, group='tinyWord', final='Statement')]" "$(
   PYTHONPATH=$to/share/vimsyn/python python3 -c "import sys, vimsyn
 with vimsyn.Session(sys.argv[1], ['if']) as session:

@@ -76,7 +76,7 @@ def stamp(path: str) -> list[int]:
 
 
 def questions_of(sources: list[str]) -> list[str]:
-    asked = set()
+    asked: set[str] = set()
     for source in sources:
         for line in Path(source).read_text(encoding="latin-1").splitlines():
             if not COMMENT_OR_SETTING.match(line):

@@ -76,18 +76,23 @@ def styles_of_file(syntax_folder: Path) -> dict[str, Style]:
             if found:
                 keys = dict(word.split("=", 1) for word in found[2].split() if "=" in word)
                 kinds = keys.get("gui", "").split(",")
-                colours = [keys.get(key, "")[1:] if keys.get(key, "")[:1] == "#" else "" for key in ("guifg", "guibg")]
-                made[found[1]] = Style(*colours, *(kind in kinds for kind in ("bold", "italic", "underline")))
+                front, back = colour_of(keys.get("guifg", "")), colour_of(keys.get("guibg", ""))
+                made[found[1]] = Style(front, back, "bold" in kinds, "italic" in kinds, "underline" in kinds)
     return made
+
+
+def colour_of(value: str) -> str:
+    return value[1:] if re.fullmatch("#[0-9a-fA-F]{6}", value) else ""
 
 
 def sequence(style: Style, depth: str) -> str:
     """The codes that begin a style on a terminal, without the frame of an escape sequence."""
     codes = [code for code, on in (("1", style.bold), ("3", style.italic), ("4", style.underline)) if on]
     for place, colour in (("38", style.front), ("48", style.back)):
-        if re.fullmatch("[0-9a-fA-F]{6}", colour):
+        if colour:
             parts = [int(colour[i : i + 2], 16) for i in (0, 2, 4)]
-            codes.append(f"{place};2;{parts[0]};{parts[1]};{parts[2]}" if depth == "24bit" else f"{place};5;{near(parts)}")
+            exact = ";".join(map(str, parts))
+            codes.append(f"{place};2;{exact}" if depth == "24bit" else f"{place};5;{near(parts)}")
     return ";".join(codes)
 
 

@@ -33,7 +33,7 @@ def vim() -> str:
     named = os.environ.get("VIMSYN_VIM", "") or "vim"
     found = shutil.which(named)
     if not found:
-        raise Missing(f"'{named}' isn't on the path: Vim, with its runtime files, tells languages and has the syntax files")
+        raise Missing(f"'{named}' isn't on the path: Vim tells languages, and its runtime files have the syntax")
     return os.path.abspath(found)
 
 

@@ -16,7 +16,7 @@ def coloured(content: bytes, spans: str, styles: dict[str, Style], depth: str) -
     """A text whose spans, as `vimsyn spans` prints them, stand between escape sequences."""
     lines = content.decode("utf-8").split("\n")
     codes = {group: sequence(style, depth) for group, style in styles.items()}
-    made = {}
+    made: dict[int, list[tuple[int, int, str]]] = {}
     for line in spans.splitlines():
         found = SPAN.fullmatch(line)
         if found and codes.get(found[4]):

@@ -6,7 +6,7 @@ need python3 vim vimsyn
 paint=$here/vimsyn-paint
 escape=$(printf '\033')
 cd "$room"
-word="$escape[1;38;5;227mif$escape[0m"
+word="${escape}[1;38;5;227mif${escape}[0m"
 printf 'if x\nshout\n' > quiet.tiny
 printf 'if loud\nshout\n' > loud.tiny
 printf 'if \377\n' > bytes.tiny
@@ -20,16 +20,16 @@ said() {
 
 same "colours" "$word x
 shout" "$("$paint" --color=always quiet.tiny)"
-same "24 bits, light" "$escape[1;38;2;165;42;42mif$escape[0m x
+same "24 bits, light" "${escape}[1;38;2;165;42;42mif${escape}[0m x
 shout" "$("$paint" --color=always --depth=24bit --background=light quiet.tiny)"
 same "a syntax file that asks for the first line" "$word loud
-$escape[1;38;5;227mshout$escape[0m" "$("$paint" --color=always loud.tiny)"
+${escape}[1;38;5;227mshout${escape}[0m" "$("$paint" --color=always loud.tiny)"
 same "the flat files of both are kept" 2 "$(find "$XDG_CACHE_HOME/vimsyn/tiny" -name made.json | wc -l | tr -d ' ')"
 same "no terminal, no colours" "$(cat quiet.tiny)" "$("$paint" quiet.tiny)"
 same "a terminal" "$word x
 shout" "$(PAGER=cat "$here/../on_terminal.py" "" "$paint" quiet.tiny)"
 same "NO_COLOR" "$(cat quiet.tiny)" "$(NO_COLOR=1 PAGER=cat "$here/../on_terminal.py" "" "$paint" quiet.tiny)"
-same "24 bits by COLORTERM" "$escape[1;38;2;255;255;96mif$escape[0m x
+same "24 bits by COLORTERM" "${escape}[1;38;2;255;255;96mif${escape}[0m x
 shout" "$(COLORTERM=truecolor "$here/../on_terminal.py" "" "$paint" --paging=never quiet.tiny)"
 same "several files" "==> quiet.tiny <==
 $word x
@@ -40,10 +40,11 @@ if" "$("$paint" --color=always -q quiet.tiny text.unheard-of)"
 same "numbers" "1 if x
 2 shout" "$("$paint" -n quiet.tiny)"
 same "standard input with a language" "$word" "$(echo if | "$paint" --color=always --language=tiny -)"
-same "a language by the ending of its files" "$(printf '#!/bin/bash\nfor\n' | "$paint" --color=always --language=sh -)" \
-  "$(printf '#!/bin/bash\nfor\n' | "$paint" --color=always --language=bash -)"
-has "standard input by its first line" "$escape[" "$(printf '#!/usr/bin/env python3\nimport os\n' | "$paint" --color=always -)"
-has "C" "$escape[1;38;5;83mint$escape[0m" "$(echo 'int x;' | "$paint" --color=always --language=c -)"
+printf '#!/bin/bash\nfor\n' > script
+same "a language by the ending of its files" "$("$paint" --color=always --language=sh - < script)" \
+  "$("$paint" --color=always --language=bash - < script)"
+has "standard input by its first line" "${escape}[" "$("$paint" --color=always - < script)"
+has "C" "${escape}[1;38;5;83mint${escape}[0m" "$(echo 'int x;' | "$paint" --color=always --language=c -)"
 
 has "a language that isn't known" "shown plain
 status 0" "$(said "$paint" --color=always text.unheard-of)"
@@ -66,7 +67,7 @@ has "no pager" "shown without a pager" "$(PAGER=no-such-pager said "$paint" --pa
 same "a pager" "IF X
 SHOUT" "$(PAGER='tr a-z A-Z' "$paint" --paging=always quiet.tiny)"
 yes 'if x' | head -50000 > long.tiny
-same "a reader that has seen enough" "if x" "$(said "$paint" long.tiny > said; "$paint" long.tiny 2>&1 | head -1)"
+same "a reader that has seen enough" "if x" "$("$paint" long.tiny 2>&1 | head -1)"
 
 has "a page" '<span class="Statement">if</span> x' "$("$paint" --html quiet.tiny)"
 has "a page with numbers" '<span class="LineNr">1 </span>' "$("$paint" --html -n quiet.tiny)"

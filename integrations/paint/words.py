@@ -10,8 +10,8 @@ def read(words: list[str] | None = None) -> argparse.Namespace:
     parser = argparse.ArgumentParser(
         prog="vimsyn-paint",
         description="Shows files in the colours of Vim's syntax files. '-' is standard input.",
-        epilog="status: 0 all was shown, plain where standard error says so; 1 a file couldn't be read, or has no page or flat file; "
-        "2 wrong words; 3 vimsyn, Vim or flatten.vim isn't there; 4 it couldn't be written",
+        epilog="status: 0 all was shown, plain where standard error says so; 1 a file couldn't be read, or has no page "
+        "or flat file; 2 wrong words; 3 vimsyn, Vim or flatten.vim isn't there; 4 it couldn't be written",
     )
     parser.add_argument("files", nargs="*", metavar="FILE")
     parser.add_argument("--language", metavar="NAME", help="a syntax of Vim, or the ending of its files")

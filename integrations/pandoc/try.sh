@@ -27,7 +27,8 @@ if
     if
 END
 made=$(filtered --standalone notes.md)
-has "a block" '<pre id="one" class="vimsyn tiny" data-key="a&lt;b"><code><span class="Statement">if</span> &lt;x&gt;' "$made"
+has "a block" '<pre id="one" class="vimsyn tiny" data-key="a&lt;b"><code>' "$made"
+has "its colours" '<code><span class="Statement">if</span> &lt;x&gt;' "$made"
 has "its style" 'pre.vimsyn .Statement { color: #a52a2a; font-weight: bold; }' "$made"
 has "the document's own header" '<meta name="mine">' "$made"
 has "an unknown language" '<pre class="nonsense"><code>if</code></pre>' "$made"
@@ -35,10 +36,10 @@ has "is told" "a block of 'nonsense' isn't coloured" "$(cat said)"
 has "a block without a language" '<pre><code>if</code></pre>' "$made"
 has "C" '<span class="Type">int</span> x;' "$(printf '~~~ c\nint x;\n~~~\n' | filtered)"
 same "other formats keep their blocks" "$(pandoc -t latex notes.md)" "$(filtered -t latex notes.md)"
-has "no vimsyn-paint" '<pre class="tiny"><code>if</code></pre>' "$(printf '~~~ tiny\nif\n~~~\n' | VIMSYN_PAINT=none filtered)"
+printf '~~~ tiny\nif\n~~~\n' > tiny.md
+has "no vimsyn-paint" '<pre class="tiny"><code>if</code></pre>' "$(VIMSYN_PAINT=none filtered tiny.md)"
 has "is told too" "none couldn't be run" "$(cat said)"
 filtered --standalone -t epub3 notes.md -o notes.epub
-has "a book" '<span class="Statement" style="color: #a52a2a; font-weight: bold;">if</span>' "$(python3 -c 'import sys, zipfile
-book = zipfile.ZipFile(sys.argv[1])
-print("".join(book.read(name).decode() for name in book.namelist() if name.endswith("html")))' notes.epub)"
+python3 -m zipfile -e notes.epub book
+has "a book" '<span class="Statement" style="color: #a52a2a; font-weight: bold;">if</span>' "$(cat book/EPUB/text/*)"
 ended

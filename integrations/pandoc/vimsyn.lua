@@ -2,8 +2,8 @@
 --
 --     pandoc --lua-filter=vimsyn.lua --standalone notes.md > notes.html
 --
--- The first class of a block names its language. Blocks that can't be coloured stay as they are, and pandoc colours them
--- where it can. README.md is the page of this filter.
+-- The first class of a block names its language. Blocks that can't be coloured stay as they are, and pandoc colours
+-- them where it can. README.md is the page of this filter.
 
 -- (a document can't name programs: it may be someone else's)
 local programs = {

@@ -1,6 +1,9 @@
 #!/usr/bin/env python3
-"""try_session.py CHECKOUT: tries the module on the example texts: after each of some edits that are drawn, the spans that
-the session has are those that `vimsyn spans` prints for the text as it is then. A program is $VIMSYN."""
+"""try_session.py CHECKOUT: tries the module on the example texts. The program is $VIMSYN.
+
+After each of some edits that are drawn, the spans that the session has are those that `vimsyn spans` prints for the
+text as it is then.
+"""
 from __future__ import annotations
 
 import os
@@ -58,7 +61,8 @@ def try_language(top: Path, syntax_name: str, text_name: str, draw: random.Rando
         check(spans_kept(session) == spans_anew(session, syntax, folder), f"{text_name}: the spans at the start")
         for edit in range(EDITS):
             edit_at_random(session, draw, [*lines, "", ".", '"""', "(*", "*)", "~~~"])
-            check(spans_kept(session) == spans_anew(session, syntax, folder), f"{text_name}: the spans after edit {edit}")
+            anew = spans_anew(session, syntax, folder)
+            check(spans_kept(session) == anew, f"{text_name}: the spans after edit {edit}")
         check(session.close() in (0, 1), f"{text_name}: the status")
 
 

@@ -57,7 +57,7 @@ class Screen:
         row, column, count = self.row, self.column, len(self.session)
         line = self.session.line(row)
         page = self.window.getmaxyx()[0] - 2
-        steps = {curses.KEY_UP: -1, curses.KEY_DOWN: 1, curses.KEY_PPAGE: -page, curses.KEY_NPAGE: page}
+        steps: dict[str | int, int] = {curses.KEY_UP: -1, curses.KEY_DOWN: 1, curses.KEY_PPAGE: -page, curses.KEY_NPAGE: page}
         if key in steps:
             self.row = max(1, min(count, row + steps[key]))
         elif key in (curses.KEY_HOME, curses.KEY_END):

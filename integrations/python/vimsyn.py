@@ -1,8 +1,8 @@
 """A session of `vimsyn edit`, kept open: the colours of a text while it is edited. Standard library alone.
 
     with Session("flat/syntax/c.vim", ["int x;", "/* a"], folder="flat") as session:
-        told = session.replace(2, 2, ["/* a */"])     # the numbers of the lines that show something else now
-        session.spans(2)                              # [Span(first=1, last=2, group='cCommentStart', final='Comment'), ..]
+        told = session.replace(2, 2, ["/* a */"])  # the numbers of the lines that show something else now
+        session.spans(2)  # [Span(first=1, last=2, group='cCommentStart', final='Comment'), ..]
 
 Lines and columns count from 1, and columns count characters. ../PROTOCOL.md tells what goes to and fro.
 """
@@ -40,6 +40,12 @@ class Span(NamedTuple):
 class Session:
     """A text, its syntax file, and the colours that the program told."""
 
+    _process: subprocess.Popen[bytes]
+    _lines: list[str]
+    _spans: list[list[Span]]  # of each line
+    _sent: int  # bytes of commands
+    _commands: int  # how many, markers included
+
     def __init__(
         self,
         syntax: str,
@@ -75,8 +81,8 @@ class Session:
     def replace(self, first: int, last: int, lines: list[str]) -> list[int]:
         """Lines `first` to `last` become these; where `last` is `first - 1`, these go before line `first`.
 
-        Answers the numbers of the lines that are new or show other colours, as the text is afterwards. Where the program
-        refuses the change, `Refused` is raised and nothing has changed.
+        Answers the numbers of the lines that are new or show other colours, as the text is afterwards. Where the
+        program refuses the change, `Refused` is raised and nothing has changed.
         """
         if not (1 <= first <= len(self) + 1 and first - 1 <= last <= len(self)):
             raise ValueError(f"no lines {first} to {last}")
@@ -116,7 +122,7 @@ class Session:
         self._take_in(told)
 
     def _begin_anew(self, lines: list[str]) -> list[int]:
-        """A new program for what no command can say: a line that is a single dot, or more bytes than a session takes."""
+        """A new program for what no command can say: a line that is a single dot, or bytes beyond the limit."""
         old = self._process
         self._begin(lines or [""])
         finish(old)
