@@ -1,14 +1,11 @@
 -- What is kept of a text is its painting.
-use Rattle.std.proofs.Common.{arith, ◌≡◌, ◌<◌, ◌+◌, ℕ, zero, suc, pos, List, [], ◌∷◌, length, map, refl, sym, ap, ◌∙◌, subst, Some, None, Result, Ok, Err}
-use Rattle.std.specs.Prelude.{Option, slice_get}
-use Rattle.std.specs.Option.{option_map}
-use Rattle.std.proofs.lemmas.Option.{slice_get-map, slice_get_within}
+use Rattle.std.proofs.Common.{arith, ◌≡◌, ◌+◌, ℕ, zero, suc, pos, List, [], ◌∷◌, length, refl, sym, ap, ◌∙◌, subst, Some, Result, Ok}
+use Rattle.std.specs.Prelude.{slice_get}
 use Rattle.syn_base.specs.Looked.{moved_by}
 use Rattle.syn_base.specs.SpansFit.{FitLines, IsFromColumn}
 use Rattle.syn_base.specs.declared.places.Span.{Span}
 use Rattle.match_rules.specs.Ways.{Text, line_at}
-use Rattle.paint_rules.specs.Line.{Note, PaintedLine, Painting, Whole, painted_line, painting}
-use Rattle.paint_rules.specs.Painted.{Done}
+use Rattle.paint_rules.specs.Line.{Painting, Whole, painting}
 use Rattle.paint_rules.specs.Rules.{Rules}
 use Rattle.paint_shift.specs.Elsewhere.{line_in}
 use Rattle.paint_laws.proofs.SpanLaws.{spans_show_the_stack}

@@ -1,5 +1,5 @@
 -- A painted line of the code is the note that the rules give it.
-use Rattle.std.proofs.Common.{◌≡◌, ℕ, pos, sym, ap, ◌∙◌, subst, refl, Some, None, Result, Ok, Err}
+use Rattle.std.proofs.Common.{◌≡◌, ℕ, pos, sym, ap, ◌∙◌, subst, refl, Some, Ok, Err}
 use Rattle.std.specs.Prelude.{Option}
 use Rattle.syn_base.specs.Looked.{moved_by}
 use Rattle.syn_base.specs.declared.looked.Looked.{Looked}
@@ -10,7 +10,7 @@ use Rattle.paint_rules.specs.Rules.{Rules, TooCostly, TooDeep}
 use Rattle.paint_rules.specs.States as rule
 use Rattle.paint_rules.specs.States.{StateFits}
 use Rattle.paint_shift.specs.Elsewhere.{line_in}
-use Rattle.paint_reuse.specs.Kept.{KeptNote, line_note}
+use Rattle.paint_reuse.specs.Kept.{line_note}
 use Rattle.paint_reuse.proofs.NoteLaws.{moved_there, painted_noted, refused_noted}
 use Rattle.state_stack.specs.declared.state.State.{State}
 use Rattle.state_stack.specs.TopFirst.{top_first}

@@ -1,5 +1,5 @@
 -- Notes of which some are exchanged.
-use Rattle.std.proofs.Common.{arith, ◌≡◌, ◌≤◌, ℕ, List, [], ◌∷◌, ◌++◌, take, drop, set, length, length-set, refl, sym, ap, ◌∙◌}
+use Rattle.std.proofs.Common.{◌≡◌, ℕ, List, [], ◌∷◌, ◌++◌, take, drop, set, length, length-set, refl, ◌∙◌}
 use Rattle.std.specs.List.{All}
 use Rattle.std.proofs.lemmas.List.Elements.{All-append, All-drop, All-head, All-set, All-tail, All-take}
 use Rattle.paint_reuse.specs.Kept.{KeptNote}

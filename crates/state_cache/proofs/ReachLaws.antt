@@ -1,5 +1,5 @@
 -- How far lines looked.
-use Rattle.std.proofs.Common.{arith, ◌≡◌, ◌<◌, ◌≤◌, ◌+◌, ◌^◌, ℕ, ℤ, pos, ◌+ℤ◌, ◌<ℤ◌, ◌≤ℤ◌, ◌⊎◌, inl, inr, subst, int_lt, int_le, List, get_or, take, length, refl, sym, ap, ◌∙◌, true, false, Some, Bool}
+use Rattle.std.proofs.Common.{arith, ◌≡◌, ◌<◌, ◌≤◌, ◌+◌, ℕ, ℤ, pos, ◌+ℤ◌, ◌<ℤ◌, ◌≤ℤ◌, ◌⊎◌, inl, inr, subst, int_lt, int_le, List, get_or, take, length, refl, sym, ap, true, false, Some, Bool}
 use Rattle.std.specs.Prelude.{slice_get, ◌||◌}
 use Rattle.std.specs.List.{All}
 use Rattle.std.proofs.lemmas.List.{take_all}

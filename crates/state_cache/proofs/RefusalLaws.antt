@@ -1,7 +1,7 @@
 -- A refusal of a line, of some lines, and of a text.
-use Rattle.std.proofs.Common.{◌≡◌, ℕ, List, sym, ap, ◌∙◌, subst, refl, Result, Ok, Err}
+use Rattle.std.proofs.Common.{◌≡◌, ℕ, List, sym, ap, ◌∙◌, Result, Err}
 use Rattle.match_rules.specs.Ways.{Text}
-use Rattle.paint_rules.specs.Line.{Painting, Refusal, painting}
+use Rattle.paint_rules.specs.Line.{Refusal, painting}
 use Rattle.paint_rules.specs.Rules.{Rules, TooCostly, TooDeep}
 use Rattle.paint_reuse.specs.Kept.{KeptNote, RefusedLine, as_painting, text_notes}
 use Rattle.paint_reuse.specs.Work.{refused_line}

@@ -1,12 +1,10 @@
 -- Steps of the walk over old lines.
-use Rattle.std.proofs.Common.{arith, subst, sym, ap, ◌∙◌, ◌≡◌, ◌<◌, ◌≤◌, ◌+◌, ◌-◌, ℕ, suc, List, ◌++◌, take, drop, length, refl, Some, None, Option, Result, Ok, Err}
-use Rattle.std.specs.Prelude.{IfSome}
+use Rattle.std.proofs.Common.{arith, subst, ◌∙◌, ◌≡◌, ◌<◌, ◌≤◌, ◌+◌, ◌-◌, ℕ, suc, take, drop, length, refl, Option}
 use Rattle.std.proofs.lemmas.List.{append-nil}
 use Rattle.paint_rules.specs.Line.{Refusal}
-use Rattle.paint_rules.specs.States.{empty_state}
-use Rattle.paint_reuse.specs.Kept.{KeptNote, line_note}
+use Rattle.paint_reuse.specs.Kept.{line_note}
 use Rattle.paint_reuse.specs.Reuse.{one_unless}
-use Rattle.paint_reuse.specs.Work.{Along, OldLines, Over, Passes, Went, before_at, refused_line, reusable, work}
+use Rattle.paint_reuse.specs.Work.{Along, OldLines, Over, Passes, Went, reusable, work}
 use Rattle.paint_reuse.proofs.Skips.{pass}
 use Rattle.paint_reuse.proofs.Works.{along_more, count_at, stop_at}
 use Rattle.state_stack.specs.declared.state.State.{State}

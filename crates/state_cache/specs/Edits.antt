@@ -1,5 +1,5 @@
 -- An edit: the changed text, what is known of the old one, and what the walk over its lines makes.
-use Rattle.std.specs.Prelude.{◌≡◌, ◌+◌, ◌-◌, ◌≤◌, ℕ, pos, List, [], ◌∷◌, drop, length, set, slice_get, take, Option, Some, None, Result, Ok, IfSome, ⊤}
+use Rattle.std.specs.Prelude.{◌≡◌, ◌+◌, ◌-◌, ◌≤◌, ℕ, List, [], ◌∷◌, drop, length, set, slice_get, take, Option, Some, None, Ok, IfSome}
 use Rattle.std.specs.List.{All}
 use Rattle.std.specs.Option.{option_map}
 use Rattle.match_rules.specs.Ways.{Text}

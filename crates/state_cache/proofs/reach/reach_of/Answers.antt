@@ -1,6 +1,5 @@
-use Rattle.std.proofs.Common.{arith, ◌≡◌, ◌<◌, ◌≤◌, ◌∙◌, sym, ap, length, get_or, List}
+use Rattle.std.proofs.Common.{arith, ◌≡◌, ◌<◌, ◌≤◌, ◌∙◌, ap, length, get_or, List}
 use Rattle.paint_reuse.specs.Kept.{KeptNote}
-use Rattle.syn_base.specs.declared.looked.Looked.{Looked}
 use Rattle.state_cache.proofs.ReachLaws.{reaches_all, reaches_further}
 use Rattle.state_cache.proofs.reach.reach_of.Goals as goal
 

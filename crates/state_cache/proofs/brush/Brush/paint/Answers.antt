@@ -3,7 +3,6 @@ use Rattle.state_stack.specs.TopFirst.{top_first}
 use Rattle.syn_reader.specs.Soundness.{SyntaxParts}
 use Rattle.paint_reuse.specs.Kept.{KeptNote, line_note}
 use Rattle.state_cache.specs.declared.refusal.EditError.{EditError}
-use Rattle.state_cache.specs.Brushes.{rules_by}
 use Rattle.state_cache.specs.Refusals.{RefusesLine}
 use Rattle.state_cache.specs.Spans.{syntax_rules}
 use Rattle.state_cache.proofs.PaintedNotes.{noted_as, refused_as}

@@ -1,5 +1,5 @@
-use Rattle.std.proofs.Common.{arith, ap, ◌≡◌, ◌≤◌, ◌<◌, ◌^◌, length}
-use Rattle.state_cache.specs.Edits.{change_by, lines_of, old_by}
+use Rattle.std.proofs.Common.{arith, ◌<◌, ◌^◌, length}
+use Rattle.state_cache.specs.Edits.{change_by, old_by}
 use Rattle.state_cache.proofs.ReachLaws.{clear_before, clear_behind, clear_on}
 use Rattle.state_cache.proofs.edit.Edit.clear_until.Goals as goal
 

@@ -1,4 +1,4 @@
-use Rattle.std.proofs.Common.{sym, subst, ◌∙◌, ◌≡◌, Some, true, false}
+use Rattle.std.proofs.Common.{sym, subst, ◌∙◌, ◌≡◌, Some}
 use Rattle.std.specs.Prelude.{Option, IfSome, pos}
 use Rattle.syn_base.specs.Looked.{moved_by}
 use Rattle.paint_reuse.specs.Kept.{KeptNote}

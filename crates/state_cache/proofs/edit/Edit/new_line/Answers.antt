@@ -1,4 +1,4 @@
-use Rattle.std.proofs.Common.{arith, ap, ◌≤◌}
+use Rattle.std.proofs.Common.{arith, ap}
 use Rattle.std.proofs.lemmas.List.Elements.{All-push}
 use Rattle.paint_reuse.specs.Reuse.{one_unless}
 use Rattle.paint_reuse.proofs.Steps.{new_is_none}

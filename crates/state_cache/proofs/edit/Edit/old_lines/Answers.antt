@@ -1,4 +1,4 @@
-use Rattle.std.proofs.Common.{arith, ◌≡◌, ◌<◌, ◌≤◌}
+use Rattle.std.proofs.Common.{arith}
 use Rattle.std.proofs.lemmas.Result.{err_from_is_err_and}
 use Rattle.state_cache.proofs.StretchLaws.{begins, counted, counts, further, over, passes, refused}
 use Rattle.state_cache.proofs.edit.Edit.old_lines.Goals as goal

@@ -1,6 +1,5 @@
 use Rattle.std.proofs.Common.{arith, sym, ap, subst, ◌∙◌, ◌≡◌, ◌-◌, ℕ, suc}
 use Rattle.std.proofs.lemmas.Result.{IfOk-weaker}
-use Rattle.paint_rules.specs.States as rule
 use Rattle.paint_rules.specs.States.{StateFits, empty_state, next_line}
 use Rattle.paint_reuse.specs.Work.{before_at}
 use Rattle.paint_reuse.proofs.Patches.{before_more}

@@ -1,5 +1,4 @@
-use Rattle.std.proofs.Common.{arith, sym, ap, subst, ◌∙◌, ◌≡◌, ◌≤◌, ◌+◌, Some, Ok, true, false, ℕ, Bool}
-use Rattle.std.specs.Prelude.{slice_get}
+use Rattle.std.proofs.Common.{arith, sym, ap, subst, ◌∙◌, ◌≡◌}
 use Rattle.std.proofs.lemmas.Result.{err_from_is_err_and}
 use Rattle.paint_rules.specs.States.{State}
 use Rattle.paint_reuse.specs.Kept.{line_note}
@@ -7,11 +6,10 @@ use Rattle.paint_reuse.specs.Reuse.{one_unless}
 use Rattle.paint_reuse.specs.Work.{state_by}
 use Rattle.paint_reuse.proofs.Steps.{before_is_old, kept_by_test}
 use Rattle.state_stack.specs.TopFirst.{top_first}
-use Rattle.state_cache.specs.declared.refusal.EditError.{EditError}
 use Rattle.paint_rules.specs.States.{StateFits}
 use Rattle.state_cache.specs.Notes.{NoteFits}
 use Rattle.state_cache.proofs.ReachLaws.{at_of_all}
-use Rattle.state_cache.specs.Edits.{change_by, given_by, items_of, lines_of, old_by, rules_of, state_at, text_of}
+use Rattle.state_cache.specs.Edits.{given_by, items_of, lines_of, old_by, rules_of, state_at, text_of}
 use Rattle.state_cache.specs.Refusals.{RefusesLine}
 use Rattle.state_cache.proofs.edit.Edit.paint_or_keep.Goals as goal
 

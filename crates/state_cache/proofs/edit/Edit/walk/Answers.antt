@@ -1,16 +1,15 @@
-use Rattle.std.proofs.Common.{arith, sym, ap, refl, ◌∙◌, ◌≡◌, ◌≤◌, ◌+◌, ◌-◌, ◌++◌, ℕ, List, [], length, drop, Ok, Result}
+use Rattle.std.proofs.Common.{arith, sym, ap, ◌∙◌, ◌≡◌, ◌≤◌, ◌+◌, ◌-◌, ◌++◌, ℕ, List, length, Ok}
 use Rattle.std.proofs.lemmas.Result.{err_from_is_err_and}
 use Rattle.chunk_list.proofs.ReplacedLaws.{length-replaced}
 use Rattle.paint_rules.specs.States.{State, empty_state}
 use Rattle.paint_reuse.specs.Change.{old_line}
-use Rattle.paint_reuse.specs.Kept.{KeptNote, text_notes}
+use Rattle.paint_reuse.specs.Kept.{text_notes}
 use Rattle.paint_reuse.specs.Work.{work}
 use Rattle.paint_reuse.proofs.Places.{moves, stays}
 use Rattle.paint_reuse.proofs.Walks.{walked_full}
 use Rattle.paint_reuse.proofs.Whole.{count_1, count_2, count_3, dropped_on, painted_all, refused_1, refused_2, refused_3, told_all, total_is}
 use Rattle.paint_reuse.proofs.Works.{work_walked}
 use Rattle.state_stack.specs.TopFirst.{top_first}
-use Rattle.state_cache.specs.declared.edit.Patch.{Patch}
 use Rattle.state_cache.specs.Edits.{change_by, items_of, lines_of, old_by, patched, rules_of, text_of}
 use Rattle.state_cache.specs.Notes.{NoteFits}
 use Rattle.state_cache.specs.Reach.{LooksWithin}

@@ -1,4 +1,4 @@
-use Rattle.std.proofs.Common.{arith, sym, ap, subst, refl, ◌∙◌, ◌≡◌, ℕ, List, length, Ok, Result}
+use Rattle.std.proofs.Common.{arith, sym, ap, subst, refl, ◌∙◌, ◌≡◌, ℕ, List, length, Ok}
 use Rattle.std.proofs.lemmas.Result.{err_from_is_err_and}
 use Rattle.paint_reuse.specs.Change.{replaced}
 use Rattle.paint_reuse.specs.Kept.{KeptNote, text_notes}

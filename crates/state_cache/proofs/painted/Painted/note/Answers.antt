@@ -1,4 +1,4 @@
-use Rattle.std.proofs.Common.{arith, sym, ap, subst, ◌∙◌, ◌≡◌, Some, length}
+use Rattle.std.proofs.Common.{arith, sym, ap, subst, ◌∙◌, Some, length}
 use Rattle.paint_reuse.specs.Kept.{KeptNote, note_at, notes_from}
 use Rattle.paint_reuse.proofs.Walks.{kept}
 use Rattle.state_cache.specs.Notes.{IsNoteAt}
