@@ -4,8 +4,8 @@ use Rattle.std.specs.Prelude.{All}
 use Rattle.std.specs.List.{AllByRecursion}
 use Rattle.std.proofs.lemmas.List.Elements.{All-from_recursion}
 use Rattle.syn_base.specs.declared.places.Span.{Span}
-use Rattle.state_cache.specs.Change.{old_line}
-use Rattle.state_cache.specs.Report.{differs, report, report_from}
+use Rattle.paint_reuse.specs.Change.{old_line}
+use Rattle.paint_reuse.specs.Report.{differs, report, report_from}
 
 below_same : (n m : ℕ) (lines : List ℕ) → n ≡ m → AllByRecursion (λ k. k < n) lines → AllByRecursion (λ k. k < m) lines
 below_same n m lines same all = let P : ℕ → Type 0 = λ b. AllByRecursion (λ k. k < b) lines in subst P same all

@@ -12,7 +12,7 @@ use Rattle.syn_reader.specs.declared.syntax.Syntax.{Syntax}
 use Rattle.state_cache.specs.declared.refusal.EditError.{EditError}
 use Rattle.state_cache.specs.declared.refusal.EditError.TheVariants as refusal
 use Rattle.state_cache.specs.PaintedText.{PaintedText}
-use Rattle.state_cache.specs.Report.{report}
+use Rattle.paint_reuse.specs.Report.{report}
 use Rattle.state_cache.specs.Spans.{syntax_rules, text_spans}
 use Rattle.vimsyn_cli.specs.declared.fault.Fault.{Fault}
 use Rattle.vimsyn_cli.specs.declared.status.Status.{Status}

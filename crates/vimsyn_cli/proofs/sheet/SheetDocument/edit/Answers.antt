@@ -1,7 +1,7 @@
 use Rattle.std.proofs.Common.{◌≡◌, ◌<◌, ◌≤◌, ◌++◌, length, take, drop, subst, sym}
 use Rattle.text_buffer.specs.TextOfBytes.{most_lines}
 use Rattle.edit_script.specs.Edits.{Replacement}
-use Rattle.state_cache.specs.Report.{report}
+use Rattle.paint_reuse.specs.Report.{report}
 use Rattle.vimsyn_cli.proofs.SheetLaws.{told_within}
 use Rattle.vimsyn_cli.proofs.sheet.SheetDocument.edit.Goals as goal
 
