@@ -2,7 +2,6 @@
 pub mod Spans
 pub mod PaintedText
 pub mod Notes
-pub mod Report
 -- what code and proofs alone cite
 pub mod Brushes
 pub mod Refusals
