@@ -2,7 +2,7 @@
 --
 -- A line's number may be -1 and the number of lines too: there, before the first line and behind the
 -- last one, a text has no line, and no two texts differ.
-use Rattle.std.specs.Prelude.{◌≡◌, ℕ, ℤ, pos, negsuc, ◌+ℤ◌, ◌≤ℤ◌, List, length, Option, Some, None, slice_get}
+use Rattle.std.specs.Prelude.{◌≡◌, ℕ, ℤ, pos, negsuc, ◌+ℤ◌, ◌≤ℤ◌, true, List, length, Option, Some, None, slice_get}
 use Rattle.syn_base.specs.declared.looked.Looked.{Looked}
 
 -- what stands at a number
@@ -28,6 +28,8 @@ pub record AgreeAt (text other : List (List ℕ)) (shift l : ℤ) : Type 0 where
   -- the same stands there: both have no line, on the same side, or both have the same characters
   pub same : seen_at other (l +ℤ shift) ≡ seen_at text l
 
--- the two texts agree on a range of lines
+-- the two texts agree on what was looked at: on each line of a range, and on the line's number where
+-- that was looked at too
 pub record Agree (text other : List (List ℕ)) (shift : ℤ) (looked : Looked) : Type 0 where
+  pub unmoved : looked.numbered ≡ true → shift ≡ pos 0
   pub each_line : (l : ℤ) → looked.low ≤ℤ l → l ≤ℤ looked.high → AgreeAt text other shift l
