@@ -6,11 +6,12 @@ use Rattle.std.proofs.lemmas.Int.{ints}
 use Rattle.char_class.specs.declared.sets.Sets.{Sets}
 use Rattle.syn_base.specs.declared.looked.Looked.{Looked}
 use Rattle.syn_base.specs.declared.places.Place.{Place}
-use Rattle.syn_base.specs.Looked.{hull_of, moved_by, one_line}
+use Rattle.syn_base.specs.Looked.{hull_of, moved_by, numbered_too, one_line}
 use Rattle.pattern_items.specs.declared.atom.Atom.{Atom}
-use Rattle.pattern_items.specs.declared.atom.Atom.TheVariants.{Char, Any, Is, Set, LineEnd, LineStart, LineStop, WordStart, WordStop, FileStart, FileStop, MatchStart, MatchStop, Ref, ExternalRef}
+use Rattle.pattern_items.specs.declared.atom.Compare.{Compare}
+use Rattle.pattern_items.specs.declared.atom.Atom.TheVariants.{Char, Any, Is, Set, LineEnd, LineStart, LineStop, WordStart, WordStop, FileStart, FileStop, MatchStart, MatchStop, LineNumber, Ref, ExternalRef}
 use Rattle.match_rules.specs.Ways.{Text, Way, line_at}
-use Rattle.match_rules.specs.Atoms.{only_if, group_text, external_text, keyword_at, keyword_before, keyword_in, has_keyword, fits, own_line, lines_from, line_behind, lines_looked}
+use Rattle.match_rules.specs.Atoms.{only_if, group_text, external_text, stands, number_of_line, keyword_at, keyword_before, keyword_in, has_keyword, fits, own_line, lines_from, line_behind, lines_looked}
 use Rattle.match_rules.specs.Marks.{Mark}
 use Rattle.match_rules.specs.Visits.{tried, behind_fit}
 use Rattle.match_rules.proofs.Outset.{looks-here, line_behind-later}
@@ -149,6 +150,19 @@ file_stop-moved two p q m ok s =
     (next-same two p q s next))
     (line_stop-same two p q m s))
 
+-- ---- line numbers
+
+-- where a number was looked at, the line is the same one
+same_number : (two : Two) (k j : ℕ) → IsLineOf two k j → shift two ≡ pos 0 → j ≡ k
+same_number two k j m h = omega (arith, ints)
+
+number-moved : (two : Two) (p q : Place) (how : Compare) (number : ℕ) → Moved two p q →
+    shift two ≡ pos 0 → FitMoved two p q (only_if (stands how number (number_of_line p.line)) p)
+    (only_if (stands how number (number_of_line q.line)) q)
+number-moved two p q how number m h =
+    stay-moved two p q _ _ m (ap (λ l. stands how number (number_of_line l))
+    (same_number two p.line q.line m.line h))
+
 -- ---- where an atom leads
 
 this_line : (two : Two) (w v : Way) (a : Atom) → WayMoved two w v →
@@ -192,6 +206,8 @@ fits-moved two w v FileStop m ok = file_stop-moved two w.at v.at m.at
     (up_to two w.at.line (line_behind two.x.text w.at.line) ok) (this_line two w v FileStop m ok)
 fits-moved two w v MatchStart m ok = (m.at, no_step two w.at v.at)
 fits-moved two w v MatchStop m ok = (m.at, no_step two w.at v.at)
+fits-moved two w v (LineNumber how number) m ok =
+    number-moved two w.at v.at how number m.at (ok.unmoved refl)
 fits-moved two w v (Ref number) m ok =
     rw (group_text-same two w v number m)
     (pieces-moved two (group_text two.x w number) w.at v.at m.at (up_to two w.at.line _ ok)).0
@@ -225,6 +241,8 @@ looks-moved two w v (Ref number) m ok =
 looks-moved two w v (ExternalRef number) m ok =
     lines_from-moved two w.at.line v.at.line _ _ m.at.line
     (pieces-moved two (external_text two.x number) w.at v.at m.at (up_to two w.at.line _ ok)).1
+looks-moved two w v (LineNumber how number) m ok =
+    ap numbered_too (line-moved two w.at.line v.at.line m.at.line)
 looks-moved two w v _ m ok = line-moved two w.at.line v.at.line m.at.line
 
 -- ---- the way behind it

@@ -4,7 +4,7 @@ use Rattle.std.specs.Prelude.{Option, Some, None, ◌&&◌, if◌then◌else◌}
 use Rattle.std.proofs.lemmas.Bool.Decides.{nat_tests}
 use Rattle.syn_base.specs.declared.places.Place.{Place}
 use Rattle.pattern_items.specs.declared.atom.Atom.{Atom}
-use Rattle.pattern_items.specs.declared.atom.Atom.TheVariants.{Char, Any, Is, Set, LineEnd, LineStart, LineStop, WordStart, WordStop, FileStart, FileStop, MatchStart, MatchStop, Ref, ExternalRef}
+use Rattle.pattern_items.specs.declared.atom.Atom.TheVariants.{Char, Any, Is, Set, LineEnd, LineStart, LineStop, WordStart, WordStop, FileStart, FileStop, MatchStart, MatchStop, LineNumber, Ref, ExternalRef}
 use Rattle.match_rules.specs.Ways.{Text, Context, Way, is_after, behind_character, behind_line_end}
 use Rattle.match_rules.specs.Atoms.{character_at, is_line_end, only_if, behind_if, behind_one, behind_one_or_end, Piece, character, line_end, behind_piece, behind_pieces, group_text, external_text, fits}
 use Rattle.match_rules.proofs.Walks.{IsForwards}
@@ -94,5 +94,6 @@ fits-forwards x w FileStart = only_if-forwards w.at _ w.at (stays w.at)
 fits-forwards x w FileStop = only_if-forwards w.at _ w.at (stays w.at)
 fits-forwards x w MatchStart = stays w.at
 fits-forwards x w MatchStop = stays w.at
+fits-forwards x w (LineNumber how number) = only_if-forwards w.at _ w.at (stays w.at)
 fits-forwards x w (Ref number) = behind_pieces-forwards x (group_text x w number) w.at
 fits-forwards x w (ExternalRef number) = behind_pieces-forwards x (external_text x number) w.at

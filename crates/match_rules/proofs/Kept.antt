@@ -5,7 +5,7 @@ use Rattle.std.proofs.lemmas.Option.{slice_get_within}
 use Rattle.std.proofs.lemmas.Bool.Decides.{nat_tests}
 use Rattle.syn_base.specs.declared.places.Place.{Place}
 use Rattle.pattern_items.specs.declared.atom.Atom.{Atom}
-use Rattle.pattern_items.specs.declared.atom.Atom.TheVariants.{Char, Any, Is, Set, LineEnd, LineStart, LineStop, WordStart, WordStop, FileStart, FileStop, MatchStart, MatchStop, Ref, ExternalRef}
+use Rattle.pattern_items.specs.declared.atom.Atom.TheVariants.{Char, Any, Is, Set, LineEnd, LineStart, LineStop, WordStart, WordStop, FileStart, FileStop, MatchStart, MatchStop, LineNumber, Ref, ExternalRef}
 use Rattle.vim_pattern.specs.Shape.{Shape, empty, one, seq, or, and, group, external, repeat, ahead, before, whole}
 use Rattle.match_rules.specs.Ways.{Text, Context, Way, IsPlaceOf, line_at, is_after, behind_character, behind_line_end}
 use Rattle.match_rules.specs.Atoms.{character_at, is_line_end, only_if, behind_if, behind_one, behind_one_or_end, Piece, character, line_end, behind_piece, behind_pieces, group_text, external_text, fits}
@@ -76,6 +76,7 @@ fits-kept x w FileStart h = only_if-kept x.text _ _ (λ _. h)
 fits-kept x w FileStop h = only_if-kept x.text _ _ (λ _. h)
 fits-kept x w MatchStart h = h
 fits-kept x w MatchStop h = h
+fits-kept x w (LineNumber how number) h = only_if-kept x.text _ _ (λ _. h)
 fits-kept x w (Ref number) h = behind_pieces-kept x (group_text x w number) w.at h
 fits-kept x w (ExternalRef number) h = behind_pieces-kept x (external_text x number) w.at h
 

@@ -7,7 +7,7 @@ use Rattle.syn_base.specs.declared.looked.Looked.{Looked}
 use Rattle.syn_base.specs.declared.places.Place.{Place}
 use Rattle.syn_base.specs.Looked.{hull_of, one_line}
 use Rattle.pattern_items.specs.declared.atom.Atom.{Atom}
-use Rattle.pattern_items.specs.declared.atom.Atom.TheVariants.{FileStart, FileStop, MatchStart, MatchStop, Ref, ExternalRef}
+use Rattle.pattern_items.specs.declared.atom.Atom.TheVariants.{FileStart, FileStop, MatchStart, MatchStop, LineNumber, Ref, ExternalRef}
 use Rattle.pattern_items.specs.declared.item.Behind.{Behind}
 use Rattle.vim_pattern.specs.Tree.{PatternTree}
 use Rattle.vim_pattern.specs.Shape.{Shape, empty, one, seq, or, and, group, external, repeat, ahead, before, whole}
@@ -77,6 +77,8 @@ lines_looked-within x w (Ref number) h =
 lines_looked-within x w (ExternalRef number) h =
     from-within x.text w.at.line (last_line_of x (external_text x number) w.at) h.line
     (last_line-within x (external_text x number) w.at h)
+lines_looked-within x w (LineNumber how number) h =
+    let own = one-within x.text w.at.line h.line in record { least = own.least; most = own.most }
 lines_looked-within x w _ h = one-within x.text w.at.line h.line
 
 -- ---- what a way notes

@@ -7,9 +7,11 @@ use Rattle.char_class.specs.declared.sets.Sets.{Sets}
 use Rattle.syn_base.specs.declared.class.Class.TheVariants.{Keyword}
 use Rattle.syn_base.specs.declared.looked.Looked.{Looked}
 use Rattle.syn_base.specs.declared.places.Place.{Place}
-use Rattle.syn_base.specs.Looked.{one_line, hull_of}
+use Rattle.syn_base.specs.Looked.{one_line, hull_of, numbered_too}
 use Rattle.pattern_items.specs.declared.atom.Atom.{Atom}
-use Rattle.pattern_items.specs.declared.atom.Atom.TheVariants.{Char, Any, Is, Set, LineEnd, LineStart, LineStop, WordStart, WordStop, FileStart, FileStop, MatchStart, MatchStop, Ref, ExternalRef}
+use Rattle.pattern_items.specs.declared.atom.Atom.TheVariants.{Char, Any, Is, Set, LineEnd, LineStart, LineStop, WordStart, WordStop, FileStart, FileStop, MatchStart, MatchStop, LineNumber, Ref, ExternalRef}
+use Rattle.pattern_items.specs.declared.atom.Compare.{Compare}
+use Rattle.pattern_items.specs.declared.atom.Compare.TheVariants.{At, Before, After}
 use Rattle.match_rules.specs.Ways.{Text, Context, Capture, Way, capture_of, line_at, behind_character, behind_line_end}
 use Rattle.match_rules.specs.Collections.{collection_holds}
 
@@ -103,6 +105,18 @@ keyword_in sets line (suc col) = has_keyword sets (slice_get line col)
 abbrev pub keyword_before : Context → Place → Bool
 keyword_before x p = keyword_in x.sets (line_at x.text p.line) p.col
 
+-- ---- line numbers
+
+-- how a line's number stands to the one that the pattern names
+abbrev pub stands : Compare → ℕ → ℕ → Bool
+stands At number line_number = nat_eq line_number number
+stands Before number line_number = nat_lt line_number number
+stands After number line_number = nat_lt number line_number
+
+-- lines count from 1 here
+abbrev pub number_of_line : ℕ → ℕ
+number_of_line line = line + 1
+
 -- ---- where an atom leads
 
 abbrev pub turned_round : Bool → Bool → Bool
@@ -127,6 +141,7 @@ fits x w FileStop =
     && nat_eq w.at.col (length (line_at x.text w.at.line))) w.at
 fits x w MatchStart = Some w.at
 fits x w MatchStop = Some w.at
+fits x w (LineNumber how number) = only_if (stands how number (number_of_line w.at.line)) w.at
 fits x w (Ref number) = behind_pieces x (group_text x w number) w.at
 fits x w (ExternalRef number) = behind_pieces x (external_text x number) w.at
 
@@ -143,7 +158,8 @@ abbrev pub line_behind : Text → ℕ → ℕ
 line_behind text l = if nat_lt l (length text) then l + 1 else l
 
 -- its own line; the file's start looks at the line before too, the file's stop at the one behind, and
--- a reference at the lines up to the one in which its text ends or fails to stand
+-- a reference at the lines up to the one in which its text ends or fails to stand. A line number alone
+-- looks at its line's number too
 abbrev pub lines_looked : Context → Way → Atom → Looked
 lines_looked x w FileStart = hull_of (own_line w) (one_line (pos w.at.line -ℤ pos 1))
 lines_looked x w FileStop = lines_from w.at.line (line_behind x.text w.at.line)
@@ -161,6 +177,7 @@ lines_looked x w WordStart = own_line w
 lines_looked x w WordStop = own_line w
 lines_looked x w MatchStart = own_line w
 lines_looked x w MatchStop = own_line w
+lines_looked x w (LineNumber how number) = numbered_too (own_line w)
 
 -- ---- the way behind an atom that fits
 

@@ -22,6 +22,17 @@ pub struct CharRanges {
     pub parts: List<SetPart>,
 }
 
+/// Which lines a line number in a pattern names (`/\%l`).
+#[derive(Clone, Copy, Debug, PartialEq, Eq)]
+pub enum Compare {
+    /// The line of that number (`/\%23l`).
+    At,
+    /// Each line before it (`/\%<23l`).
+    Before,
+    /// Each line after it (`/\%>23l`).
+    After,
+}
+
 /// What is tried at one place (`pattern-atoms`).
 #[derive(Drop)]
 pub enum Atom {
@@ -55,6 +66,12 @@ pub enum Atom {
     MatchStart,
     /// `/\ze`.
     MatchStop,
+    /// A place in the line of a number, or in one before or after it (`/\%l`). Lines count from 1
+    /// here, and the absent line behind the last has the next number.
+    LineNumber {
+        how: Compare,
+        number: u32,
+    },
     /// The text of a group, from 1 to 9 (`/\1`).
     Ref(u8),
     /// A text of the start match, from 1 to 9 (`/\z1`).

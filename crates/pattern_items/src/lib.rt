@@ -20,7 +20,7 @@ mod scan;
 mod spelling;
 mod vain;
 
-pub use atom::{Atom, CharRanges, SetPart};
+pub use atom::{Atom, CharRanges, Compare, SetPart};
 pub use cause::PatternCause;
 pub use collection::collection_end;
 pub use item::{Before, Behind, Kind, Level, Multi, PatternUse, Placed, Sign, Surroundings, Times};
