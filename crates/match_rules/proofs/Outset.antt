@@ -231,7 +231,7 @@ outset (before part negative limit) x y p q w v h =
       tried_behind-split y.text (visits y part) limit v,
     )
     (Same-behind Never (LooksHere p) (one_line (pos w.at.line -ℤ pos 1))
-    (one_line (pos v.at.line -ℤ pos 1)) (λ l k c. covers-hull p.line l _ c) (λ l ok. ok)
+    (one_line (pos v.at.line -ℤ pos 1)) (λ l k c. covers-hull p.line l (one_line (pos w.at.line -ℤ pos 1)) c) (λ l ok. ok)
     (Stands x.text y.text p q) ⊥ (λ l ok. ok)
     (ending_at w.at (visits x part w)) (ending_at w.at
     (from_each (visits x part) w (other_starts x.text limit w.at)))
