@@ -9,7 +9,7 @@ use Rattle.char_class.specs.Folds.{is_same}
 use Rattle.syn_base.specs.declared.places.Place.{Place}
 use Rattle.syn_base.specs.Looked.{one_line}
 use Rattle.pattern_items.specs.declared.atom.Atom.{Atom}
-use Rattle.pattern_items.specs.declared.atom.Atom.TheVariants.{Char, Any, Is, Set, LineEnd, LineStart, LineStop, WordStart, WordStop, FileStart, FileStop, MatchStart, MatchStop, Ref, ExternalRef}
+use Rattle.pattern_items.specs.declared.atom.Atom.TheVariants.{Char, Any, Is, Set, LineEnd, LineStart, LineStop, WordStart, WordStop, FileStart, FileStop, MatchStart, MatchStop, LineNumber, Ref, ExternalRef}
 use Rattle.vim_pattern.specs.Shape.{Shape, empty, one, seq, or, and, group, external, repeat, ahead, before, whole}
 use Rattle.match_rules.specs.Ways.{Context, Way, way_from, place, line_at, behind_character}
 use Rattle.match_rules.specs.Atoms.{character_at, only_if, behind_if, behind_one, behind_one_or_end, fits, lines_looked, turned_round}
@@ -78,6 +78,7 @@ plain-told x w next k FileStart p = absurd (cc)
 plain-told x w next k FileStop p = absurd (cc)
 plain-told x w next k MatchStart p = absurd (cc)
 plain-told x w next k MatchStop p = absurd (cc)
+plain-told x w next k (LineNumber how number) p = absurd (cc)
 plain-told x w next k (Ref number) p = absurd (cc)
 plain-told x w next k (ExternalRef number) p = absurd (cc)
 
@@ -101,6 +102,7 @@ plain-looks x w FileStart p = absurd (cc)
 plain-looks x w FileStop p = absurd (cc)
 plain-looks x w MatchStart p = refl
 plain-looks x w MatchStop p = refl
+plain-looks x w (LineNumber how number) p = absurd (cc)
 plain-looks x w (Ref number) p = absurd (cc)
 plain-looks x w (ExternalRef number) p = absurd (cc)
 

@@ -9,7 +9,7 @@ use Rattle.syn_base.specs.declared.looked.Looked.{Looked}
 use Rattle.syn_base.specs.declared.places.Place.{Place}
 use Rattle.syn_base.specs.Looked.{one_line}
 use Rattle.pattern_items.specs.declared.atom.Atom.{Atom}
-use Rattle.pattern_items.specs.declared.atom.Atom.TheVariants.{Char, Any, Is, Set, LineEnd, LineStart, LineStop, WordStart, WordStop, FileStart, FileStop, MatchStart, MatchStop, Ref, ExternalRef}
+use Rattle.pattern_items.specs.declared.atom.Atom.TheVariants.{Char, Any, Is, Set, LineEnd, LineStart, LineStop, WordStart, WordStop, FileStart, FileStop, MatchStart, MatchStop, LineNumber, Ref, ExternalRef}
 use Rattle.vim_pattern.specs.Shape.{Shape, empty, one, seq, or, and, group, external, repeat, ahead, before, whole}
 use Rattle.match_rules.specs.Ways.{Context, Way, line_at, is_after, behind_character}
 use Rattle.match_rules.specs.Atoms.{character_at, only_if, behind_if, behind_one, behind_one_or_end, fits, way_behind, turned_round}
@@ -146,6 +146,7 @@ atom-lined x line w FileStart e h = absurd (cc)
 atom-lined x line w FileStop e h = absurd (cc)
 atom-lined x line w MatchStart e h = tick-lined x line w MatchStart (fits x w MatchStart) _ (in-line w line h.on) (λ p k. h) h
 atom-lined x line w MatchStop e h = tick-lined x line w MatchStop (fits x w MatchStop) _ (in-line w line h.on) (λ p k. h) h
+atom-lined x line w (LineNumber how number) e h = absurd (cc)
 atom-lined x line w (Ref number) e h = absurd (cc)
 atom-lined x line w (ExternalRef number) e h = absurd (cc)
 

@@ -17,7 +17,7 @@ use Rattle.match_rules.proofs.MarkLaws.{AllWays, AllWays-append}
 use Rattle.pattern_screens.specs.Screens.{behind_here}
 use Rattle.pattern_screens.specs.Lined.{is_lined, is_near, tries_first, any_ways, any_cost, most_starts}
 use Rattle.pattern_screens.specs.ScreenLaw.{two_lines}
-use Rattle.pattern_screens.proofs.Stands.{Stands, ways_of, ticks_of, AllTicks, SomeTick, IsSeen, Within, hull-two, ways-append, ticks-append, AllTicks-append, AllTicks-under, SomeTick-left}
+use Rattle.pattern_screens.proofs.Stands.{Stands, ways_of, ticks_of, AllTicks, SomeTick, IsSeen, Within, ways-append, ticks-append, AllTicks-append, AllTicks-under, SomeTick-left}
 use Rattle.pattern_screens.proofs.StillParts.{first-ways, first-ticks, first-here, first-seen}
 use Rattle.pattern_screens.proofs.LinedParts.{Lined, lined, BeginsWithTick, tick-begins}
 
@@ -158,14 +158,14 @@ abbrev Near : ℕ → Looked → Type 0
 Near line l = (l ≡ one_line (pos line)) ⊎ (l ≡ one_line (pos line -ℤ pos 1))
 
 within-both : (line : ℕ) → Within line (two_lines line)
-within-both line = record { low = grind (arith, ints); high = grind (arith, ints) }
+within-both line = record { low = grind (arith, ints); high = grind (arith, ints); unnumbered = refl }
 
 within-before : (line : ℕ) → Within line (hull_of (one_line (pos line -ℤ pos 1)) (one_line (pos line -ℤ pos 1)))
-within-before line = record { low = grind (arith, ints); high = grind (arith, ints) }
+within-before line = record { low = grind (arith, ints); high = grind (arith, ints); unnumbered = refl }
 
 near-within : (line : ℕ) (l : Looked) → Near line l → Within line (hull_of l (one_line (pos line -ℤ pos 1)))
 near-within line l h = elim h [
-  | inl e ↦ subst (λ m. Within line (hull_of m (one_line (pos line -ℤ pos 1)))) (sym e) (subst (Within line) (sym (hull-two line)) (within-both line))
+  | inl e ↦ subst (λ m. Within line (hull_of m (one_line (pos line -ℤ pos 1)))) (sym e) (within-both line)
   | inr e ↦ subst (λ m. Within line (hull_of m (one_line (pos line -ℤ pos 1)))) (sym e) (within-before line)
 ]
 
@@ -201,7 +201,7 @@ each-near x line part e w (p ∷ places) s =
 first-two : (line : ℕ) (q : Place) (a b : List Mark) → BeginsWithTick a → AllTicks (λ l. l ≡ one_line (pos line)) a →
     SomeTick (λ l. l ≡ two_lines line) (ticks_first (looking_at (one_line (pos line -ℤ pos 1)) (ending_at q (a ++ b))))
 first-two line q [] b h s = absurd h
-first-two line q (Tick m ∷ a) b h s = inl (ap (λ l. hull_of l (one_line (pos line -ℤ pos 1))) s.0 ∙ hull-two line)
+first-two line q (Tick m ∷ a) b h s = inl (ap (λ l. hull_of l (one_line (pos line -ℤ pos 1))) s.0)
 first-two line q (Reach w ∷ a) b h s = absurd h
 
 behind-two : (x : Context) (part : Shape) → is_lined part ≡ true → (limit : Behind) (w : Way) → w.at.col ≤ length (line_at x.text w.at.line) → tries_first part ≡ true →

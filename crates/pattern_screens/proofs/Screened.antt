@@ -213,7 +213,7 @@ greater-same : (a : ℤ) → greater a a ≡ a
 greater-same a = grind (arith, ints)
 
 same-line : (line : ℕ) → hull_of (one_line (pos line)) (one_line (pos line)) ≡ one_line (pos line)
-same-line line = λ i. record { low = lesser-same (pos line) i; high = greater-same (pos line) i }
+same-line line = λ i. record { low = lesser-same (pos line) i; high = greater-same (pos line) i; numbered = false }
 
 answer-here : (line n : ℕ) (l : Option Looked) (marks : List Mark) → ways_of marks ≡ 0 → or_line line l ≡ one_line (pos line) → AllTicks (IsSeen line false) marks → or_line line (answer_from n l marks).looked ≡ one_line (pos line)
 answer-here line n l [] h o t = o
@@ -239,12 +239,27 @@ WithinOrNone line None = Unit {0}
 WithinOrNone line (Some l) = Within line l
 
 within-hull : (line : ℕ) (a b : Looked) → Within line a → Within line b → Within line (hull_of a b)
-within-hull line a b h k = record { low = grind (arith, ints, h.low, k.low); high = grind (arith, ints, h.high, k.high) }
+within-hull line a b h k = record {
+  low = grind (arith, ints, h.low, k.low);
+  high = grind (arith, ints, h.high, k.high);
+  unnumbered = λ i. h.unnumbered i || k.unnumbered i;
+}
 
 least-two : (line : ℕ) (a : Looked) → Within line a → (hull_of (two_lines line) a ≡ two_lines line) × (hull_of a (two_lines line) ≡ two_lines line)
 least-two line a h =
-    let m : ℤ = pos line -ℤ pos 1 in
-    (λ i. record { low = low-left m a.low h.low i; high = high-left (pos line) a.high h.high i }, λ i. record { low = low-right m a.low h.low i; high = high-right (pos line) a.high h.high i })
+    let low : (pos line -ℤ pos 1) ≤ℤ a.low = h.low in
+    let high : a.high ≤ℤ pos line = h.high in (
+      λ i. record {
+        low = low-left (two_lines line).low a.low (grind (arith, ints, low)) i;
+        high = high-left (two_lines line).high a.high (grind (arith, ints, high)) i;
+        numbered = h.unnumbered i;
+      },
+      λ i. record {
+        low = low-right (two_lines line).low a.low (grind (arith, ints, low)) i;
+        high = high-right (two_lines line).high a.high (grind (arith, ints, high)) i;
+        numbered = h.unnumbered i || false;
+      },
+    )
 
 -- the hull of both lines, met or still to be met
 abbrev Meets : ℕ → Option Looked → List Mark → Type 0

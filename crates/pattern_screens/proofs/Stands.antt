@@ -5,7 +5,7 @@ use Rattle.std.proofs.lemmas.Int.{ints}
 use Rattle.std.proofs.Math.Nat.{suc-mul, mul-le-mul_right}
 use Rattle.syn_base.specs.declared.looked.Looked.{Looked}
 use Rattle.syn_base.specs.declared.places.Place.{Place}
-use Rattle.syn_base.specs.Looked.{one_line, hull_of, lesser, greater}
+use Rattle.syn_base.specs.Looked.{one_line}
 use Rattle.match_rules.specs.Ways.{Way}
 use Rattle.match_rules.specs.Marks.{Mark, Tick, Reach, followed}
 use Rattle.match_rules.proofs.MarkLaws.{AllWays, AllWays-append, AllWays-followed}
@@ -117,18 +117,11 @@ followed-none (Reach w ∷ a) f h = absurd (omega arith)
 
 -- ---- marks that stand still
 
+-- among a line and the one before, and at no number
 pub record Within (line : ℕ) (looked : Looked) : Type 0 where
   pub low : (pos line -ℤ pos 1) ≤ℤ looked.low
   pub high : looked.high ≤ℤ pos line
-
-low-of : (line : ℕ) → lesser (pos line) (pos line -ℤ pos 1) ≡ pos line -ℤ pos 1
-low-of line = grind (arith, ints)
-
-high-of : (line : ℕ) → greater (pos line) (pos line -ℤ pos 1) ≡ pos line
-high-of line = grind (arith, ints)
-
-pub hull-two : (line : ℕ) → hull_of (one_line (pos line)) (one_line (pos line -ℤ pos 1)) ≡ two_lines line
-hull-two line = λ i. record { low = low-of line i; high = high-of line i }
+  pub unnumbered : looked.numbered ≡ false
 
 abbrev pub IsSeen : ℕ → Bool → Looked → Type 0
 IsSeen line false looked = looked ≡ one_line (pos line)
@@ -173,7 +166,7 @@ both_false true b h = absurd (cc)
 both_false false b h = (refl, h)
 
 within-one : (line : ℕ) (l : Looked) → l ≡ one_line (pos line) → Within line l
-within-one line l h = subst (λ k. Within line k) (sym h) (record { low = grind (arith, ints); high = grind (arith, ints) })
+within-one line l h = subst (λ k. Within line k) (sym h) (record { low = grind (arith, ints); high = grind (arith, ints); unnumbered = refl })
 
 pub seen-left : (line : ℕ) (a b : Bool) (l : Looked) → IsSeen line a l → IsSeen line (a || b) l
 seen-left line true b l h = h

@@ -11,7 +11,7 @@ use Rattle.syn_base.specs.declared.looked.Looked.{Looked}
 use Rattle.syn_base.specs.declared.places.Place.{Place}
 use Rattle.syn_base.specs.Looked.{one_line}
 use Rattle.pattern_items.specs.declared.atom.Atom.{Atom}
-use Rattle.pattern_items.specs.declared.atom.Atom.TheVariants.{Char, Any, Is, Set, LineEnd, LineStart, LineStop, WordStart, WordStop, FileStart, FileStop, MatchStart, MatchStop, Ref, ExternalRef}
+use Rattle.pattern_items.specs.declared.atom.Atom.TheVariants.{Char, Any, Is, Set, LineEnd, LineStart, LineStop, WordStart, WordStop, FileStart, FileStop, MatchStart, MatchStop, LineNumber, Ref, ExternalRef}
 use Rattle.match_rules.specs.Ways.{Context, Way, line_at, place, behind_character, behind_line_end}
 use Rattle.match_rules.specs.Atoms.{character_at, is_line_end, only_if, behind_if, behind_one, behind_one_or_end, fits, lines_looked, way_behind, keyword_at, keyword_before, keyword_in, has_keyword, turned_round}
 use Rattle.match_rules.specs.Collections.{collection_holds}
@@ -26,7 +26,7 @@ use Rattle.pattern_screens.specs.declared.key.Next.TheVariants as next
 use Rattle.pattern_screens.specs.declared.still.Still.{Still}
 use Rattle.pattern_screens.specs.Screens.{still, at_file_start, unless, still_atom}
 use Rattle.pattern_screens.specs.ScreenLaw.{two_lines}
-use Rattle.pattern_screens.proofs.Stands.{Stands, Stands-bounds, Within, hull-two}
+use Rattle.pattern_screens.proofs.Stands.{Stands, Stands-bounds, Within}
 use Rattle.pattern_screens.proofs.Taking.{not-taken}
 
 -- a place's key
@@ -117,7 +117,7 @@ tick-if w a true false e h = absurd (cc)
 tick-if w a false true e h = absurd (cc)
 
 within-two : (line : ℕ) → Within line (two_lines line)
-within-two line = record { low = grind (arith, ints); high = grind (arith, ints) }
+within-two line = record { low = grind (arith, ints); high = grind (arith, ints); unnumbered = refl }
 
 file-tick : (w : Way) (l : Looked) (b c : Bool) → l ≡ two_lines w.at.line → (b ≡ false → c ≡ false) → Stands w.at (at_file_start b) 1 1 (Tick l ∷ behind_fit w FileStart (only_if c w.at))
 file-tick w l b true e h = record {
@@ -219,9 +219,10 @@ atom-stands x w key k WordStop s e =
     (λ i. k.after i && not (k.keyword i)) refl e
 atom-stands x w key k FileStart s e =
     subst (λ r. Stands w.at r 1 1 (tried x w FileStart)) (same_Some (at_file_start (is_first key.last)) s e)
-    (file-tick w (lines_looked x w FileStart) (is_first key.last) (nat_eq w.at.line 0 && nat_eq w.at.col 0) (hull-two w.at.line) (λ h. and-ends (nat_eq w.at.line 0) (nat_eq w.at.col 0) (is_first key.last) k.first h))
+    (file-tick w (lines_looked x w FileStart) (is_first key.last) (nat_eq w.at.line 0 && nat_eq w.at.col 0) refl (λ h. and-ends (nat_eq w.at.line 0) (nat_eq w.at.col 0) (is_first key.last) k.first h))
 atom-stands x w key k FileStop s e = absurd (none-some s e)
 atom-stands x w key k MatchStart s e = standing w MatchStart true true s refl refl e
 atom-stands x w key k MatchStop s e = standing w MatchStop true true s refl refl e
+atom-stands x w key k (LineNumber how number) s e = absurd (none-some s e)
 atom-stands x w key k (Ref number) s e = absurd (none-some s e)
 atom-stands x w key k (ExternalRef number) s e = absurd (none-some s e)

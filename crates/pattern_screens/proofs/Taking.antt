@@ -10,7 +10,7 @@ use Rattle.char_class.specs.declared.sets.Sets.{Sets}
 use Rattle.syn_base.specs.declared.class.Class.{Class}
 use Rattle.syn_base.specs.declared.class.Class.TheVariants.{White, Digit, Hex, Octal, Word, Head, Alpha, Lower, Upper, Ident, Keyword, File, Print, IdentNoDigit, KeywordNoDigit, FileNoDigit, PrintNoDigit}
 use Rattle.pattern_items.specs.declared.atom.Atom.{Atom}
-use Rattle.pattern_items.specs.declared.atom.Atom.TheVariants.{Char, Any, Is, Set, LineEnd, LineStart, LineStop, WordStart, WordStop, FileStart, FileStop, MatchStart, MatchStop, Ref, ExternalRef}
+use Rattle.pattern_items.specs.declared.atom.Atom.TheVariants.{Char, Any, Is, Set, LineEnd, LineStart, LineStop, WordStart, WordStop, FileStart, FileStop, MatchStart, MatchStop, LineNumber, Ref, ExternalRef}
 use Rattle.pattern_items.specs.declared.atom.SetPart.{SetPart}
 use Rattle.pattern_items.specs.declared.atom.SetPart.TheVariants.{Range, Of, Punct, Cntrl, Graph, Space}
 use Rattle.match_rules.specs.Atoms.{turned_round}
@@ -118,6 +118,7 @@ other-not sets ignore FileStart c h e = absurd (cc)
 other-not sets ignore FileStop c h e = absurd (cc)
 other-not sets ignore MatchStart c h e = absurd (cc)
 other-not sets ignore MatchStop c h e = absurd (cc)
+other-not sets ignore (LineNumber how number) c h e = absurd (cc)
 other-not sets ignore (Ref number) c h e = absurd (cc)
 other-not sets ignore (ExternalRef number) c h e = absurd (cc)
 

@@ -4,7 +4,7 @@
 use Rattle.std.specs.Prelude.{◌≡◌, ℕ, ◌≤◌, pos, ◌-ℤ◌, Bool, true, false, None, length, if◌then◌else◌}
 use Rattle.syn_base.specs.declared.looked.Looked.{Looked}
 use Rattle.syn_base.specs.declared.places.Place.{Place}
-use Rattle.syn_base.specs.Looked.{one_line}
+use Rattle.syn_base.specs.Looked.{hull_of, one_line}
 use Rattle.char_class.specs.declared.sets.Sets.{Sets}
 use Rattle.vim_pattern.specs.Tree.{PatternTree}
 use Rattle.match_rules.specs.Ways.{Context, place, line_at}
@@ -18,7 +18,7 @@ use Rattle.pattern_screens.specs.Bounds.{failing_cost}
 
 -- a line and the one before
 abbrev pub two_lines : ℕ → Looked
-two_lines line = record { low = pos line -ℤ pos 1; high = pos line }
+two_lines line = hull_of (one_line (pos line)) (one_line (pos line -ℤ pos 1))
 
 abbrev pub lines_seen : Bool → ℕ → Looked
 lines_seen before line = if before then two_lines line else one_line (pos line)

@@ -116,7 +116,10 @@ fn still_look(part: &Node, known: Option<Still>, negative: bool) -> Option<Still
     }
 }
 
-/// What an atom does.
+/// What an atom does. Nothing may be said of a line number: whether it fits hangs on the number of
+/// the line, which no key tells, while what a screen says is kept for all lines with that key. A
+/// verdict beside it would also let pass over an attempt that looks at the number, and the painted
+/// line would then be taken over where it stands at another number.
 fn still_atom(atom: &Atom, by: &By, key: Key) -> Option<Still>
     ensures { result ≡ still_atom by.now.sets.now by.now.ignore key atom.now }
 {
@@ -135,6 +138,6 @@ fn still_atom(atom: &Atom, by: &By, key: Key) -> Option<Still>
         }
         Atom::FileStart => Some(at_file_start(is_first(key.last))),
         Atom::MatchStart | Atom::MatchStop => Some(still(true)),
-        Atom::FileStop | Atom::Ref(_) | Atom::ExternalRef(_) => None,
+        Atom::FileStop | Atom::LineNumber { .. } | Atom::Ref(_) | Atom::ExternalRef(_) => None,
     }
 }
