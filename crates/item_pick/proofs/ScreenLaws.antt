@@ -1,6 +1,6 @@
 -- Where the screen fails, an attempt tells nothing that isn't known.
 use Rattle.std.proofs.Common.{◌≡◌, ◌∙◌, refl, sym, ap, subst, arith, ℕ, ◌≤◌, Bool, true, false, length}
-use Rattle.std.specs.Prelude.{Some, None, ℤ, pos, int_lt, cond, nat_lt}
+use Rattle.std.specs.Prelude.{Some, None, ℤ, pos, ◌||◌, nat_lt}
 use Rattle.std.proofs.lemmas.Int.{ints}
 use Rattle.std.proofs.lemmas.Bool.Decides.{nat_tests}
 use Rattle.syn_base.specs.declared.looked.Looked.{Looked}
@@ -16,26 +16,11 @@ use Rattle.paint_rules.specs.ItemMatch.{match_from}
 use Rattle.item_pick.specs.Attempts.{IsFutile}
 use Rattle.item_pick.specs.Columns.{may_start_at}
 use Rattle.item_pick.specs.Screens.{HoldsLine, HoldsLines, IsIdle}
-use Rattle.paint_rules.proofs.PaintedLaws.{hull_assoc}
+use Rattle.syn_base.proofs.HullLaws.{hull_assoc, hull_comm, hull_self}
 use Rattle.item_pick.proofs.MatchLaws.{match_absent, no_start}
 
-min_comm : (a b : ℤ) → cond (int_lt b a) b a ≡ cond (int_lt a b) a b
-min_comm a b = grind (arith, ints)
-
-max_comm : (a b : ℤ) → cond (int_lt a b) b a ≡ cond (int_lt b a) a b
-max_comm a b = grind (arith, ints)
-
-hull_comm : (a b : Looked) → hull_of a b ≡ hull_of b a
-hull_comm a b = λ i. record { low = min_comm a.low b.low i; high = max_comm a.high b.high i }
-
-same_least : (a : ℤ) → lesser a a ≡ a
-same_least a = grind (arith, ints)
-
-same_greatest : (a : ℤ) → greater a a ≡ a
-same_greatest a = grind (arith, ints)
-
 pub holds_itself : (l : ℕ) → HoldsLine (one_line (pos l)) l
-holds_itself l = λ i. record { low = same_least (pos l) i; high = same_greatest (pos l) i }
+holds_itself l = hull_self (one_line (pos l))
 
 -- lines looked at stay among those looked at
 wider : (j n : Looked) (l : ℕ) → HoldsLine j l → HoldsLine (hull_of j n) l
@@ -50,12 +35,21 @@ lesser_less k a b e = (grind (arith, ints), grind (arith, ints))
 greater_less : (k a b : ℤ) → greater k (greater a b) ≡ k → (greater k a ≡ k) × (greater k b ≡ k)
 greater_less k a b e = (grind (arith, ints), grind (arith, ints))
 
+or_less : (k a b : Bool) → (k || (a || b)) ≡ k → ((k || a) ≡ k) × ((k || b) ≡ k)
+or_less true a b e = (refl, refl)
+or_less false false false e = (refl, refl)
+or_less false true b e = absurd (cc)
+or_less false false true e = absurd (cc)
+
 -- where the lines of two were looked at, those of each were
 pub each_held : (k a b : Looked) → HoldsLines k (hull_of a b) → HoldsLines k a × HoldsLines k b
 each_held k a b h =
     let low = lesser_less k.low a.low b.low (ap (λ (x : Looked). x.low) h) in
     let high = greater_less k.high a.high b.high (ap (λ (x : Looked). x.high) h) in
-    (λ i. record { low = low.0 i; high = high.0 i }, λ i. record { low = low.1 i; high = high.1 i })
+    let numbered = or_less k.numbered a.numbered b.numbered (ap (λ (x : Looked). x.numbered) h) in (
+      λ i. record { low = low.0 i; high = high.0 i; numbered = numbered.0 i },
+      λ i. record { low = low.1 i; high = high.1 i; numbered = numbered.1 i },
+    )
 
 abbrev looked_then : {E A : Type 0} → Looked → Painted E A → Looked
 looked_then j (Done a None) = j

@@ -1,9 +1,9 @@
 -- Turns at a column: close, and then start what a pick finds.
 use Rattle.std.proofs.Common.{◌≡◌, ◌<◌, ℕ, suc, ◌-◌, Bool, true, false, List, ◌∷◌, reverse, refl, sym, ap, ◌∙◌, subst, arith}
-use Rattle.std.specs.Prelude.{ℤ, Option, Some, None, Result, Ok, Err, IfOk}
-use Rattle.std.proofs.lemmas.Int.{ints}
+use Rattle.std.specs.Prelude.{Option, Some, None, Result, Ok, Err, IfOk}
 use Rattle.syn_base.specs.declared.looked.Looked.{Looked}
-use Rattle.syn_base.specs.Looked.{hull_of, lesser, greater}
+use Rattle.syn_base.specs.Looked.{hull_of}
+use Rattle.syn_base.proofs.HullLaws.{hull_assoc, hull_comm}
 use Rattle.paint_rules.specs.Frames.{Frame}
 use Rattle.syn_base.specs.declared.places.ItemId.{ItemId}
 use Rattle.paint_rules.specs.declared.Waiting.{Waiting}
@@ -19,7 +19,7 @@ use Rattle.line_paint.specs.Answers.{Stops}
 use Rattle.line_paint.specs.Leads.{Stands, standing_of}
 use Rattle.paint_rules.specs.States.{Fits, WaitFits}
 use Rattle.line_paint.specs.Turns.{Next, More, Last, after_pick, next_start, turn, Held, LeadsNext}
-use Rattle.paint_rules.proofs.PaintedLaws.{hull_assoc, first_none, first_bind, bind_assoc, goes_on, refusal_first}
+use Rattle.paint_rules.proofs.PaintedLaws.{first_none, first_bind, bind_assoc, goes_on, refusal_first}
 use Rattle.line_paint.proofs.ComesLaws.{stops_bind, stops_then, stops_whole}
 
 pub two_stand : {A : Type 0} (n c : ℕ) (r : Result A Stop) (from to : StandingCode) (i : ItemId)
@@ -37,15 +37,6 @@ two_stand n c (Ok a) from to i body area b e h s f k w =
       omega (arith, k),
     )
 two_stand n c (Err x) from to i body area b e h s f k w = tt
-
-lesser_comm : (a b : ℤ) → lesser a b ≡ lesser b a
-lesser_comm a b = grind (arith, ints)
-
-greater_comm : (a b : ℤ) → greater a b ≡ greater b a
-greater_comm a b = grind (arith, ints)
-
-hull_comm : (a b : Looked) → hull_of a b ≡ hull_of b a
-hull_comm a b = λ i. record { low = lesser_comm a.low b.low i; high = greater_comm a.high b.high i }
 
 held_more : (one j m : Looked) → Held one j → Held one (hull_of j m)
 held_more one j m h =

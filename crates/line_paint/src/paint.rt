@@ -263,7 +263,7 @@ fn counted_here<S: Site>(site: &S, looked: Looked) -> Result<Looked, Memory>
     ensures { IfOk result (λ here. looked ≡ moved_by here (pos (S.here site.now).line)) }
 {
     let line = site.line() as i64;
-    let low = looked.low.checked_sub(line).ok_or(Memory)?;
-    let high = looked.high.checked_sub(line).ok_or(Memory)?;
-    Ok(Looked { low, high })
+    looked.low.checked_sub(line).ok_or(Memory)?;
+    looked.high.checked_sub(line).ok_or(Memory)?;
+    Ok(looked.moved(-line))
 }

@@ -13,7 +13,8 @@ use Rattle.match_rules.specs.Marks.{Mark, Tick, Reach}
 use Rattle.match_rules.specs.Visits.{visits}
 use Rattle.match_rules.specs.Attempt.{answer_from, answer_of, for_tree, attempt, lines_of, or_place, match_from, match_to, not_before}
 use Rattle.match_rules.specs.Locality.{AreAlike, IsMoved, IsMovedCapture, IsMovedMatch, IsMovedWay, IsMovedAnswer}
-use Rattle.match_rules.proofs.Hulls.{hull-moved, hull-parts}
+use Rattle.match_rules.proofs.Hulls.{hull-parts}
+use Rattle.syn_base.proofs.HullLaws.{hull_moved}
 use Rattle.match_rules.proofs.LocalMarks.{visits-moved}
 use Rattle.match_rules.proofs.Outset.{Covers, Outset, outset}
 use Rattle.match_rules.proofs.Sides.{Two, other, shift, AgreesOn, AgreesOver, Moved}
@@ -108,7 +109,7 @@ answer_from-moved two p q cost l (Tick a ∷ ms) ns m here h ok =
     let agrees : AgreesOver two a = (hull-parts two l a (hull_to-covers two (hull_of l a) ms ok)).1
     in
     let hull : hull_of (moved_by l (shift two)) h.0 ≡ moved_by (hull_of l a) (shift two) =
-    ap (λ k. hull_of (moved_by l (shift two)) k) (h.3 agrees) ∙ hull-moved l a (shift two) in
+    ap (λ k. hull_of (moved_by l (shift two)) k) (h.3 agrees) ∙ hull_moved l a (shift two) in
     rw h.2
     (subst (λ (k : Looked). IsMovedAnswer two.x (other two) (shift two) p q
     (answer_from (suc cost) (Some (hull_of l a)) ms) (answer_from (suc cost) (Some k) h.1))

@@ -1,22 +1,9 @@
 -- What was looked at before stays before what follows, and a refusal stays one.
-use Rattle.std.proofs.Common.{◌≡◌, refl, sym, ap, ◌∙◌, arith}
-use Rattle.std.specs.Prelude.{Option, Some, None, ℤ}
-use Rattle.std.proofs.lemmas.Int.{ints}
+use Rattle.std.proofs.Common.{◌≡◌, refl, sym, ap, ◌∙◌}
+use Rattle.std.specs.Prelude.{Option, Some, None}
 use Rattle.syn_base.specs.declared.looked.Looked.{Looked}
-use Rattle.syn_base.specs.Looked.{hull_of, lesser, greater}
+use Rattle.syn_base.proofs.HullLaws.{hull_assoc}
 use Rattle.paint_rules.specs.Painted.{Painted, Done, Refused, looked_both, looked_first, ◌>>=◌, refusal_of}
-
-lesser_assoc : (a b c : ℤ) → lesser (lesser a b) c ≡ lesser a (lesser b c)
-lesser_assoc a b c = grind (arith, ints)
-
-greater_assoc : (a b c : ℤ) → greater (greater a b) c ≡ greater a (greater b c)
-greater_assoc a b c = grind (arith, ints)
-
-pub hull_assoc : (a b c : Looked) → hull_of (hull_of a b) c ≡ hull_of a (hull_of b c)
-hull_assoc a b c = λ i. record {
-  low = lesser_assoc a.low b.low c.low i;
-  high = greater_assoc a.high b.high c.high i;
-}
 
 pub both_assoc : (a b c : Option Looked) → looked_both (looked_both a b) c ≡ looked_both a (looked_both b c)
 both_assoc None b c = refl

@@ -6,3 +6,4 @@ pub mod CountLaws
 pub mod LevelLaws
 pub mod PlaceLaws
 pub mod NumberLaws
+pub mod DigitLaws

@@ -1,10 +1,12 @@
 -- The items of a text have numbers from 1 to 9.
-use Rattle.std.proofs.Common.{◌≡◌, ℕ, zero, suc, ◌+◌, ◌-◌, ◌<◌, List, [], ◌∷◌, Bool, true, false, Some, None, refl, arith, rules, take, drop}
+use Rattle.std.proofs.Common.{◌≡◌, ℕ, zero, suc, ◌+◌, ◌-◌, ◌<◌, List, [], ◌∷◌, length, Bool, true, false, Some, None, refl, arith, rules, take, drop}
 use Rattle.std.specs.Prelude.{◌||◌, Option, cond, nat_eq, nat_le, nat_lt}
 use Rattle.std.proofs.lemmas.Bool.{ltb-true}
 use Rattle.syn_base.specs.declared.class.Class.{Class}
 use Rattle.pattern_items.specs.declared.atom.Atom.{Atom}
 use Rattle.pattern_items.specs.declared.atom.Atom.TheVariants as atom
+use Rattle.pattern_items.specs.declared.atom.Compare.{Compare}
+use Rattle.pattern_items.specs.declared.atom.Compare.TheVariants.{At, Before, After}
 use Rattle.pattern_items.specs.declared.cause.PatternCause.{PatternCause}
 use Rattle.pattern_items.specs.declared.codes.Code.{Code}
 use Rattle.pattern_items.specs.declared.codes.Notation.{Notation}
@@ -27,7 +29,7 @@ use Rattle.pattern_items.specs.Collection.{collection_len, pieces, members, body
 use Rattle.pattern_items.specs.GroupNumbers.{IsOneToNine, HasNumber}
 use Rattle.pattern_items.specs.Letters as letters
 use Rattle.pattern_items.specs.Multis as multis
-use Rattle.pattern_items.specs.Numbers.{Digits, digits}
+use Rattle.pattern_items.specs.Numbers.{Digits, digits, front_digits, behind_digits}
 use Rattle.pattern_items.specs.Spelling as spelling
 
 -- What is spelled.
@@ -124,20 +126,23 @@ wrong_has c n = record { is = tt }
 left_out_has : (n : ℕ) → Has (spelling.spelled raw.LeftOut n)
 left_out_has n = record { is = tt }
 
-with_unit_has : (n count : ℕ) (cs : List ℕ) → Has (spelling.with_unit n count cs)
-with_unit_has n count [] = wrong_has _ n
-with_unit_has n count (c ∷ cs) = has_if (spelling.is_unit c) _ _ (left_out_has _) (wrong_has _ n)
+line_number_has : (n : ℕ) (how : Compare) (digits : List ℕ) → Has (spelling.line_number n how digits)
+line_number_has n how digits = has_if (nat_le (length digits) 9) _ _ (record { is = tt }) (wrong_has _ n)
 
-positioned_has : (n : ℕ) (d : Digits) → Has (spelling.positioned n d)
-positioned_has n d = has_if (nat_eq d.count 0) _ _ (wrong_has _ n) (with_unit_has n d.count d.rest)
+with_unit_has : (n : ℕ) (how : Compare) (digits cs : List ℕ) → Has (spelling.with_unit n how digits cs)
+with_unit_has n how digits [] = wrong_has _ n
+with_unit_has n how digits (c ∷ cs) = has_if (nat_eq c 108) _ _ (line_number_has n how digits) (has_if _ _ _ (left_out_has _) (wrong_has _ n))
+
+positioned_has : (n : ℕ) (how : Compare) (text : List ℕ) → Has (spelling.positioned n how text)
+positioned_has n how text = has_if (nat_eq (length (front_digits text)) 0) _ _ (wrong_has _ n) (with_unit_has n how (front_digits text) (behind_digits text))
 
 mark_has : (n : ℕ) (cs : List ℕ) → Has (spelling.mark n cs)
 mark_has n [] = wrong_has _ n
 mark_has n (c ∷ cs) = left_out_has (n + 1)
 
-compared_has : (n : ℕ) (cs : List ℕ) → Has (spelling.compared n cs)
-compared_has n [] = wrong_has _ n
-compared_has n (c ∷ cs) = has_if (nat_eq c 39) _ _ (mark_has (n + 1) cs) (positioned_has n (digits (c ∷ cs)))
+compared_has : (n : ℕ) (how : Compare) (cs : List ℕ) → Has (spelling.compared n how cs)
+compared_has n how [] = wrong_has _ n
+compared_has n how (c ∷ cs) = has_if (nat_eq c 39) _ _ (mark_has (n + 1) cs) (positioned_has n how (c ∷ cs))
 
 coded_as_has : (n count : ℕ) (o : Option ℕ) → Has (spelling.coded_as n count o)
 coded_as_has n count None = wrong_has _ n
@@ -163,7 +168,7 @@ engine_has false n cs = left_out_has n
 
 code_or_has : (n c : ℕ) (cs : List ℕ) (o : Option Notation) → Has (spelling.code_or n c cs o)
 code_or_has n c cs (Some notation) = with_code_has (n + 1) (code notation cs)
-code_or_has n c cs None = positioned_has n (digits (c ∷ cs))
+code_or_has n c cs None = positioned_has n At (c ∷ cs)
 
 plain_has : (n : ℕ) → Has (spelling.spelled raw.Plain n)
 plain_has n = record { is = tt }
@@ -184,7 +189,8 @@ percent_has first n (c ∷ cs) =
     has_if _ _ _ (left_out_has _) (
     has_if (nat_eq c 35) _ _ (engine_has first (n + 1) cs) (
     has_if (nat_eq c 39) _ _ (mark_has (n + 1) cs) (
-    has_if _ _ _ (compared_has (n + 1) cs) (code_or_has n c cs (notation_of c)))))))))
+    has_if (nat_eq c 60) _ _ (compared_has (n + 1) Before cs) (
+    has_if (nat_eq c 62) _ _ (compared_has (n + 1) After cs) (code_or_has n c cs (notation_of c))))))))))
 
 -- the number of a digit from 1 on
 number_is : (c : ℕ) → spelling.is_number c ≡ true → IsOneToNine (c - 48)

@@ -1,14 +1,16 @@
 -- The spelling of an item at a level of magic (Vim's help, /magic). In each definition `n`
 -- characters have been read,
 -- and `first` says that no character of the pattern stands before the item.
-use Rattle.std.specs.Prelude.{ℕ, ◌==◌, ◌+◌, ◌-◌, nat_eq, nat_le, ◌&&◌, ◌||◌, List, [], ◌∷◌, Option, Some, None, Bool, true, false, if◌then◌else◌}
+use Rattle.std.specs.Prelude.{ℕ, ◌==◌, ◌+◌, ◌-◌, nat_eq, nat_le, ◌&&◌, ◌||◌, List, [], ◌∷◌, length, Option, Some, None, Bool, true, false, if◌then◌else◌}
 use Rattle.pattern_items.specs.declared.item.Level.{Level}
 use Rattle.pattern_items.specs.declared.item.Level.TheVariants.{VeryNo, No, Usual, Very}
 use Rattle.pattern_items.specs.declared.item.Raw.{Raw}
 use Rattle.pattern_items.specs.declared.item.Raw.TheVariants as raw
 use Rattle.pattern_items.specs.declared.item.Spelled.{Spelled}
 use Rattle.pattern_items.specs.declared.atom.Atom.{Atom}
-use Rattle.pattern_items.specs.declared.atom.Atom.TheVariants.{Char, Any, LineEnd, LineStart, LineStop, WordStart, WordStop, FileStart, FileStop, MatchStart, MatchStop}
+use Rattle.pattern_items.specs.declared.atom.Atom.TheVariants.{Char, Any, LineEnd, LineStart, LineStop, WordStart, WordStop, FileStart, FileStop, MatchStart, MatchStop, LineNumber}
+use Rattle.pattern_items.specs.declared.atom.Compare.{Compare}
+use Rattle.pattern_items.specs.declared.atom.Compare.TheVariants.{At, Before, After}
 use Rattle.pattern_items.specs.declared.cause.PatternCause.{PatternCause}
 use Rattle.pattern_items.specs.declared.cause.PatternCause.TheVariants as cause
 use Rattle.pattern_items.specs.declared.codes.Code.{Code}
@@ -17,7 +19,7 @@ use Rattle.pattern_items.specs.Codes.{notation_of, code, char_of}
 use Rattle.pattern_items.specs.Collection.{collection_len}
 use Rattle.pattern_items.specs.Letters.{class_atom}
 use Rattle.pattern_items.specs.Multis.{braces, look, count}
-use Rattle.pattern_items.specs.Numbers.{Digits, digits}
+use Rattle.pattern_items.specs.Numbers.{front_digits, behind_digits, number_of_digits}
 use Rattle.pattern_items.specs.Characters.{char, backspace, tab, carriage_return, escape}
 
 abbrev pub rank : Level → ℕ
@@ -56,19 +58,26 @@ is_number c = nat_le (char "1") c && nat_le c (char "9")
 
 -- Behind a percent sign.
 
--- a letter that ends the number of a line, a column or a screen column
-abbrev pub is_unit : ℕ → Bool
-is_unit c = c == char "l" || c == char "c" || c == char "v"
-
-abbrev pub with_unit : ℕ → ℕ → List ℕ → Spelled
-with_unit n count [] = wrong cause.BadCode n
-with_unit n count (c ∷ cs) =
-    if is_unit c then spelled raw.LeftOut (n + count + 1)
+-- the line of a number, which has nine digits at most
+abbrev pub line_number : ℕ → Compare → List ℕ → Spelled
+line_number n how digits =
+    if nat_le (length digits) 9
+    then atom (LineNumber how (number_of_digits digits)) (n + length digits + 1)
     else wrong cause.BadCode n
 
--- a line, a column or a screen column by its number: left out
-abbrev pub positioned : ℕ → Digits → Spelled
-positioned n d = if nat_eq d.count 0 then wrong cause.BadCode n else with_unit n d.count d.rest
+-- digits and what follows them: a column or a screen column is left out
+abbrev pub with_unit : ℕ → Compare → List ℕ → List ℕ → Spelled
+with_unit n how digits [] = wrong cause.BadCode n
+with_unit n how digits (c ∷ cs) =
+    if c == char "l" then line_number n how digits
+    else if c == char "c" || c == char "v" then spelled raw.LeftOut (n + length digits + 1)
+    else wrong cause.BadCode n
+
+-- a line, a column or a screen column by its number
+abbrev pub positioned : ℕ → Compare → List ℕ → Spelled
+positioned n how text =
+    if nat_eq (length (front_digits text)) 0 then wrong cause.BadCode n
+    else with_unit n how (front_digits text) (behind_digits text)
 
 -- a mark: left out
 abbrev pub mark : ℕ → List ℕ → Spelled
@@ -76,9 +85,9 @@ mark n [] = wrong cause.BadCode n
 mark n (c ∷ cs) = spelled raw.LeftOut (n + 1)
 
 -- behind `<` or `>`
-abbrev pub compared : ℕ → List ℕ → Spelled
-compared n [] = wrong cause.BadCode n
-compared n (c ∷ cs) = if c == char "'" then mark (n + 1) cs else positioned n (digits (c ∷ cs))
+abbrev pub compared : ℕ → Compare → List ℕ → Spelled
+compared n how [] = wrong cause.BadCode n
+compared n how (c ∷ cs) = if c == char "'" then mark (n + 1) cs else positioned n how (c ∷ cs)
 
 abbrev pub coded_as : ℕ → ℕ → Option ℕ → Spelled
 coded_as n count None = wrong cause.BadCode n
@@ -110,7 +119,7 @@ engine false n cs = spelled raw.LeftOut n
 
 abbrev pub code_or : ℕ → ℕ → List ℕ → Option Notation → Spelled
 code_or n c cs (Some notation) = coded (n + 1) notation cs
-code_or n c cs None = positioned n (digits (c ∷ cs))
+code_or n c cs None = positioned n At (c ∷ cs)
 
 abbrev pub code_or_position : ℕ → ℕ → List ℕ → Spelled
 code_or_position n c cs = code_or n c cs (notation_of c)
@@ -125,7 +134,8 @@ percent first n (c ∷ cs) =
     else if c == char "V" || c == char "C" then spelled raw.LeftOut (n + 1)
     else if c == char "#" then engine first (n + 1) cs
     else if c == char "'" then mark (n + 1) cs
-    else if c == char "<" || c == char ">" then compared (n + 1) cs
+    else if c == char "<" then compared (n + 1) Before cs
+    else if c == char ">" then compared (n + 1) After cs
     else code_or_position n c cs
 
 -- Behind `\z`.

@@ -15,6 +15,7 @@ mod item;
 mod laws;
 mod letters;
 mod multis;
+mod numbers;
 mod place;
 mod scan;
 mod spelling;

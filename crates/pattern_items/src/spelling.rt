@@ -1,5 +1,6 @@
 //! The spelling of an item.
 ghost use Rattle.std.specs.Prelude.{◌≡◌, ◌^◌, [], ◌∷◌, ◌<◌, ◌≤◌, ◌+◌, ◌-◌, length, Some, None, true, IfSome};
+ghost use Rattle.std.specs.List.{list_all};
 ghost use Rattle.pattern_items.specs.Spelling as spec;
 ghost use Rattle.pattern_items.specs.Letters as letters;
 ghost use Rattle.pattern_items.specs.Numbers as numbers;
@@ -9,9 +10,11 @@ use crate::codes::{Notation, char_of, code_at, notation_of};
 use crate::item::{Level, Raw, Spelled};
 use crate::letters::class_atom;
 use crate::multis::{braces, count, look};
+use crate::numbers::{digit_count, number_of_digits};
+use crate::scan::{behind, first_of};
 use crate::vain::known_len;
-use crate::{Atom, PatternCause};
-use text_scan::{digits, front};
+use crate::{Atom, Compare, PatternCause};
+use text_scan::front;
 
 fn rank(level: Level) -> u8
     ensures { result ≡ spec.rank level }
@@ -76,20 +79,35 @@ fn number_of(c: char) -> u8
     (c as u32 - 48) as u8
 }
 
+/// The line of a number (`/\%l`).
+fn line_number(len: usize, how: Compare, digits: &[char]) -> Spelled
+    requires room { len + length digits.now < 2 ^ 62 }
+    requires digits { list_all numbers.is_digit digits.now ≡ true }
+    ensures value { result ≡ spec.line_number len how digits.now }
+    ensures within { (len ≤ result.len) × (result.len ≤ len + length digits.now + 1) }
+{
+    let count = digits.len();
+    if count <= 9 {
+        let number = number_of_digits(digits);
+        atom(Atom::LineNumber { how, number }, len + count + 1)
+    } else {
+        wrong(PatternCause::BadCode, len)
+    }
+}
+
 /// A position by its number.
-fn positioned(len: usize, text: &[char]) -> Spelled
+fn positioned(len: usize, how: Compare, text: &[char]) -> Spelled
     requires { len + length text.now < 2 ^ 62 }
-    ensures value { result ≡ spec.positioned len (numbers.digits text.now) }
+    ensures value { result ≡ spec.positioned len how text.now }
     ensures within { (len ≤ result.len) × (result.len ≤ len + length text.now) }
 {
-    let (number, rest) = digits(text);
-    if number.count == 0 {
+    let count = digit_count(text);
+    if count == 0 {
         return wrong(PatternCause::BadCode, len);
     }
-    match front(rest) {
-        Some(('l', _)) | Some(('c', _)) | Some(('v', _)) => {
-            spelled(Raw::LeftOut, len + number.count + 1)
-        }
+    match front(behind(text, count)) {
+        Some(('l', _)) => line_number(len, how, first_of(text, count)),
+        Some(('c', _)) | Some(('v', _)) => spelled(Raw::LeftOut, len + count + 1),
         _ => wrong(PatternCause::BadCode, len),
     }
 }
@@ -107,14 +125,14 @@ fn mark(len: usize, text: &[char]) -> Spelled
 }
 
 /// A position before or after another.
-fn compared(len: usize, text: &[char]) -> Spelled
+fn compared(len: usize, how: Compare, text: &[char]) -> Spelled
     requires { len + length text.now < 2 ^ 62 }
-    ensures value { result ≡ spec.compared len text.now }
+    ensures value { result ≡ spec.compared len how text.now }
     ensures within { (len ≤ result.len) × (result.len ≤ len + length text.now) }
 {
     match front(text) {
         Some(('\'', more)) => mark(len + 1, more),
-        _ => positioned(len, text),
+        _ => positioned(len, how, text),
     }
 }
 
@@ -160,7 +178,7 @@ fn code_or_position(len: usize, c: char, text: &[char], whole: &[char]) -> Spell
 {
     match notation_of(c) {
         Some(notation) => coded(len + 1, notation, text),
-        None => positioned(len, whole),
+        None => positioned(len, Compare::At, whole),
     }
 }
 
@@ -179,7 +197,8 @@ fn percent(first: bool, len: usize, text: &[char]) -> Spelled
         Some(('V', _)) | Some(('C', _)) => spelled(Raw::LeftOut, len + 1),
         Some(('#', more)) => engine(first, len + 1, more),
         Some(('\'', more)) => mark(len + 1, more),
-        Some(('<', more)) | Some(('>', more)) => compared(len + 1, more),
+        Some(('<', more)) => compared(len + 1, Compare::Before, more),
+        Some(('>', more)) => compared(len + 1, Compare::After, more),
         Some((c, more)) => code_or_position(len, c, more, text),
     }
 }

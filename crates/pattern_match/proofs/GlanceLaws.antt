@@ -4,7 +4,7 @@ use Rattle.std.specs.Prelude.{Bool, Option, Some, None}
 use Rattle.syn_base.specs.declared.looked.Looked.{Looked}
 use Rattle.syn_base.specs.declared.places.Place.{Place}
 use Rattle.pattern_items.specs.declared.atom.Atom.{Atom}
-use Rattle.pattern_items.specs.declared.atom.Atom.TheVariants.{Char, Any, Is, Set, LineEnd, LineStart, LineStop, WordStart, WordStop, FileStart, FileStop, MatchStart, MatchStop, Ref, ExternalRef}
+use Rattle.pattern_items.specs.declared.atom.Atom.TheVariants.{Char, Any, Is, Set, LineEnd, LineStart, LineStop, WordStart, WordStop, FileStart, FileStop, MatchStart, MatchStop, LineNumber, Ref, ExternalRef}
 use Rattle.vim_pattern.specs.Shape.{Shape, empty, one, seq, or, group, external, ahead}
 use Rattle.match_rules.specs.Ways.{Context, Way, IsPlaceOf, is_after, is_same_place}
 use Rattle.match_rules.specs.Atoms.{fits, lines_looked, way_behind}
@@ -76,6 +76,7 @@ at_behind x w FileStart p e = refl
 at_behind x w FileStop p e = refl
 at_behind x w MatchStart p e = cc
 at_behind x w MatchStop p e = cc
+at_behind x w (LineNumber how number) p e = refl
 at_behind x w (Ref number) p e = refl
 at_behind x w (ExternalRef number) p e = refl
 

@@ -1,11 +1,11 @@
 -- Looks behind: from each start in turn, and the line before looked at by each tick.
 use Rattle.std.proofs.Common.{◌≡◌, ℕ, suc, ◌<◌, ◌≤◌, Bool, true, false, List, [], ◌∷◌, ◌++◌, ◌-◌, length, drop, refl, sym, ap, ◌∙◌, arith, subst}
-use Rattle.std.specs.Prelude.{Option, Some, None, nat_lt, ℤ, pos, ◌-ℤ◌, if◌then◌else◌}
+use Rattle.std.specs.Prelude.{Option, Some, None, nat_lt, pos, ◌-ℤ◌, if◌then◌else◌}
 use Rattle.std.proofs.lemmas.Bool.Decides.{nat_tests}
-use Rattle.std.proofs.lemmas.Int.{ints}
 use Rattle.syn_base.specs.declared.looked.Looked.{Looked}
 use Rattle.syn_base.specs.declared.places.Place.{Place}
-use Rattle.syn_base.specs.Looked.{hull_of, one_line, lesser, greater}
+use Rattle.syn_base.specs.Looked.{hull_of, one_line}
+use Rattle.syn_base.proofs.HullLaws.{hull_assoc, hull_twice}
 use Rattle.pattern_items.specs.declared.item.Behind.{Behind}
 use Rattle.vim_pattern.specs.Shape.{Shape}
 use Rattle.match_rules.specs.Ways.{Context, Way, is_same_place}
@@ -67,24 +67,6 @@ cost_more n l (Reach v ∷ a) b = omega arith
 
 -- ---- the line before, looked at too
 
-lesser-assoc : (a b c : ℤ) → lesser (lesser a b) c ≡ lesser a (lesser b c)
-lesser-assoc a b c = grind (arith, ints)
-
-greater-assoc : (a b c : ℤ) → greater (greater a b) c ≡ greater a (greater b c)
-greater-assoc a b c = grind (arith, ints)
-
-lesser-twice : (a b m : ℤ) → lesser (lesser a m) (lesser b m) ≡ lesser (lesser a b) m
-lesser-twice a b m = grind (arith, ints)
-
-greater-twice : (a b m : ℤ) → greater (greater a m) (greater b m) ≡ greater (greater a b) m
-greater-twice a b m = grind (arith, ints)
-
-hull-assoc : (a b c : Looked) → hull_of (hull_of a b) c ≡ hull_of a (hull_of b c)
-hull-assoc a b c = λ i. record { low = lesser-assoc a.low b.low c.low i; high = greater-assoc a.high b.high c.high i }
-
-hull-twice : (a b m : Looked) → hull_of (hull_of a m) (hull_of b m) ≡ hull_of (hull_of a b) m
-hull-twice a b m = λ i. record { low = lesser-twice a.low b.low m.low i; high = greater-twice a.high b.high m.high i }
-
 -- an answer that looked at these lines too
 abbrev pub looking : Looked → Answer → Answer
 looking m a = record a { looked = joined a.looked m }
@@ -93,11 +75,11 @@ ticked : (n : ℕ) (h m : Looked) (marks : List Mark) → answer_from n (Some (h
 ticked n h m [] = refl
 ticked n h m (Reach w ∷ marks) = refl
 ticked n h m (Tick k ∷ marks) =
-    ap (λ l. answer_from (suc n) (Some l) (looking_at m marks)) (hull-twice h k m) ∙ ticked (suc n) (hull_of h k) m marks
+    ap (λ l. answer_from (suc n) (Some l) (looking_at m marks)) (hull_twice h k m) ∙ ticked (suc n) (hull_of h k) m marks
 
 started : (n : ℕ) (l : Option Looked) (k m : Looked) (marks : List Mark) → answer_from (suc n) (joined l (hull_of k m)) (looking_at m marks) ≡ looking m (answer_from (suc n) (joined l k) marks)
 started n None k m marks = ticked (suc n) k m marks
-started n (Some h) k m marks = ap (λ l. answer_from (suc n) (Some l) (looking_at m marks)) (sym (hull-assoc h k m)) ∙ ticked (suc n) (hull_of h k) m marks
+started n (Some h) k m marks = ap (λ l. answer_from (suc n) (Some l) (looking_at m marks)) (sym (hull_assoc h k m)) ∙ ticked (suc n) (hull_of h k) m marks
 
 abbrev pub looking_if : Bool → Looked → Answer → Answer
 looking_if b m a = if b then looking m a else a

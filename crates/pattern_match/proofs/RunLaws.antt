@@ -8,7 +8,7 @@ use Rattle.std.proofs.lemmas.Option.{slice_get-get_or}
 use Rattle.syn_base.specs.declared.places.Place.{Place}
 use Rattle.syn_base.specs.Looked.{one_line}
 use Rattle.pattern_items.specs.declared.atom.Atom.{Atom}
-use Rattle.pattern_items.specs.declared.atom.Atom.TheVariants.{Char, Any, Is, Set, LineEnd, LineStart, LineStop, WordStart, WordStop, FileStart, FileStop, MatchStart, MatchStop, Ref, ExternalRef}
+use Rattle.pattern_items.specs.declared.atom.Atom.TheVariants.{Char, Any, Is, Set, LineEnd, LineStart, LineStop, WordStart, WordStop, FileStart, FileStop, MatchStart, MatchStop, LineNumber, Ref, ExternalRef}
 use Rattle.pattern_screens.specs.PlainAtoms.{is_plain, plain_takes, plain_fits}
 use Rattle.pattern_screens.proofs.FirstScreens.{fits-told}
 use Rattle.vim_pattern.specs.GroupNumbers.{HasNumbers}
@@ -44,6 +44,7 @@ plain-looks x w FileStart p = absurd (cc)
 plain-looks x w FileStop p = absurd (cc)
 plain-looks x w MatchStart p = refl
 plain-looks x w MatchStop p = refl
+plain-looks x w (LineNumber how number) p = absurd (cc)
 plain-looks x w (Ref number) p = absurd (cc)
 plain-looks x w (ExternalRef number) p = absurd (cc)
 
@@ -61,6 +62,7 @@ plain-moves w p FileStart h = refl
 plain-moves w p FileStop h = refl
 plain-moves w p MatchStart h = absurd (cc)
 plain-moves w p MatchStop h = absurd (cc)
+plain-moves w p (LineNumber how number) h = refl
 plain-moves w p (Ref number) h = refl
 plain-moves w p (ExternalRef number) h = refl
 

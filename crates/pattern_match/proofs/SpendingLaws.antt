@@ -1,29 +1,16 @@
 -- Laws of ticks that looked at the same lines.
 use Rattle.std.proofs.Common.{◌≡◌, ℕ, zero, suc, ◌+◌, ◌<◌, refl, sym, ap, ◌∙◌, arith}
-use Rattle.std.specs.Prelude.{ℤ, Option, Some, None}
-use Rattle.std.proofs.lemmas.Int.{ints}
+use Rattle.std.specs.Prelude.{Option, Some, None}
 use Rattle.syn_base.specs.declared.looked.Looked.{Looked}
-use Rattle.syn_base.specs.Looked.{lesser, greater}
+use Rattle.syn_base.proofs.HullLaws.{hull_again, hull_self}
 use Rattle.match_rules.specs.Attempt.{joined}
 use Rattle.pattern_match.specs.declared.spent.Spent.{Spent}
 use Rattle.pattern_match.specs.Spending.{spent_times, looking_at_too}
 
-lesser-same : (a : ℤ) → lesser a a ≡ a
-lesser-same a = grind (arith, ints)
-
-greater-same : (a : ℤ) → greater a a ≡ a
-greater-same a = grind (arith, ints)
-
-lesser-again : (a b : ℤ) → lesser (lesser a b) b ≡ lesser a b
-lesser-again a b = grind (arith, ints)
-
-greater-again : (a b : ℤ) → greater (greater a b) b ≡ greater a b
-greater-again a b = grind (arith, ints)
-
 -- lines that were looked at once more
 joined-again : (looked : Option Looked) (more : Looked) → joined (joined looked more) more ≡ joined looked more
-joined-again None more = λ i. Some (record { low = lesser-same more.low i; high = greater-same more.high i })
-joined-again (Some looked) more = λ i. Some (record { low = lesser-again looked.low more.low i; high = greater-again looked.high more.high i })
+joined-again None more = ap Some (hull_self more)
+joined-again (Some looked) more = ap Some (hull_again looked more)
 
 pub times-cost : (s : Spent) (count : ℕ) (looked : Looked) → (spent_times s count looked).cost ≡ s.cost + count
 times-cost s zero looked = omega arith

@@ -1,15 +1,15 @@
 -- Where the characters of a text lead, where case isn't ignored: they are the first of what is left of
 -- the line.
 use Rattle.std.proofs.Common.{◌≡◌, ℕ, suc, ◌+◌, ◌-◌, ◌≤◌, Bool, true, false, List, [], ◌∷◌, ◌⊎◌, inl, inr, length, take, drop, refl, sym, ap, ◌∙◌, arith}
-use Rattle.std.specs.Prelude.{ℤ, Option, Some, None, ◌==◌, ◌&&◌, slice_get, IfSome, pos}
+use Rattle.std.specs.Prelude.{Option, Some, None, ◌==◌, ◌&&◌, slice_get, IfSome, pos}
 use Rattle.std.specs.List.{starts_with}
 use Rattle.std.proofs.Math.ListN.{drop_of_length-le}
-use Rattle.std.proofs.lemmas.Int.{ints}
 use Rattle.std.proofs.lemmas.List.{drop_more, length-drop, take_all}
 use Rattle.std.proofs.lemmas.Option.{slice_get_cases}
 use Rattle.char_class.specs.Folds.{is_same}
 use Rattle.syn_base.specs.declared.places.Place.{Place}
-use Rattle.syn_base.specs.Looked.{one_line, hull_of, lesser, greater}
+use Rattle.syn_base.specs.Looked.{one_line}
+use Rattle.syn_base.proofs.HullLaws.{hull_self}
 use Rattle.match_rules.specs.Ways.{Text, Context, line_at, place, behind_character, IsPlaceOf}
 use Rattle.match_rules.specs.Atoms.{characters, behind_pieces, behind_if, last_line_of, only_if, lines_from}
 use Rattle.pattern_match.specs.declared.atoms.Tried.{Tried}
@@ -77,12 +77,6 @@ behind_characters x (c ∷ text) p exact =
 
 -- ---- what is answered of it
 
-hull-same : (l : ℤ) → one_line l ≡ hull_of (one_line l) (one_line l)
-hull-same l =
-    let low : l ≡ lesser l l = grind (arith, ints) in
-    let high : l ≡ greater l l = grind (arith, ints) in
-    λ i. record { low = low i; high = high i }
-
 placed : (text : Text) (stands : Bool) (p : Place) (o : Option Place) → o ≡ only_if stands p → (stands ≡ true → IsPlaceOf text p) → IfSome o (IsPlaceOf text)
 placed text true p o e h = rw e (h refl)
 placed text false p o e h = rw e tt
@@ -100,6 +94,6 @@ tried-text x text p line stands t exact on_text line_is stands_is room place_is 
     let left : length (take (length line - p.col) (drop p.col line)) ≡ length line - p.col = ap length all ∙ cut in
     record {
       place = place_is ∙ ap (λ b. only_if b (columns_on p (length text))) begins_so ∙ sym (behind_characters x text p exact);
-      looked = looked_is ∙ hull-same (pos p.line) ∙ ap (lines_from p.line) (sym (last_line_of-characters x text p));
+      looked = looked_is ∙ sym (hull_self (one_line (pos p.line))) ∙ ap (lines_from p.line) (sym (last_line_of-characters x text p));
       within = placed x.text stands (columns_on p (length text)) t.place place_is (λ e. let low = room e in record { line = on_text.line; col = omega arith });
     }

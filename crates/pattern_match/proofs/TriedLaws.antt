@@ -40,5 +40,6 @@ asks_for_none test.FileStart h k = refl
 asks_for_none test.FileStop h k = refl
 asks_for_none test.MatchStart h k = refl
 asks_for_none test.MatchStop h k = refl
+asks_for_none (test.LineNumber how number) h k = refl
 asks_for_none (test.Ref n) h k = absurd (h n refl)
 asks_for_none (test.ExternalRef n) h k = absurd (k n refl)

@@ -23,6 +23,7 @@ atom_of test.FileStart = atom.FileStart
 atom_of test.FileStop = atom.FileStop
 atom_of test.MatchStart = atom.MatchStart
 atom_of test.MatchStop = atom.MatchStop
+atom_of (test.LineNumber how number) = atom.LineNumber how number
 atom_of (test.Ref number) = atom.Ref number
 atom_of (test.ExternalRef number) = atom.ExternalRef number
 

@@ -1,11 +1,11 @@
 //! An atom at the place of the present way: where it leads, and which lines it looks at.
 ghost use Rattle.std.specs.Prelude.{◌≡◌, ◌==◌, ◌≤◌, ◌+◌, ◌-ℤ◌, ◌&&◌, IfSome, true, false, pos, nat_eq, length};
-ghost use Rattle.syn_base.specs.Looked.{hull_of, one_line};
+ghost use Rattle.syn_base.specs.Looked.{hull_of, numbered_too, one_line};
 ghost use Rattle.pattern_items.specs.GroupNumbers.{HasNumber, IsOneToNine};
 ghost use Rattle.char_class.specs.Classes.{class_holds};
 ghost use Rattle.match_rules.specs.Ways.{IsPlaceOf, Way, line_at};
 ghost use Rattle.match_rules.specs.Collections.{collection_holds};
-ghost use Rattle.match_rules.specs.Atoms.{behind_one_or_end, captured_text, characters, external_text, fits, line_behind, lines_from, lines_looked, only_if, turned_round};
+ghost use Rattle.match_rules.specs.Atoms.{behind_one_or_end, captured_text, characters, external_text, fits, line_behind, lines_from, lines_looked, number_of_line, only_if, stands, turned_round};
 ghost use Rattle.pattern_match.specs.Contexts.{context_in};
 ghost use Rattle.pattern_match.specs.Glance.{asks_for_group};
 ghost use Rattle.pattern_match.specs.Steps.{atom_of};
@@ -21,6 +21,7 @@ use crate::walks::{Walked, line_at, part_of_line, walk_between, walk_characters}
 use crate::ways::Ways;
 use crate::words::{is_word_start, is_word_stop};
 use char_class::{Sets, class_has};
+use pattern_items::Compare;
 use syn_base::{Class, Lines, Looked, Place};
 
 /// Where an atom leads, and the lines that it looked at.
@@ -89,6 +90,7 @@ pub(crate) fn try_plain<T: Lines>(lines: &T, context: &Context, at: Place, test:
         Test::FileStart => file_start(lines, at),
         Test::FileStop => file_stop(lines, at),
         Test::MatchStart | Test::MatchStop => in_line(lines, at, Some(at)),
+        Test::LineNumber { how, number } => line_number(lines, at, *how, *number),
         Test::Ref(_) | Test::ExternalRef(_) => in_line(lines, at, None),
     }
 }
@@ -225,6 +227,30 @@ fn file_stop<T: Lines>(lines: &T, at: Place) -> Tried
     Tried {
         place: only_if(is_last && is_line_stop(lines, at), at),
         looked: lines_from(lines, at.line, behind),
+    }
+}
+
+/// The place, if its line is one that the number names. The line's own number is looked at too.
+fn line_number<T: Lines>(lines: &T, at: Place, how: Compare, number: u32) -> Tried
+    requires { IsPlaceOf (T.lines lines.now) at }
+    ensures place { result.place ≡ only_if (stands how number (number_of_line at.line)) at }
+    ensures looked { result.looked ≡ numbered_too (one_line (pos at.line)) }
+{
+    let line = numbered(lines, at.line);
+    Tried {
+        place: only_if(is_named(at.line + 1, how, number as usize), at),
+        looked: Looked::one(line).with_number(),
+    }
+}
+
+/// Whether a line is one that a number names; lines count from 1.
+fn is_named(line: usize, how: Compare, number: usize) -> bool
+    ensures { result ≡ stands how number line }
+{
+    match how {
+        Compare::At => line == number,
+        Compare::Before => line < number,
+        Compare::After => number < line,
     }
 }
 

@@ -328,6 +328,10 @@ fn ready_atom(alloc: Global, atom: &Atom) -> Result<Test, Memory>
         Atom::FileStop => Ok(Test::FileStop),
         Atom::MatchStart => Ok(Test::MatchStart),
         Atom::MatchStop => Ok(Test::MatchStop),
+        Atom::LineNumber { how, number } => Ok(Test::LineNumber {
+            how: *how,
+            number: *number,
+        }),
         Atom::Ref(number) => Ok(Test::Ref(*number)),
         Atom::ExternalRef(number) => Ok(Test::ExternalRef(*number)),
     }

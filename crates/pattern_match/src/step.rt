@@ -7,7 +7,7 @@ ghost use Rattle.pattern_match.specs.Steps.{atom_of, shape_of};
 use crate::collection::Collection;
 use crate::runs::less_by;
 use crate::turns::is_spent;
-use pattern_items::Behind;
+use pattern_items::{Behind, Compare};
 use syn_base::Class;
 
 /// A node, with the names of `vim_pattern::Node`, and plainer ones that stand for some of them.
@@ -66,6 +66,10 @@ pub(crate) enum Test {
     FileStop,
     MatchStart,
     MatchStop,
+    LineNumber {
+        how: Compare,
+        number: u32,
+    },
     Ref(u8),
     ExternalRef(u8),
 }

@@ -1,21 +1,12 @@
 -- A line that was looked at stays among those looked at.
-use Rattle.std.proofs.Common.{◌≡◌, ◌∙◌, sym, ap, subst, arith, ℕ}
-use Rattle.std.specs.Prelude.{Some, None, ℤ, pos}
+use Rattle.std.proofs.Common.{◌≡◌, ◌∙◌, refl, sym, ap, subst, arith, ℕ, Bool, true, false}
+use Rattle.std.specs.Prelude.{Some, None, ℤ, pos, ◌||◌}
 use Rattle.std.proofs.lemmas.Int.{ints}
 use Rattle.syn_base.specs.declared.looked.Looked.{Looked}
 use Rattle.syn_base.specs.Looked.{hull_of, lesser, greater, one_line}
+use Rattle.syn_base.proofs.HullLaws.{hull_assoc, hull_comm}
 use Rattle.paint_rules.specs.Painted.{Painted, Done, Refused, looked_first}
-use Rattle.paint_rules.proofs.PaintedLaws.{hull_assoc}
 use Rattle.region_ends.specs.Steps.{HoldsLine}
-
-lesser_comm : (a b : ℤ) → lesser a b ≡ lesser b a
-lesser_comm a b = grind (arith, ints)
-
-greater_comm : (a b : ℤ) → greater a b ≡ greater b a
-greater_comm a b = grind (arith, ints)
-
-hull_comm : (a b : Looked) → hull_of a b ≡ hull_of b a
-hull_comm a b = λ i. record { low = lesser_comm a.low b.low i; high = greater_comm a.high b.high i }
 
 wider : (j n : Looked) (l : ℕ) → HoldsLine j l → HoldsLine (hull_of j n) l
 wider j n l h =
@@ -43,6 +34,10 @@ lesser_once a b c e h = grind (arith, ints, e, h)
 greater_once : (a b c : ℤ) → greater a b ≡ c → greater a c ≡ a → a ≡ c
 greater_once a b c e h = grind (arith, ints, e, h)
 
+neither : (a b : Bool) → (a || b) ≡ false → a ≡ false
+neither true b e = absurd (cc)
+neither false b e = refl
+
 -- where all looks are at one line, so were those before
 pub alone_before : {E A : Type 0} (k : Looked) (l : ℕ) (p : Painted E A) (a : A) → HoldsLine k l → looked_first (Some k) p ≡ Done a (Some (one_line (pos l))) → k ≡ one_line (pos l)
 alone_before k l (Done b None) a h e = cc
@@ -51,5 +46,6 @@ alone_before k l (Done b (Some n)) a h e =
     λ i. record {
       low = lesser_once k.low n.low (pos l) (ap (λ (j : Looked). j.low) whole) (ap (λ (j : Looked). j.low) h) i;
       high = greater_once k.high n.high (pos l) (ap (λ (j : Looked). j.high) whole) (ap (λ (j : Looked). j.high) h) i;
+      numbered = neither k.numbered n.numbered (ap (λ (j : Looked). j.numbered) whole) i;
     }
 alone_before k l (Refused c m) a h e = absurd (cc)

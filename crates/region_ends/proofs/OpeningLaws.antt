@@ -1,14 +1,14 @@
 -- An end that begins with the text of an external gives nothing where another character stands than
 -- the first of that text.
 use Rattle.std.proofs.Common.{◌≡◌, ◌∙◌, ◌⊎◌, inl, inr, refl, sym, ap, subst, arith, ℕ, Bool, true, false, List, [], ◌∷◌, cond}
-use Rattle.std.specs.Prelude.{Option, Some, None, ℤ, pos, nat_eq, not, get_or, slice_get, ◌-◌, is_some}
+use Rattle.std.specs.Prelude.{Option, Some, None, pos, nat_eq, not, get_or, slice_get, ◌-◌, is_some}
 use Rattle.std.proofs.Math.Bool.{beq}
-use Rattle.std.proofs.lemmas.Int.{ints}
 use Rattle.std.proofs.lemmas.Bool.Decides.{nat_tests}
 use Rattle.char_class.specs.Folds.{is_same}
 use Rattle.syn_base.specs.declared.looked.Looked.{Looked}
 use Rattle.syn_base.specs.declared.places.Place.{Place}
-use Rattle.syn_base.specs.Looked.{lesser, greater, one_line}
+use Rattle.syn_base.specs.Looked.{one_line}
+use Rattle.syn_base.proofs.HullLaws.{hull_self}
 use Rattle.pattern_items.specs.declared.atom.Atom.{Atom}
 use Rattle.pattern_items.specs.declared.atom.Atom.TheVariants as atom
 use Rattle.vim_pattern.specs.Shape.{Shape, empty, one, seq, or, and, group, external, repeat, ahead, before, whole}
@@ -77,15 +77,6 @@ module _ (x : Context) (p : Place) where
         ap (λ (o : Option Place). elim o as (λ _. ℕ) [ None ↦ p.line | Some q ↦ last_line_of x (characters cs) q ]) none,
       )
 
-one_hull : (l : ℕ) → lines_from l l ≡ one_line (pos l)
-one_hull l = λ i. record { low = lesser_self (pos l) i; high = greater_self (pos l) i }
-  where
-    lesser_self : (a : ℤ) → lesser a a ≡ a
-    lesser_self a = grind (arith, ints)
-
-    greater_self : (a : ℤ) → greater a a ≡ a
-    greater_self a = grind (arith, ints)
-
 -- ---- the attempt
 
 pub attempt_fails : (tree : PatternTree) (x : Context) (start : Place) (number : ℕ) → first_external tree.node ≡ Some number →
@@ -94,7 +85,7 @@ attempt_fails tree x start number is e =
     let y = for_tree tree x in
     let w = way_from start in
     let none = no_text y start (get_or x.externals (number - 1) []) e in
-    let looked : lines_looked y w (atom.ExternalRef number) ≡ one_line (pos start.line) = ap (lines_from start.line) none.1 ∙ one_hull start.line in
+    let looked : lines_looked y w (atom.ExternalRef number) ≡ one_line (pos start.line) = ap (lines_from start.line) none.1 ∙ hull_self (one_line (pos start.line)) in
     let marks : visits y tree.node w ≡ Tick (one_line (pos start.line)) ∷ [] =
     first_atom-fails y tree.node w (atom.ExternalRef number) (first_is tree.node number is) none.0 ∙ ap (λ (k : Looked). Tick k ∷ []) looked in
     subst (λ (m : List Mark). IsInVain start 1 false (answer_of m)) (sym marks) (record { way = refl; cost = omega arith; looked = refl })

@@ -19,7 +19,8 @@ use Rattle.paint_rules.specs.Rules.{Cause, Matched, TooCostly, attempted, place_
 use Rattle.paint_rules.specs.declared.RegionEnd.{RegionEnd}
 use Rattle.paint_rules.specs.ItemMatch.{looks_at_end, columns, columns_from}
 use Rattle.paint_rules.specs.EndInLine.{Search, Skip, NoSkip, SkipTo, SkipLine, skip_of, ends_of, skip_at, tried_at, end_at, end_made, end_from}
-use Rattle.paint_rules.proofs.PaintedLaws.{hull_assoc, first_bind, refusal_first, refusal_bind}
+use Rattle.syn_base.proofs.HullLaws.{hull_assoc}
+use Rattle.paint_rules.proofs.PaintedLaws.{first_bind, refusal_first, refusal_bind}
 use Rattle.region_ends.specs.declared.searching.EndAnswer.{EndAnswer}
 use Rattle.region_ends.specs.declared.skips.SkipAnswer.{SkipAnswer}
 use Rattle.region_ends.specs.Attempts.{IsAttempted}

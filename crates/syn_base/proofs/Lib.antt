@@ -1,3 +1,4 @@
 pub mod ExternalLaws
 pub mod OutsideLaws
 pub mod ListLaws
+pub mod HullLaws

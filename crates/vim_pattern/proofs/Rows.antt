@@ -273,8 +273,7 @@ tilde_nomagic = refl
 column : nodes (codes "a\\%1234567890c") ≡ faulty 1 (left_out (codes "\\%1234567890c"))
 column = refl
 
-line : nodes (codes "\\v%<23l") ≡ faulty 2 (left_out (codes "%<23l"))
-line = refl
+
 
 mark : nodes (codes "\\%>'m") ≡ faulty 0 (left_out (codes "\\%>'m"))
 mark = refl
