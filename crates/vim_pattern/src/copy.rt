@@ -38,6 +38,10 @@ fn copied_atom(alloc: Global, atom: &Atom) -> Result<Atom, Memory>
         Atom::FileStop => Ok(Atom::FileStop),
         Atom::MatchStart => Ok(Atom::MatchStart),
         Atom::MatchStop => Ok(Atom::MatchStop),
+        Atom::LineNumber { how, number } => Ok(Atom::LineNumber {
+            how: *how,
+            number: *number,
+        }),
         Atom::Ref(number) => Ok(Atom::Ref(*number)),
         Atom::ExternalRef(number) => Ok(Atom::ExternalRef(*number)),
     }

@@ -22,7 +22,7 @@ pub use laws::{
 };
 pub use node::Node;
 pub use pattern_items::{
-    Atom, Behind, CharRanges, PatternCause, PatternUse, SetPart, collection_end,
+    Atom, Behind, CharRanges, Compare, PatternCause, PatternUse, SetPart, collection_end,
 };
 pub use read::read_pattern;
 pub use tree::Tree;
