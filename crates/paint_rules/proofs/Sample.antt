@@ -1,7 +1,6 @@
 -- Small syntaxes for worked rows, over the rules of matching.
-use Rattle.std.specs.Prelude.{ℕ, ℤ, ◌-◌, Bool, true, false, List, [], ◌∷◌, map, Option, Some, None, codes}
+use Rattle.std.specs.Prelude.{ℕ, ℤ, ◌-◌, true, false, List, [], ◌∷◌, map, Option, Some, None, codes}
 use Rattle.syn_base.specs.declared.places.GroupId.{GroupId}
-use Rattle.syn_base.specs.declared.places.ItemId.{ItemId}
 use Rattle.syn_base.specs.declared.places.Span.{Span}
 use Rattle.pattern_items.specs.declared.atom.Atom.{Atom}
 use Rattle.pattern_items.specs.declared.atom.Atom.TheVariants.{Char}
@@ -20,7 +19,7 @@ use Rattle.syntax_set.specs.declared.item.Pattern.{Pattern}
 use Rattle.syntax_set.specs.declared.item.Special.TheVariants.{Plain}
 use Rattle.paint_rules.specs.Rules.{Rules, no_item}
 use Rattle.paint_rules.specs.Syntax.{rules_of}
-use Rattle.paint_rules.specs.Line.{Painting, Whole, Fails, Note, painting}
+use Rattle.paint_rules.specs.Line.{Painting, Whole, Fails, painting}
 
 -- ---- patterns
 
