@@ -3,8 +3,7 @@ use Rattle.std.specs.Prelude.{◌≡◌, Bool, true, false, List, [], ◌∷◌,
 use Rattle.char_class.specs.CharSet.{set_has, is_member}
 use Rattle.char_class.specs.Folds.{is_same, range_holds}
 use Rattle.syn_base.specs.declared.class.Class.TheVariants.{Digit, Word}
-use Rattle.pattern_items.specs.declared.atom.Atom.TheVariants.{Char, Any, Is, LineEnd, LineStart, LineStop, MatchStart, LineNumber, ExternalRef}
-use Rattle.pattern_items.specs.declared.atom.Compare.TheVariants.{At}
+use Rattle.pattern_items.specs.declared.atom.Atom.TheVariants.{Char, Any, Is, LineEnd, LineStart, LineStop, MatchStart, ExternalRef}
 use Rattle.vim_pattern.specs.Shape.{one, seq, external}
 use Rattle.keyword_table.specs.Candidates.{candidates}
 use Rattle.keyword_table.specs.Words.{word_end}
@@ -14,7 +13,7 @@ use Rattle.syntax_set.specs.declared.item.Item.{Item}
 use Rattle.syntax_set.specs.declared.item.ItemKind.TheVariants.{Match, Region, Keyword}
 use Rattle.syntax_set.specs.declared.item.Special.TheVariants.{Plain}
 use Rattle.paint_rules.specs.Syntax.{attempt_by}
-use Rattle.paint_rules.proofs.Sample.{letters, lit, pattern_of, tree_of, with_line_end, star, plus, s_plus, e_plus, group, item, only, region, word, span, run}
+use Rattle.paint_rules.proofs.Sample.{in_line, letters, lit, pattern_of, tree_of, with_line_end, star, plus, s_plus, e_plus, group, item, only, region, word, span, run}
 
 -- syn match Num "\d\+"
 digits_are_shown : run (item 0 (Match (pattern_of (plus (Is Digit false false)))) ∷ []) [] (codes "a12b3" ∷ []) ≡ Some ((span 2 3 0 ∷ span 5 5 0 ∷ []) ∷ [])
@@ -147,7 +146,7 @@ leading_context = refl
 -- Cases beyond the rows.
 
 -- syn match M "\%2lx"
-a_line_number_is_that_of_the_text : run (item 0 (Match (pattern_of (seq (one (LineNumber At 2)) (one (Char 120))))) ∷ []) [] (codes "x" ∷ codes "x" ∷ codes "x" ∷ []) ≡ Some ([] ∷ (span 1 1 0 ∷ []) ∷ [] ∷ [])
+a_line_number_is_that_of_the_text : run (item 0 (Match (in_line 2 (codes "x"))) ∷ []) [] (codes "x" ∷ codes "x" ∷ codes "x" ∷ []) ≡ Some ([] ∷ (span 1 1 0 ∷ []) ∷ [] ∷ [])
 unfolding attempt_by word_end candidates set_has is_member is_same range_holds cluster_has
 a_line_number_is_that_of_the_text = refl
 
