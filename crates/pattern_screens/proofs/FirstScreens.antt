@@ -88,7 +88,7 @@ plain-fails x w next k a p h = plain-told x w next k a p ∙ ap (λ b. only_if b
 pub fits-told : FitAsTold
 fits-told x w a p = plain-told x w (character_at x.text w.at) refl a p
 
-plain-looks : (x : Context) (w : Way) (a : Atom) → is_plain a ≡ true → lines_looked x w a ≡ one_line (pos w.at.line)
+pub plain-looks : (x : Context) (w : Way) (a : Atom) → is_plain a ≡ true → lines_looked x w a ≡ one_line (pos w.at.line)
 plain-looks x w (Char c) p = refl
 plain-looks x w (Any takes_end) p = refl
 plain-looks x w (Is class negative takes_end) p = refl

@@ -6,6 +6,10 @@ pub mod LinedParts
 pub mod LooseLooks
 pub mod Screened
 pub mod FirstScreens
+pub mod FailingLaws
+pub mod RoomParts
+pub mod BehindLaws
+pub mod FollowingLaws
 pub mod StillLaws
 pub mod BoundLaws
 pub mod KeyLaws

@@ -37,13 +37,13 @@ pub record Lined (x : Context) (line ways cost : ℕ) (marks : List Mark) : Type
 pub lined-bounds : (x : Context) (line m n c d : ℕ) (a : List Mark) → m ≤ n → c ≤ d → Lined x line m c a → Lined x line n d a
 lined-bounds x line m n c d a h k t = record { here = t.here; few = omega (arith, t.few); cheap = omega (arith, t.cheap); seen = t.seen }
 
-reach-lined : (x : Context) (line : ℕ) (w : Way) → IsIn x line w.at → Lined x line 1 0 (Reach w ∷ [])
+pub reach-lined : (x : Context) (line : ℕ) (w : Way) → IsIn x line w.at → Lined x line 1 0 (Reach w ∷ [])
 reach-lined x line w h = record { here = (h, tt); few = omega arith; cheap = omega arith; seen = tt }
 
-nothing-lined : (x : Context) (line : ℕ) → Lined x line 0 0 []
+pub nothing-lined : (x : Context) (line : ℕ) → Lined x line 0 0 []
 nothing-lined x line = record { here = tt; few = omega arith; cheap = omega arith; seen = tt }
 
-or-lined : (x : Context) (line m n c d : ℕ) (a b : List Mark) → Lined x line m c a → Lined x line n d b → Lined x line (m + n) (c + d) (a ++ b)
+pub or-lined : (x : Context) (line m n c d : ℕ) (a b : List Mark) → Lined x line m c a → Lined x line n d b → Lined x line (m + n) (c + d) (a ++ b)
 or-lined x line m n c d a b h k = record {
   here = AllWays-append (λ v. IsIn x line v.at) a b h.here k.here;
   few = omega (arith, ways-append a b, h.few, k.few);
@@ -51,7 +51,7 @@ or-lined x line m n c d a b h k = record {
   seen = AllTicks-append (λ l. l ≡ one_line (pos line)) a b h.seen k.seen;
 }
 
-then-lined : (x : Context) (line m n c d : ℕ) (a : List Mark) (f : Way → List Mark) → Lined x line m c a → ((v : Way) → IsIn x line v.at → Lined x line n d (f v)) →
+pub then-lined : (x : Context) (line m n c d : ℕ) (a : List Mark) (f : Way → List Mark) → Lined x line m c a → ((v : Way) → IsIn x line v.at → Lined x line n d (f v)) →
     Lined x line (m * n) (c + m * d) (followed a f)
 then-lined x line m n c d a f h k =
     let In : Way → Type 0 = λ v. IsIn x line v.at in
@@ -62,7 +62,7 @@ then-lined x line m n c d a f h k =
       seen = AllTicks-followed In (λ l. l ≡ one_line (pos line)) a f h.here h.seen (λ v e. (k v e).seen);
     }
 
-noted-lined : (x : Context) (line m c : ℕ) (a : List Mark) (f : Way → List Mark) → Lined x line m c a → ((v : Way) → IsIn x line v.at → Lined x line 1 0 (f v)) → Lined x line m c (followed a f)
+pub noted-lined : (x : Context) (line m c : ℕ) (a : List Mark) (f : Way → List Mark) → Lined x line m c a → ((v : Way) → IsIn x line v.at → Lined x line 1 0 (f v)) → Lined x line m c (followed a f)
 noted-lined x line m c a f h k =
     lined-bounds x line (m * 1) m (c + m * 0) c (followed a f) (omega arith) (omega arith) (then-lined x line m 1 c 0 a f h k)
 
@@ -185,11 +185,11 @@ chain-cost-more m c (suc k) = let h : m * chain_cost m c k ≤ m * chain_cost m 
 abbrev pub LinedAt : Context → ℕ → ℕ → ℕ → (Way → List Mark) → Type 0
 LinedAt x line m c part = (v : Way) → IsIn x line v.at → Lined x line m c (part v)
 
-if-lined : (x : Context) (line m c : ℕ) (b : Bool) (y z : List Mark) → (b ≡ true → Lined x line m c y) → (b ≡ false → Lined x line m c z) → Lined x line m c (elim b as (λ _. List Mark) [ true ↦ y | false ↦ z ])
+pub if-lined : (x : Context) (line m c : ℕ) (b : Bool) (y z : List Mark) → (b ≡ true → Lined x line m c y) → (b ≡ false → Lined x line m c z) → Lined x line m c (elim b as (λ _. List Mark) [ true ↦ y | false ↦ z ])
 if-lined x line m c true y z h k = h refl
 if-lined x line m c false y z h k = k refl
 
-in-order-lined : (x : Context) (line m c : ℕ) (lazy : Bool) (a : List Mark) (w : Way) → IsIn x line w.at → Lined x line m c a → Lined x line (m + 1) c (in_order lazy a (Reach w ∷ []))
+pub in-order-lined : (x : Context) (line m c : ℕ) (lazy : Bool) (a : List Mark) (w : Way) → IsIn x line w.at → Lined x line m c a → Lined x line (m + 1) c (in_order lazy a (Reach w ∷ []))
 in-order-lined x line m c true a w h k =
     lined-bounds x line (1 + m) (m + 1) (0 + c) c (Reach w ∷ a) (omega arith) (omega arith) (or-lined x line 1 m 0 c (Reach w ∷ []) a (reach-lined x line w h) k)
 in-order-lined x line m c false a w h k =

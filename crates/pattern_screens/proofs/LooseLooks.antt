@@ -178,25 +178,8 @@ near-start line here h l e = elim h [
   | inr less ↦ inr (e ∙ ap one_line (line-less here line less))
 ]
 
-start-lined : (x : Context) (line : ℕ) (part : Shape) → is_lined part ≡ true → (w : Way) (p : Place) → IsStart x line p → Lined x p.line (any_ways part) (any_cost part) (visits x part (record w { at = p }))
-start-lined x line part e w p s = lined x p.line part e (record w { at = p }) (record { on = refl; within = s.inside })
-
 more-starts : (a b n c : ℕ) → a ≤ c → b ≤ n * c → a + b ≤ suc n * c
 more-starts a b n c h k = let s : suc n * c ≡ n * c + c = suc-mul n c in omega arith
-
-each-ticks : (x : Context) (line : ℕ) (part : Shape) → is_lined part ≡ true → (w : Way) (places : List Place) → AllOf (IsStart x line) places → ticks_of (from_each (visits x part) w places) ≤ length places * any_cost part
-each-ticks x line part e w [] s = omega arith
-each-ticks x line part e w (p ∷ places) s =
-    let a = (start-lined x line part e w p s.0).cheap in
-    rw (ticks-append (visits x part (record w { at = p })) (from_each (visits x part) w places))
-    (more-starts (ticks_of (visits x part (record w { at = p }))) (ticks_of (from_each (visits x part) w places)) (length places) (any_cost part) a (each-ticks x line part e w places s.1))
-
-each-near : (x : Context) (line : ℕ) (part : Shape) → is_lined part ≡ true → (w : Way) (places : List Place) → AllOf (IsStart x line) places → AllTicks (Near line) (from_each (visits x part) w places)
-each-near x line part e w [] s = tt
-each-near x line part e w (p ∷ places) s =
-    AllTicks-append (Near line) (visits x part (record w { at = p })) (from_each (visits x part) w places)
-    (AllTicks-under (λ l. l ≡ one_line (pos p.line)) (Near line) (visits x part (record w { at = p })) (near-start line p.line s.0.near) (start-lined x line part e w p s.0).seen)
-    (each-near x line part e w places s.1)
 
 first-two : (line : ℕ) (q : Place) (a b : List Mark) → BeginsWithTick a → AllTicks (λ l. l ≡ one_line (pos line)) a →
     SomeTick (λ l. l ≡ two_lines line) (ticks_first (looking_at (one_line (pos line -ℤ pos 1)) (ending_at q (a ++ b))))
@@ -204,25 +187,49 @@ first-two line q [] b h s = absurd h
 first-two line q (Tick m ∷ a) b h s = inl (ap (λ l. hull_of l (one_line (pos line -ℤ pos 1))) s.0)
 first-two line q (Reach w ∷ a) b h s = absurd h
 
-behind-two : (x : Context) (part : Shape) → is_lined part ≡ true → (limit : Behind) (w : Way) → w.at.col ≤ length (line_at x.text w.at.line) → tries_first part ≡ true →
-    SomeTick (λ l. l ≡ two_lines w.at.line) (ticks_first (tried_behind x.text (visits x part) limit w))
-behind-two x part e limit w within tries =
-    let first = start-first x.text limit w.at in
-    let here : Place = place w.at.line w.at.col in
-    subst (λ places. SomeTick (λ l. l ≡ two_lines w.at.line) (ticks_first (looking_at (one_line (pos w.at.line -ℤ pos 1)) (ending_at w.at (from_each (visits x part) w places))))) (sym first.1)
-    (first-two w.at.line w.at (visits x part (record w { at = here })) (from_each (visits x part) w first.0) (tick-begins x part tries (record w { at = here }))
-    (start-lined x w.at.line part e w here (record { near = inl refl; inside = within })).seen)
+-- the part stays in its line at each start, with so many ways and ticks
+module _ (x : Context) (part : Shape) (m c : ℕ) (w : Way) (stays : (p : Place) → IsStart x w.at.line p → Lined x p.line m c (visits x part (record w { at = p }))) where
+  each-ticks : (places : List Place) → AllOf (IsStart x w.at.line) places → ticks_of (from_each (visits x part) w places) ≤ length places * c
+  each-ticks [] s = omega arith
+  each-ticks (p ∷ places) s =
+      let a = (stays p s.0).cheap in
+      rw (ticks-append (visits x part (record w { at = p })) (from_each (visits x part) w places))
+      (more-starts (ticks_of (visits x part (record w { at = p }))) (ticks_of (from_each (visits x part) w places)) (length places) c a (each-ticks places s.1))
+
+  each-near : (places : List Place) → AllOf (IsStart x w.at.line) places → AllTicks (Near w.at.line) (from_each (visits x part) w places)
+  each-near [] s = tt
+  each-near (p ∷ places) s =
+      AllTicks-append (Near w.at.line) (visits x part (record w { at = p })) (from_each (visits x part) w places)
+      (AllTicks-under (λ l. l ≡ one_line (pos p.line)) (Near w.at.line) (visits x part (record w { at = p })) (near-start w.at.line p.line s.0.near) (stays p s.0).seen)
+      (each-near places s.1)
+
+  module _ (limit : Behind) (inside : w.at.col ≤ length (line_at x.text w.at.line)) where
+    behind-two : tries_first part ≡ true → SomeTick (λ l. l ≡ two_lines w.at.line) (ticks_first (tried_behind x.text (visits x part) limit w))
+    behind-two tries =
+        let first = start-first x.text limit w.at in
+        let here : Place = place w.at.line w.at.col in
+        subst (λ places. SomeTick (λ l. l ≡ two_lines w.at.line) (ticks_first (looking_at (one_line (pos w.at.line -ℤ pos 1)) (ending_at w.at (from_each (visits x part) w places))))) (sym first.1)
+        (first-two w.at.line w.at (visits x part (record w { at = here })) (from_each (visits x part) w first.0) (tick-begins x part tries (record w { at = here }))
+        (stays here (record { near = inl refl; inside = inside })).seen)
+
+    -- the look goes on or not, and sees the line before
+    pub starts-stand : (n : ℕ) → length (starts_behind x.text limit w.at) ≤ n → (negative : Bool) →
+        Stands w.at (behind_here (tries_first part)) 1 (n * c) (look negative w (tried_behind x.text (visits x part) limit w))
+    starts-stand n many negative =
+        let places : List Place = starts_behind x.text limit w.at in
+        let all = all-start x limit w.at inside in
+        let marks : List Mark = from_each (visits x part) w places in
+        let few : length places * c ≤ n * c = mul-le-mul_right c many in
+        let cheap : ticks_of (tried_behind x.text (visits x part) limit w) ≤ n * c =
+        omega (arith, few, ticks-looking (one_line (pos w.at.line -ℤ pos 1)) (ending_at w.at marks), ticks-ending w.at marks, each-ticks places all) in
+        loose-look w.at negative w (tried_behind x.text (visits x part) limit w) (n * c) true (tries_first part) refl cheap
+        (seen-looking (Near w.at.line) (Within w.at.line) (one_line (pos w.at.line -ℤ pos 1)) (ending_at w.at marks) (near-within w.at.line) (seen-ending (Near w.at.line) w.at marks (each-near places all)))
+        behind-two
+
+start-lined : (x : Context) (line : ℕ) (part : Shape) → is_lined part ≡ true → (w : Way) (p : Place) → IsStart x line p → Lined x p.line (any_ways part) (any_cost part) (visits x part (record w { at = p }))
+start-lined x line part e w p s = lined x p.line part e (record w { at = p }) (record { on = refl; within = s.inside })
 
 pub behind-stands : (x : Context) (part : Shape) → is_lined part ≡ true → (negative : Bool) (limit : Behind) (w : Way) → is_near limit ≡ true → w.at.col ≤ length (line_at x.text w.at.line) →
     Stands w.at (behind_here (tries_first part)) 1 (most_starts limit * any_cost part) (look negative w (tried_behind x.text (visits x part) limit w))
-behind-stands x part e negative limit w near within =
-    let places : List Place = starts_behind x.text limit w.at in
-    let all = all-start x limit w.at within in
-    let marks : List Mark = from_each (visits x part) w places in
-    let line : ℕ = w.at.line in
-    let few : length places * any_cost part ≤ most_starts limit * any_cost part = mul-le-mul_right (any_cost part) (start-count x.text limit w.at near) in
-    let cheap : ticks_of (tried_behind x.text (visits x part) limit w) ≤ most_starts limit * any_cost part =
-    omega (arith, few, ticks-looking (one_line (pos line -ℤ pos 1)) (ending_at w.at marks), ticks-ending w.at marks, each-ticks x line part e w places all) in
-    loose-look w.at negative w (tried_behind x.text (visits x part) limit w) (most_starts limit * any_cost part) true (tries_first part) refl cheap
-    (seen-looking (Near line) (Within line) (one_line (pos line -ℤ pos 1)) (ending_at w.at marks) (near-within line) (seen-ending (Near line) w.at marks (each-near x line part e w places all)))
-    (behind-two x part e limit w within)
+behind-stands x part e negative limit w near inside =
+    starts-stand x part (any_ways part) (any_cost part) w (start-lined x w.at.line part e w) limit inside (most_starts limit) (start-count x.text limit w.at near) negative

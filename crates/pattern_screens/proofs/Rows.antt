@@ -1,5 +1,5 @@
 -- Worked rows: what screens say of patterns, and what their attempts do.
-use Rattle.std.specs.Prelude.{◌≡◌, ℕ, true, false, List, [], ◌∷◌, None, codes, pos, refl}
+use Rattle.std.specs.Prelude.{◌≡◌, ℕ, true, false, List, [], ◌∷◌, Some, None, codes, pos, refl}
 use Rattle.char_class.specs.CharSet.{set_has, is_member}
 use Rattle.char_class.specs.Folds.{is_same, range_holds}
 use Rattle.char_class.specs.declared.sets.Sets.{Sets}
@@ -10,10 +10,13 @@ use Rattle.vim_pattern.specs.Tree.{PatternTree}
 use Rattle.vim_pattern.specs.Shape.{Shape, one, seq, or, group, repeat, ahead, before}
 use Rattle.match_rules.specs.Ways.{place}
 use Rattle.match_rules.specs.Attempt.{search, lines_of}
+use Rattle.pattern_screens.specs.Behind.{behind_cost, fails_behind}
 use Rattle.pattern_screens.specs.FirstAtoms.{first_cost}
+use Rattle.pattern_screens.specs.Following.{fails_after}
 use Rattle.pattern_screens.specs.Keys.{key_of}
 use Rattle.pattern_screens.specs.Screens.{verdict}
 use Rattle.pattern_screens.specs.Bounds.{most_cost}
+use Rattle.pattern_screens.specs.Rooms.{room_of}
 use Rattle.pattern_screens.specs.declared.verdict.Verdict.{Verdict}
 use Rattle.pattern_screens.specs.declared.verdict.Verdict.TheVariants.{Passes, Fails, FailsSeeingBefore}
 
@@ -85,3 +88,40 @@ bound_of_a_word = refl
 pub cut_look_sees_its_line : lines_of (place 1 1) (search (record { text = codes "x" ∷ codes "cab" ∷ []; ignore = false; sets = letters; externals = [] }) (seq (ahead (or (one MatchStart) (one FileStart)) false) (ch 120)) (place 1 1)) ≡ one_line (pos 1)
 unfolding is_same set_has is_member range_holds
 cut_look_sees_its_line = refl
+
+-- `\\\@<!"` is tried from 201 columns of two lines, and the quote costs one more: at an `x`, whose key is the
+-- 120th, it fails within 403 and not within 402, and at the quote nothing is known
+abbrev unescaped_quote : Shape
+unescaped_quote = seq (before (ch 92) true behind.Any) (ch 34)
+
+pub cost_of_a_look_behind : behind_cost unescaped_quote ≡ Some 402
+cost_of_a_look_behind = refl
+
+pub behind_a_look_within : fails_behind letters 403 false 120 (tree_of unescaped_quote) ≡ true
+unfolding is_same set_has is_member range_holds
+behind_a_look_within = refl
+
+pub behind_a_look_beyond : fails_behind letters 402 false 120 (tree_of unescaped_quote) ≡ false
+unfolding is_same set_has is_member range_holds
+behind_a_look_beyond = refl
+
+pub behind_a_look_taken : fails_behind letters 403 false 34 (tree_of unescaped_quote) ≡ false
+unfolding is_same set_has is_member range_holds
+behind_a_look_taken = refl
+
+-- a count without a limit in a short line
+pub room_of_a_count : room_of (repeat (ch 97) 0 None false) ≡ Some (record { ways = 201; cost = 202 })
+room_of_a_count = refl
+
+-- `ab` before an `x` fails within 4, and before a `b` nothing is known
+pub after_within : fails_after letters 4 false 120 (tree_of (seq (ch 97) (ch 98))) ≡ true
+unfolding is_same set_has is_member range_holds
+after_within = refl
+
+pub after_beyond : fails_after letters 3 false 120 (tree_of (seq (ch 97) (ch 98))) ≡ false
+unfolding is_same set_has is_member range_holds
+after_beyond = refl
+
+pub after_taken : fails_after letters 4 false 98 (tree_of (seq (ch 97) (ch 98))) ≡ false
+unfolding is_same set_has is_member range_holds
+after_taken = refl

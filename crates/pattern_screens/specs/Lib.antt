@@ -8,3 +8,10 @@ pub mod Bounds
 pub mod ScreenLaw
 pub mod FirstAtoms
 pub mod FirstLaw
+pub mod Failing
+pub mod Short
+pub mod Rooms
+pub mod Rest
+pub mod Behind
+pub mod Following
+pub mod FailingLaw

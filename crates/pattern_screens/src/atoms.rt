@@ -2,7 +2,7 @@
 ghost use Rattle.std.specs.Prelude.{◌≡◌};
 ghost use Rattle.std.specs.List.{list_any};
 ghost use Rattle.match_rules.specs.Collections.{class_in_set, collection_holds, part_holds};
-ghost use Rattle.pattern_screens.specs.PlainAtoms.{is_plain, plain_fits, plain_takes};
+ghost use Rattle.pattern_screens.specs.PlainAtoms.{is_plain, plain_takes};
 ghost use Rattle.pattern_screens.specs.MayTake.{class_has_other, may_take, may_take_other, part_may_hold, takes_end};
 
 use crate::key::Next;
@@ -29,7 +29,7 @@ pub(crate) fn is_plain(atom: &Atom) -> bool
 }
 
 /// Whether an atom of characters takes this one.
-pub(crate) fn plain_takes(by: &By, atom: &Atom, c: char) -> bool
+fn plain_takes(by: &By, atom: &Atom, c: char) -> bool
     ensures { result ≡ plain_takes by.now.sets.now by.now.ignore atom.now c }
 {
     match atom {
@@ -41,16 +41,6 @@ pub(crate) fn plain_takes(by: &By, atom: &Atom, c: char) -> bool
         } => class_has(*class, c, by.sets) != *not,
         Atom::Set(ranges) => collection_has(ranges, c, by),
         _ => true,
-    }
-}
-
-/// The same, where perhaps none stands.
-pub(crate) fn plain_fits(by: &By, next: Option<char>, atom: &Atom) -> bool
-    ensures { result ≡ plain_fits by.now.sets.now by.now.ignore next atom.now }
-{
-    match next {
-        Some(c) => plain_takes(by, atom, c),
-        None => false,
     }
 }
 
@@ -157,7 +147,8 @@ fn some_part_has(parts: &[SetPart], c: char, by: &By) -> bool
     false
 }
 
-fn part_has(part: SetPart, c: char, sets: &Sets, ignore: bool) -> bool
+/// Whether a part of a collection holds a character (`/collection`).
+pub fn part_has(part: SetPart, c: char, sets: &Sets, ignore: bool) -> bool
     ensures { result ≡ part_holds part c sets.now ignore }
 {
     match part {
@@ -170,6 +161,8 @@ fn part_has(part: SetPart, c: char, sets: &Sets, ignore: bool) -> bool
     }
 }
 
+/// Whether a class of a collection holds a character: where case is ignored, small letters and
+/// capitals are each all letters.
 fn class_in_set(class: Class, c: char, sets: &Sets, ignore: bool) -> bool
     ensures { result ≡ class_in_set class c sets.now ignore }
 {

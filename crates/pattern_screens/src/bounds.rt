@@ -1,7 +1,7 @@
 //! How much an attempt costs at most where the screen of its pattern fails.
 ghost use Rattle.std.specs.Prelude.{◌≡◌, ◌+◌, ◌*◌, ◌<◌, IfSome};
 ghost use Rattle.vim_pattern.specs.Shape.{bare};
-ghost use Rattle.pattern_screens.specs.Bounds.{any_of, atom_ways, behind_cost, chain_of, failing_cost, first_bound, look_bound, most_of, one_turn_more, or_bound, then_bound, turn_bound};
+ghost use Rattle.pattern_screens.specs.Bounds.{any_of, atom_ways, behind_cost, chain_of, failing_cost, first_bound, look_bound, most_cost, most_of, one_turn_more, or_bound, then_bound, turn_bound};
 ghost use Rattle.pattern_screens.specs.Lined.{most_starts, most_turns};
 
 use crate::lined::{is_lined, is_spent};
@@ -20,7 +20,14 @@ pub(crate) struct Bound {
 pub fn failing_cost(tree: &Tree) -> Option<u64>
     ensures { IfSome result (λ cost. cost ≡ failing_cost tree.now) }
 {
-    Some(most(&tree.node)?.cost)
+    most_cost(&tree.node)
+}
+
+/// The same of a node.
+pub(crate) fn most_cost(node: &Node) -> Option<u64>
+    ensures { IfSome result (λ cost. cost ≡ most_cost (bare node.now)) }
+{
+    Some(most(node)?.cost)
 }
 
 /// The bound of a part that takes nothing.
@@ -126,7 +133,7 @@ fn atom_ways(atom: &Atom) -> u64
 }
 
 /// A part, and another behind each of its ways.
-fn then_bound(a: Bound, b: Bound) -> Option<Bound>
+pub(crate) fn then_bound(a: Bound, b: Bound) -> Option<Bound>
     ensures { IfSome result (λ bound. bound ≡ then_bound a b) }
 {
     Some(Bound {

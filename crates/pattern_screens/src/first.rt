@@ -1,73 +1,18 @@
-//! Screens by first atoms.
-ghost use Rattle.std.specs.Prelude.{◌≡◌, ◌≤◌, length, slice_get, map, MatchOption, IfOk, None, Some};
-ghost use Rattle.std.specs.List.{list_any};
+//! How many first atoms a pattern has.
+ghost use Rattle.std.specs.Prelude.{◌≡◌, length, IfOk};
 ghost use Rattle.std.specs.Option.{option_map};
 ghost use Rattle.vim_pattern.specs.Shape.{bare};
-ghost use Rattle.match_rules.specs.Attempt.{ignores_case};
-ghost use Rattle.pattern_screens.specs.PlainAtoms.{plain_fits};
-ghost use Rattle.pattern_screens.specs.FirstAtoms.{first_atoms, first_cost, first_passes, is_forced, number_of};
+ghost use Rattle.pattern_screens.specs.FirstAtoms.{first_atoms, first_cost, is_forced};
 
-use crate::atoms::{is_plain, plain_fits};
-use crate::seen::By;
-use char_class::Sets;
+use crate::atoms::is_plain;
 use syn_base::Memory;
 use vim_pattern::{Node, Tree};
-
-/// Whether a screen lets an attempt at a column through. Where it doesn't, the attempt has no way.
-pub fn screen_passes(tree: &Tree, sets: &Sets, ignore: bool, line: &[char], col: usize) -> bool
-    requires { col ≤ length line.now }
-    ensures { result ≡ first_passes sets.now (ignores_case tree.now ignore)
-        (slice_get line.now col) tree.now.node }
-{
-    let by = By {
-        sets,
-        ignore: tree.case.unwrap_or(ignore),
-    };
-    some_first_fits(&tree.node, &by, line.get(col).copied()).unwrap_or(true)
-}
 
 /// What an attempt costs at most where its screen fails.
 pub fn screen_cost(tree: &Tree) -> Result<u64, Memory>
     ensures { IfOk result (λ cost. cost ≡ first_cost tree.now.node) }
 {
     Ok(count_first(&tree.node)?.unwrap_or(1))
-}
-
-/// Whether one of the first atoms fits; none where they aren't all of characters.
-fn some_first_fits(node: &Node, by: &By, next: Option<char>) -> Option<bool>
-    ensures { result ≡ option_map (list_any (plain_fits by.now.sets.now by.now.ignore next))
-        (first_atoms (bare node.now)) }
-{
-    match node {
-        Node::One(atom) => {
-            if is_plain(atom) {
-                Some(plain_fits(by, next, atom))
-            } else {
-                None
-            }
-        }
-        Node::Seq(a, _) => some_first_fits(a, by, next),
-        Node::Or(a, b) => {
-            let one = some_first_fits(a, by, next)?;
-            let other = some_first_fits(b, by, next)?;
-            Some(one || other)
-        }
-        Node::Group(a, _) => some_first_fits(a, by, next),
-        Node::External(a, _) => some_first_fits(a, by, next),
-        Node::Repeat {
-            part,
-            least,
-            most,
-            lazy: _,
-        } => {
-            if is_forced(*least, *most) {
-                some_first_fits(part, by, next)
-            } else {
-                None
-            }
-        }
-        _ => None,
-    }
 }
 
 /// How many first atoms there are; none where they aren't all of characters. A number that doesn't

@@ -7,23 +7,36 @@
 //! screen of a pattern says can be kept in a table.
 #![tactic(auto)]
 
+ghost use Rattle.pattern_screens.specs.FailingLaw.{FailBefore, FailBehind, FailHere};
 ghost use Rattle.pattern_screens.specs.FirstLaw.{AreFirstSound, FitAsTold};
 ghost use Rattle.pattern_screens.specs.ScreenLaw.{AreSound};
 
 mod atoms;
+mod behind;
 mod bounds;
+mod failing;
 mod first;
+mod following;
 mod joined;
 mod key;
 mod lined;
 mod parts;
+mod rest;
+mod rooms;
 mod seen;
+mod short;
 mod still;
 mod verdict;
 
+pub use atoms::part_has;
+pub use behind::{begins_behind, fails_behind};
 pub use bounds::failing_cost;
-pub use first::{screen_cost, screen_passes};
+pub use failing::{fails, fails_at, fails_past_first};
+pub use first::screen_cost;
+pub use following::{fails_after, takes_first};
 pub use key::{KEYS, Key, Last, Next, number_line};
+pub use lined::is_spent;
+pub use short::{are_short, two_lines};
 pub use verdict::{Verdict, screen};
 
 /// Where the verdict of a screen isn't that it passes, an attempt has no way, its cost is within
@@ -38,4 +51,13 @@ pub fn screens_are_sound()
 pub fn first_screens_are_sound()
     ensures fit { FitAsTold }
     ensures sound { AreFirstSound }
+{}
+
+/// Where an attempt is known to fail within a budget, by what stands at its column, by what stands
+/// one column behind or by what follows a look behind, it has no way, its cost is within the budget,
+/// and it looks at exactly its line, or behind a look behind at it and the line before.
+pub fn failures_are_sound()
+    ensures here { FailHere }
+    ensures before { FailBefore }
+    ensures behind { FailBehind }
 {}

@@ -64,7 +64,8 @@ fn are_lined(node: &Node) -> bool
     }
 }
 
-fn is_lined_atom(atom: &Atom) -> bool
+/// Whether an atom stays in its line.
+pub(crate) fn is_lined_atom(atom: &Atom) -> bool
     ensures { result ≡ is_lined_atom atom.now }
 {
     match atom {
@@ -96,7 +97,7 @@ pub(crate) fn is_near(limit: Behind) -> bool
 }
 
 /// Whether a count takes no turn.
-pub(crate) fn is_spent(most: Option<u32>) -> bool
+pub fn is_spent(most: Option<u32>) -> bool
     ensures { result ≡ is_spent most }
 {
     match most {

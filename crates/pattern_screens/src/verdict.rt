@@ -1,6 +1,7 @@
 //! What the screen of a pattern says of a column.
 ghost use Rattle.std.specs.Prelude.{◌≡◌};
-ghost use Rattle.pattern_screens.specs.Screens.{is_futile, verdict, verdict_of};
+ghost use Rattle.vim_pattern.specs.Shape.{bare};
+ghost use Rattle.pattern_screens.specs.Screens.{is_futile, still_of, verdict, verdict_of};
 ghost use Rattle.pattern_screens.specs.ScreenLaw.{IsSoundAt};
 
 use crate::key::Key;
@@ -8,7 +9,7 @@ use crate::parts::still_of;
 use crate::seen::By;
 use crate::still::Still;
 use char_class::Sets;
-use vim_pattern::Tree;
+use vim_pattern::{Node, Tree};
 
 /// What the screen of a pattern says of the columns with a key.
 #[derive(Clone, Copy, Debug, PartialEq, Eq)]
@@ -42,7 +43,15 @@ pub fn screen(tree: &Tree, sets: &Sets, ignore: bool, key: Key) -> Verdict
         sets,
         ignore: tree.case.unwrap_or(ignore),
     };
-    verdict_of(still_of(&tree.node, &by, key))
+    node_verdict(&tree.node, &by, key)
+}
+
+/// The same of a node.
+pub(crate) fn node_verdict(node: &Node, by: &By, key: Key) -> Verdict
+    ensures { result
+        ≡ verdict_of (still_of by.now.sets.now by.now.ignore key (bare node.now)) }
+{
+    verdict_of(still_of(node, by, key))
 }
 
 fn verdict_of(known: Option<Still>) -> Verdict

@@ -1,0 +1,14 @@
+use Rattle.std.proofs.Common.{◌≡◌, ℕ, false, subst, true, arith, inl, inr}
+use Rattle.std.proofs.lemmas.Bool.{cases_lt}
+use Rattle.pattern_screens.specs.Failing.{fails_at}
+use Rattle.pattern_screens.specs.Keys.{is_first, key_numbered}
+use Rattle.pattern_screens.proofs.failing.fails_past_first.Goals as goal
+
+pub loop-number-preserved : goal.loop-number-preserved
+loop-number-preserved c n below past = elim (cases_lt n c.loop-number.number) [
+  | inl early ↦ c.loop-number.invariant n early past
+  | inr late ↦
+      let here : c.loop-number.number ≡ n = omega (arith, below, late) in
+      subst (λ (k : ℕ). is_first (key_numbered k).last ≡ false → fails_at c.args.sets.now c.args.budget c.args.ignore k c.args.tree.now ≡ true) here
+      (c.fails_unless_first.ensures c.if-not-fails_unless_first.false) past
+]
