@@ -843,17 +843,20 @@ endfunc
 
 " === Patterns in their usual spelling ===
 
-let s:odd = '%[\\CV#]\|%[<>]\=\d\+[lcv]\|[z_]\\\|@\d*[=!>\\]\|\\Z\|\[[=.]'
+let s:odd = '%[\\CV#]\|%[<>]\=\%(\d\+[cv]\|\d\{10,}l\)\|[z_]\\\|@\d*[=!>\\]\|\\Z\|\[[=.]'
+" (behind a line number at its start a pattern still begins for Vim, so a caret is a line start there)
+let s:caret_behind_line = '^\%(\\[cCmM]\)*\%(\\%[<>]\=\d\+l\)\+\zs\^'
 
 " A pattern, and a cause where it doesn't mean all that it means for Vim, or is left out.
 " A text that is painted has no cursor and no visual area, so '\%#' and '\%V' never match.
 func s:Respell(pattern) abort
-  if a:pattern !~# s:odd
-    return [a:pattern, '']
+  let pattern = substitute(a:pattern, s:caret_behind_line, '\\_^', '')
+  if pattern !~# s:odd
+    return [pattern, '']
   endif
   let [made, cause, level, i] = ['', '', 2, 0]
-  while i < len(a:pattern)
-    let [item, kind] = s:Item(a:pattern, i, level)
+  while i < len(pattern)
+    let [item, kind] = s:Item(pattern, i, level)
     let i += len(item)
     if kind ==# 'level'
       let level = stridx('VMmv', item[1])
@@ -905,8 +908,10 @@ endfunc
 func s:Percent(item, level) abort
   let item = substitute(a:item, '^\(\\\=%\)\\', '\1', '')
   let m = matchlist(item, '^\\\=%\([<>]\=\)\(\d\+\)\([lcv]\)$')
-  if !empty(m)
-    return s:Position(item, m[1], str2nr(m[2]), m[3], a:level)
+  if !empty(m) && m[3] ==# 'l'
+    return len(m[2]) > 9 ? ['', 'left out: ' . item] : [item, '']
+  elseif !empty(m)
+    return s:Column(item, m[1], str2nr(m[2]), m[3] ==# 'v', a:level)
   elseif item =~# '%[#V]$'
     return [s:Spelled('%(a@!a)', a:level), '']
   elseif item =~# '%C$'
@@ -917,22 +922,12 @@ func s:Percent(item, level) abort
   return [item, '']
 endfunc
 
-" A place by its line or column, as a look behind up to the line's start.
-func s:Position(item, compared, number, unit, level) abort
-  let n = a:number
-  if a:unit ==# 'l'
-    let reach = a:compared ==# '<' ? n - 1 : n
-    if reach > 2 || reach < 1 || a:compared ==# '' && n != 1
-      return ['', 'left out: ' . a:item]
-    endif
-    let before = reach == 1 ? '%^.*' : '%^.*%(\n.*)='
-  else
-    let most = a:compared ==# '<' ? n - 2 : n - 1
-    let before = '^' . s:Cells(most, a:compared ==# '', a:unit ==# 'v')
-  endif
-  let cause = a:unit ==# 'l' ? '' : 'each character counts as one column: ' . a:item
-  let not_after = a:compared ==# '>'
-  return [s:Spelled('%(' . (before) . ')@<' . (not_after ? '!' : '='), a:level), cause]
+" A place by its column, as a look behind up to the line's start.
+func s:Column(item, compared, number, on_screen, level) abort
+  let most = a:compared ==# '<' ? a:number - 2 : a:number - 1
+  let before = '^' . s:Cells(most, a:compared ==# '', a:on_screen)
+  let made = s:Spelled('%(' . before . ')@<' . (a:compared ==# '>' ? '!' : '='), a:level)
+  return [made, 'each character counts as one column: ' . a:item]
 endfunc
 
 " Exactly or at most so many columns; a tab goes to the next eighth one.

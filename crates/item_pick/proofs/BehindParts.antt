@@ -108,10 +108,10 @@ abbrev Near : ℕ → Looked → Type 0
 Near line l = (l ≡ one_line (pos line)) ⊎ (l ≡ one_line (pos line -ℤ pos 1))
 
 within-both : (line : ℕ) → Within line (two_lines line)
-within-both line = record { low = grind (arith, ints); high = grind (arith, ints) }
+within-both line = record { low = grind (arith, ints); high = grind (arith, ints); unnumbered = refl }
 
 within-before : (line : ℕ) → Within line (hull_of (one_line (pos line -ℤ pos 1)) (one_line (pos line -ℤ pos 1)))
-within-before line = record { low = grind (arith, ints); high = grind (arith, ints) }
+within-before line = record { low = grind (arith, ints); high = grind (arith, ints); unnumbered = refl }
 
 near-within : (line : ℕ) (l : Looked) → Near line l → Within line (hull_of l (one_line (pos line -ℤ pos 1)))
 near-within line l h = elim h [

@@ -20,10 +20,7 @@ pub(crate) fn two_lines(line: usize) -> Looked
     ensures { result ≡ two_lines line }
 {
     let line = line as i64;
-    Looked {
-        low: line - 1,
-        high: line,
-    }
+    Looked::one(line).join(Looked::one(line - 1))
 }
 
 /// Whether a present line and the one before have at most 200 characters.

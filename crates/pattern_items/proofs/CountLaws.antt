@@ -35,11 +35,11 @@ bounded_large : (n : ℕ) → 65535 < n → bounded n ≡ None
 bounded_large n h = cond-false (nat_le n 65535) (Some n) None (lt-leb n 65535 h)
 
 -- what stops a number
-abbrev Stops : List ℕ → Type 0
+abbrev pub Stops : List ℕ → Type 0
 Stops [] = Unit {0}
 Stops (c ∷ cs) = is_digit c ≡ false
 
-one_digit : (c : ℕ) → digit_value c < 10 → (is_digit c ≡ true) × (c - 48 ≡ digit_value c)
+pub one_digit : (c : ℕ) → digit_value c < 10 → (is_digit c ≡ true) × (c - 48 ≡ digit_value c)
 one_digit c h =
     let r = digit_from_value c h in
     let v = digit_value_digit c r in
@@ -109,7 +109,7 @@ times_are n m lazy = by_test (nat_lt m n) refl
         let high : m ≡ max n m = omega arith in
         λ i. record { least = low i; most = Some (high i); lazy = lazy }
 
-some_digits : (k : ℕ) → 0 < k → nat_eq k 0 ≡ false
+pub some_digits : (k : ℕ) → 0 < k → nat_eq k 0 ≡ false
 some_digits k h = ne_eqb k 0 (λ e. omega arith)
 
 most_by : (n : ℕ) (o : Option ℕ) (lazy : Bool) (k v : ℕ) (r : List ℕ) → nat_eq k 0 ≡ false →

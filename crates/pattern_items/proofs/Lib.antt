@@ -7,3 +7,4 @@ pub mod LevelLaws
 pub mod PlaceLaws
 pub mod NumberLaws
 pub mod DigitLaws
+pub mod LineLaws

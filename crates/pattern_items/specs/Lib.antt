@@ -12,6 +12,7 @@ pub mod GroupNumbers
 pub mod CauseText
 -- the same in other words, to which laws lead
 pub mod Counts
+pub mod LineNumbers
 pub mod LevelTable
 pub mod ClosingBracket
 -- below here, what only code and proofs cite

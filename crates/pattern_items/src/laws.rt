@@ -1,5 +1,6 @@
 //! Laws of the items: what a reader of a pattern may hold them to, in words of their own.
 ghost use Rattle.pattern_items.specs.Counts.{EachCountIsRead, EachLargeCountIsRefused};
+ghost use Rattle.pattern_items.specs.LineNumbers.{EachLineNumberIsRead, EachLongLineNumberIsRefused};
 ghost use Rattle.pattern_items.specs.LevelTable.{LettersAreSpelled, MagicItemsAreSpelled};
 ghost use Rattle.pattern_items.specs.LevelTable.{OthersAreSpelled};
 
@@ -14,4 +15,10 @@ pub fn levels_of_magic()
 pub fn counts_are_read()
     ensures read { EachCountIsRead }
     ensures refused { EachLargeCountIsRefused }
+{}
+
+/// Each line number is read to the lines that it names (`/\%l`).
+pub fn line_numbers_are_read()
+    ensures read { EachLineNumberIsRead }
+    ensures refused { EachLongLineNumberIsRefused }
 {}

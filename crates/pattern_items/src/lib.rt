@@ -25,6 +25,6 @@ pub use atom::{Atom, CharRanges, Compare, SetPart};
 pub use cause::PatternCause;
 pub use collection::collection_end;
 pub use item::{Before, Behind, Kind, Level, Multi, PatternUse, Placed, Sign, Surroundings, Times};
-pub use laws::{counts_are_read, levels_of_magic};
+pub use laws::{counts_are_read, levels_of_magic, line_numbers_are_read};
 pub use place::next_item;
 pub use scan::behind;

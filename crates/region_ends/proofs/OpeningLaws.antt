@@ -43,6 +43,7 @@ refers atom.FileStart number e = absurd (cc)
 refers atom.FileStop number e = absurd (cc)
 refers atom.MatchStart number e = absurd (cc)
 refers atom.MatchStop number e = absurd (cc)
+refers (atom.LineNumber how n) number e = absurd (cc)
 refers (atom.Ref n) number e = absurd (cc)
 
 first_is : (s : Shape) (number : ℕ) → first_external s ≡ Some number → first_atom s ≡ Some (atom.ExternalRef number)

@@ -3,7 +3,9 @@ use Rattle.std.proofs.Common.{◌≡◌, ℕ, zero, suc, List, [], ◌∷◌, �
 use Rattle.std.specs.Prelude.{Result, codes, Bool}
 use Rattle.syn_base.specs.declared.class.Class.{Class}
 use Rattle.syn_base.specs.declared.class.Class.TheVariants as class
-use Rattle.pattern_items.specs.declared.atom.Atom.TheVariants.{Char, Any, Is, Set, LineEnd, LineStart, LineStop, WordStart, FileStart, MatchStart, Ref, ExternalRef}
+use Rattle.pattern_items.specs.declared.atom.Atom.TheVariants.{Char, Any, Is, Set, LineEnd, LineStart, LineStop, WordStart, FileStart, MatchStart, LineNumber, Ref, ExternalRef}
+use Rattle.pattern_items.specs.declared.atom.Compare.{Compare}
+use Rattle.pattern_items.specs.declared.atom.Compare.TheVariants.{At, Before, After}
 use Rattle.pattern_items.specs.declared.atom.SetPart.{SetPart}
 use Rattle.pattern_items.specs.declared.atom.SetPart.TheVariants as part
 use Rattle.pattern_items.specs.declared.item.Behind.TheVariants as behind
@@ -262,6 +264,62 @@ not_external = refl
 no_mark : nodes (codes "a\\%'") ≡ faulty 1 cause.BadCode
 no_mark = refl
 
+-- Line numbers.
+
+abbrev in_line : Compare → ℕ → Shape
+in_line how number = one (LineNumber how number)
+
+at_line : nodes (codes "\\%23l") ≡ Ok (in_line At 23)
+at_line = refl
+
+before_line : nodes (codes "\\%<23l") ≡ Ok (in_line Before 23)
+before_line = refl
+
+after_line : nodes (codes "\\%>23l") ≡ Ok (in_line After 23)
+after_line = refl
+
+line_very_magic : nodes (codes "\\v%23l%>5l") ≡ Ok (seq (in_line At 23) (in_line After 5))
+line_very_magic = refl
+
+line_very_nomagic : nodes (codes "\\V\\%23l%") ≡ Ok (seq (in_line At 23) (char 37))
+line_very_nomagic = refl
+
+line_none : nodes (codes "\\%0l") ≡ Ok (in_line At 0)
+line_none = refl
+
+nine_digits : nodes (codes "a\\%<999999999lb") ≡ Ok (seq a (seq (in_line Before 999999999) b))
+nine_digits = refl
+
+ten_digits : nodes (codes "a\\%1234567890lx") ≡ faulty 1 cause.BadCode
+ten_digits = refl
+
+leading_zeros : nodes (codes "\\%007l") ≡ Ok (in_line At 7)
+leading_zeros = refl
+
+zeros_are_digits : nodes (codes "a\\%>0000000007l") ≡ faulty 1 cause.BadCode
+zeros_are_digits = refl
+
+line_often : nodes (codes "\\%[\\%2l]\\%2l*") ≡ Ok (seq (repeat (in_line At 2) 0 (Some 1) false) (repeat (in_line At 2) 0 None false))
+line_often = refl
+
+caret_behind_line : nodes (codes "\\%1l^") ≡ Ok (seq (in_line At 1) (char 94))
+caret_behind_line = refl
+
+no_unit : nodes (codes "a\\%23") ≡ faulty 1 cause.BadCode
+no_unit = refl
+
+other_unit : nodes (codes "\\%23L") ≡ faulty 0 cause.BadCode
+other_unit = refl
+
+no_line_digits : nodes (codes "\\%l") ≡ faulty 0 cause.BadCode
+no_line_digits = refl
+
+no_compared_digits : nodes (codes "b\\%<l") ≡ faulty 1 cause.BadCode
+no_compared_digits = refl
+
+nothing_compared : nodes (codes "\\v%>") ≡ faulty 2 cause.BadCode
+nothing_compared = refl
+
 -- Items that are left out.
 
 tilde : nodes (codes "~") ≡ faulty 0 (left_out (codes "~"))
@@ -270,10 +328,17 @@ tilde = refl
 tilde_nomagic : nodes (codes "\\Ma\\~") ≡ faulty 3 (left_out (codes "\\~"))
 tilde_nomagic = refl
 
-column : nodes (codes "a\\%1234567890c") ≡ faulty 1 (left_out (codes "\\%1234567890c"))
+column : nodes (codes "\\%23c") ≡ faulty 0 (left_out (codes "\\%23c"))
 column = refl
 
+long_column : nodes (codes "a\\%1234567890c") ≡ faulty 1 (left_out (codes "\\%1234567890c"))
+long_column = refl
 
+screen_column : nodes (codes "\\v%<23v") ≡ faulty 2 (left_out (codes "%<23v"))
+screen_column = refl
+
+mark_before : nodes (codes "\\%<'m") ≡ faulty 0 (left_out (codes "\\%<'m"))
+mark_before = refl
 
 mark : nodes (codes "\\%>'m") ≡ faulty 0 (left_out (codes "\\%>'m"))
 mark = refl
