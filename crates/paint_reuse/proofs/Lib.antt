@@ -1,8 +1,10 @@
 pub mod Places
+pub mod Numbers
 pub mod SameStates
 pub mod ReportIs
 pub mod NothingLaws
 pub mod NoteLaws
+pub mod ReusableIs
 pub mod ReuseLaw
 pub mod Walks
 pub mod Works
@@ -10,3 +12,4 @@ pub mod Steps
 pub mod Patches
 pub mod Skips
 pub mod Whole
+mod Rows

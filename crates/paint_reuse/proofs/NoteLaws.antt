@@ -25,16 +25,16 @@ still_ends : (x a : ℤ) → a ≡ pos 0 → x +ℤ a ≡ x
 still_ends x a none = omega (arith, ints, none)
 
 pub moved_back : (k : Looked) (by : ℤ) → moved_by (moved_by k (pos 0 -ℤ by)) by ≡ k
-moved_back k by = λ i. record { low = back_ends k.low by i; high = back_ends k.high by i }
+moved_back k by = λ i. record k { low = back_ends k.low by i; high = back_ends k.high by i }
 
 pub moved_there : (k : Looked) (by : ℤ) → moved_by (moved_by k by) (pos 0 -ℤ by) ≡ k
-moved_there k by = λ i. record { low = there_ends k.low by i; high = there_ends k.high by i }
+moved_there k by = λ i. record k { low = there_ends k.low by i; high = there_ends k.high by i }
 
 pub moved_forth : (k : Looked) (a b c : ℤ) → (a +ℤ b) +ℤ c ≡ pos 0 → moved_by (moved_by (moved_by k a) b) c ≡ k
-moved_forth k a b c none = λ i. record { low = forth_ends k.low a b c none i; high = forth_ends k.high a b c none i }
+moved_forth k a b c none = λ i. record k { low = forth_ends k.low a b c none i; high = forth_ends k.high a b c none i }
 
 pub unmoved : (k : Looked) (a : ℤ) → a ≡ pos 0 → moved_by k a ≡ k
-unmoved k a none = λ i. record { low = still_ends k.low a none i; high = still_ends k.high a none i }
+unmoved k a none = λ i. record k { low = still_ends k.low a none i; high = still_ends k.high a none i }
 
 -- ---- a painting always looks at its line
 

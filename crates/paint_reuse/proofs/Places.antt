@@ -1,5 +1,5 @@
 -- Where the lines of a changed text were.
-use Rattle.std.proofs.Common.{arith, ap, ◌∙◌, ◌≡◌, ◌<◌, ◌≤◌, ◌+◌, ◌-◌, ◌⊎◌, ℕ, suc, zero, List, [], ◌∷◌, drop, length, length-append, length-take, length-drop, slice_get, Some, None, refl}
+use Rattle.std.proofs.Common.{arith, ap, ◌∙◌, ◌≡◌, ◌<◌, ◌≤◌, ◌+◌, ◌-◌, ◌⊎◌, inl, inr, ℕ, suc, zero, List, [], ◌∷◌, drop, length, length-append, length-take, length-drop, slice_get, Some, None, refl}
 use Rattle.std.proofs.lemmas.Bool.Decides.{nat_tests}
 use Rattle.paint_reuse.specs.declared.change.Change.{Change}
 use Rattle.paint_reuse.specs.Change.{old_line, replaced}
@@ -15,6 +15,15 @@ length_replaced text a b new ordered inside = simp (length-append, length-take, 
 -- where a line was
 pub old_cases : (e : Change) (k j : ℕ) → old_line e k ≡ Some j → ((k < e.a) × (j ≡ k)) ⊎ ((e.a + e.count ≤ k) × (k + e.b ≡ j + (e.a + e.count)))
 old_cases e k j h = grind (arith, nat_tests)
+
+-- a line is where it was, where that is above the change, or where as many lines came as gave way
+pub same_place : (e : Change) (j k : ℕ) → e.a ≤ e.b → old_line e k ≡ Some j → (j < e.a) ⊎ (e.a + e.count ≡ e.b) → k ≡ j
+same_place e j k ordered was h = by (old_cases e k j was) h
+  where
+    by : ((k < e.a) × (j ≡ k)) ⊎ ((e.a + e.count ≤ k) × (k + e.b ≡ j + (e.a + e.count))) → (j < e.a) ⊎ (e.a + e.count ≡ e.b) → k ≡ j
+    by (inl at) h = omega (arith, at.1)
+    by (inr at) (inl above) = absurd (omega (arith, at.0, at.1, above, ordered))
+    by (inr at) (inr level) = omega (arith, at.1, level)
 
 -- a new line was nowhere
 pub is_new : (e : Change) (k : ℕ) → e.a ≤ k → k < e.a + e.count → old_line e k ≡ None

@@ -1,7 +1,7 @@
 -- A reusable line has the note of its old line.
-use Rattle.std.proofs.Common.{arith, sym, subst, ap, ◌∙◌, ◌≡◌, ◌<◌, ◌≤◌, ◌+◌, ◌≤ℤ◌, ◌<ℤ◌, ◌+ℤ◌, ◌-ℤ◌, ◌⊎◌, inl, inr, ℕ, ℤ, pos, List, append_assoc, take, drop, length, slice_get, Some, None, Ok, true, refl, int_lt, int_le}
+use Rattle.std.proofs.Common.{arith, sym, subst, ap, ◌∙◌, ◌≡◌, ◌<◌, ◌≤◌, ◌+◌, ◌≤ℤ◌, ◌<ℤ◌, ◌+ℤ◌, ◌-ℤ◌, ◌⊎◌, inl, inr, ℕ, ℤ, pos, List, append_assoc, take, drop, length, Some, None, Ok, true, refl}
 use Rattle.std.specs.Prelude.{Option}
-use Rattle.std.proofs.lemmas.Bool.{and_parts, or_cases}
+use Rattle.std.proofs.lemmas.Bool.{and_parts}
 use Rattle.std.proofs.lemmas.Int.{ints}
 use Rattle.std.proofs.lemmas.Option.{slice_get_within}
 use Rattle.syn_base.specs.Looked.{moved_by}
@@ -12,7 +12,7 @@ use Rattle.paint_rules.specs.Painted.{Painted, Done}
 use Rattle.paint_rules.specs.Rules.{Rules}
 use Rattle.paint_rules.specs.States.{State}
 use Rattle.paint_rules.specs.Syntax.{rules_of}
-use Rattle.paint_shift.specs.Change.{AreBefore, AreFrom, Leaves}
+use Rattle.paint_shift.specs.Change.{AreBefore, AreFrom, KeepsNumber}
 use Rattle.paint_shift.specs.Change as shift
 use Rattle.paint_shift.specs.Elsewhere.{line_in, looked_of, moved}
 use Rattle.paint_shift.proofs.AboutLine.{paintings_look_about}
@@ -23,26 +23,12 @@ use Rattle.paint_reuse.specs.declared.change.Change.{Change}
 use Rattle.paint_reuse.specs.Change.{old_line, replaced}
 use Rattle.paint_reuse.specs.Kept.{KeptNote, line_note}
 use Rattle.paint_reuse.specs.Local.{IsLocal}
-use Rattle.paint_reuse.specs.Reusable.{KeepsItsPainting, ReusableLinesKeepTheirPainting}
-use Rattle.paint_reuse.specs.Reuse.{is_clear, is_reusable, may_stay, note_of}
-use Rattle.paint_reuse.specs.SameState.{same_state}
+use Rattle.paint_reuse.specs.Reusable.{IsReusable, KeepsItsPainting, ReusableLinesKeepTheirPainting}
+use Rattle.paint_reuse.specs.Reuse.{is_clear, is_reusable, keeps_number}
+use Rattle.paint_reuse.specs.Work.{is_untouched}
 use Rattle.paint_reuse.proofs.NoteLaws.{looks, moved_forth, note_painted, painted_noted, unmoved}
 use Rattle.paint_reuse.proofs.Places.{old_cases}
-use Rattle.paint_reuse.proofs.SameStates.{same_state_is}
-
-lt_of_test : (x y : ℤ) → int_lt x y ≡ true → x <ℤ y
-lt_of_test x y h = grind (arith, ints)
-
-le_of_test : (x y : ℤ) → int_le x y ≡ true → x ≤ℤ y
-le_of_test x y h = grind (arith, ints)
-
--- clear of the change: before it, or behind it
-clear_cases : (e : Change) (looked : Looked) → is_clear e (Some looked) ≡ true → (looked.high <ℤ pos e.a) ⊎ (pos e.b ≤ℤ looked.low)
-clear_cases e looked h = by (or_cases _ _ h)
-  where
-    by : (int_lt looked.high (pos e.a) ≡ true) ⊎ (int_le (pos e.b) looked.low ≡ true) → (looked.high <ℤ pos e.a) ⊎ (pos e.b ≤ℤ looked.low)
-    by (inl p) = inl (lt_of_test _ _ p)
-    by (inr p) = inr (le_of_test _ _ p)
+use Rattle.paint_reuse.proofs.ReusableIs.{apart_of, conditions, number_of}
 
 module _ (rules : Rules) (local : IsLocal rules) (text : Text) (a b : ℕ) (new : List (List ℕ)) (ordered : a ≤ b) (inside : b ≤ length text) where
   abbrev change : Change
@@ -68,30 +54,34 @@ module _ (rules : Rules) (local : IsLocal rules) (text : Text) (a b : ℕ) (new 
     same_line : (l : ℕ) → painted_line (line_in rules (replaced text a b new) l) s ≡ painted_line (line_in rules (shift.replaced text a b new) l) s
     same_line l = ap (λ (t : Text). painted_line (line_in rules t l) s) (sym same_text)
 
-    stands_by : ((k < a) × (j ≡ k)) ⊎ ((a + length new ≤ k) × (k + b ≡ j + (a + length new))) → (looked.high <ℤ pos a) ⊎ (pos b ≤ℤ looked.low) → painted_line (line_in rules (replaced text a b new) k) s ≡ moved (pos k -ℤ pos j) (Done p (Some looked))
-    stands_by (inl at) (inl clear) =
+    stands_by : ((k < a) × (j ≡ k)) ⊎ ((a + length new ≤ k) × (k + b ≡ j + (a + length new))) → (looked.high <ℤ pos a) ⊎ (pos b ≤ℤ looked.low) → KeepsNumber j k (Some looked) → painted_line (line_in rules (replaced text a b new) k) s ≡ moved (pos k -ℤ pos j) (Done p (Some looked))
+    stands_by (inl at) (inl clear) same_number =
         let same : j ≡ k = at.1 in
         let none : pos k -ℤ pos j ≡ pos 0 = omega (arith, ints, same) in
         let before : AreBefore a (looked_of (painted_line (line_in rules text j) s)) = subst (AreBefore a) (sym looked_are) clear in
         subst (λ (l : ℕ). painted_line (line_in rules (replaced text a b new) l) s ≡ moved (pos k -ℤ pos j) (Done p (Some looked))) same
         (same_line j ∙ (local.leaves text a b new s ordered inside).lines_before j on before ∙ painted ∙ ap (λ (l : Looked). Done p (Some l)) (sym (unmoved looked (pos k -ℤ pos j) none)))
-    stands_by (inl at) (inr clear) = let o = own in absurd (omega (arith, ints, o.0, o.1, clear, at.0, at.1, ordered))
-    stands_by (inr at) (inl clear) = let o = own in absurd (omega (arith, ints, o.0, o.1, clear, at.0, at.1, ordered))
-    stands_by (inr at) (inr clear) =
+    stands_by (inl at) (inr clear) same_number = let o = own in absurd (omega (arith, ints, o.0, o.1, clear, at.0, at.1, ordered))
+    stands_by (inr at) (inl clear) same_number = let o = own in absurd (omega (arith, ints, o.0, o.1, clear, at.0, at.1, ordered))
+    stands_by (inr at) (inr clear) same_number =
         let there : k + b ≡ j + (a + length new) = at.1 in
         let by : pos (a + length new) -ℤ pos b ≡ pos k -ℤ pos j = omega (arith, ints, there) in
         let behind : AreFrom b (looked_of (painted_line (line_in rules text j) s)) = subst (AreFrom b) (sym looked_are) clear in
-        same_line k ∙ (local.leaves text a b new s ordered inside).lines_behind j k on there behind ∙ ap (moved (pos (a + length new) -ℤ pos b)) painted ∙ ap (λ (x : ℤ). moved x (Done p (Some looked))) by
+        let number : KeepsNumber j k (looked_of (painted_line (line_in rules text j) s)) = subst (KeepsNumber j k) (sym looked_are) same_number in
+        same_line k ∙ (local.leaves text a b new s ordered inside).lines_behind j k on there behind number ∙ ap (moved (pos (a + length new) -ℤ pos b)) painted ∙ ap (λ (x : ℤ). moved x (Done p (Some looked))) by
 
-    -- a line that is clear of the change is painted as its old line
-    pub stands : old_line change k ≡ Some j → is_clear change (Some looked) ≡ true → painted_line (line_in rules (replaced text a b new) k) s ≡ moved (pos k -ℤ pos j) (Done p (Some looked))
-    stands was clear = stands_by (old_cases change k j was) (clear_cases change looked clear)
+    -- a line that looked at nothing of the change is painted as its old line
+    pub stands : old_line change k ≡ Some j → (looked.high <ℤ pos a) ⊎ (pos b ≤ℤ looked.low) → KeepsNumber j k (Some looked) → painted_line (line_in rules (replaced text a b new) k) s ≡ moved (pos k -ℤ pos j) (Done p (Some looked))
+    stands was = stands_by (old_cases change k j was)
 
   -- and has its note
-  pub clear_stands : (k j : ℕ) (note : KeptNote) → j < length text → line_note rules text j note.before ≡ Ok note → old_line change k ≡ Some j → is_clear change (Some (moved_by note.looked (pos j))) ≡ true → line_note rules (replaced text a b new) k note.before ≡ Ok note
-  clear_stands k j note on noted was clear =
+  pub untouched_stands : (k j : ℕ) (note : KeptNote) → j < length text → line_note rules text j note.before ≡ Ok note → old_line change k ≡ Some j → is_untouched change j k note.looked ≡ true → line_note rules (replaced text a b new) k note.before ≡ Ok note
+  untouched_stands k j note on noted was untouched =
       let p : PaintedLine = record { spans = note.spans; after = note.after } in
-      let there = stands k j note.before p (moved_by note.looked (pos j)) on (note_painted rules text j note.before note noted) was clear in
+      let looked : Looked = moved_by note.looked (pos j) in
+      let both = and_parts (is_clear change (Some looked)) (keeps_number j k (Some looked)) untouched in
+      let there = stands k j note.before p looked on (note_painted rules text j note.before note noted) was
+      (apart_of change (Some looked) both.0) (number_of j k (Some looked) both.1) in
       let none : (pos j +ℤ (pos k -ℤ pos j)) +ℤ (pos 0 -ℤ pos k) ≡ pos 0 = omega (arith, ints) in
       painted_noted rules (replaced text a b new) k note.before p (moved_by (moved_by note.looked (pos j)) (pos k -ℤ pos j)) there
       ∙ ap (λ (l : Looked). Ok (record { before = note.before; spans = note.spans; after = note.after; looked = l })) (moved_forth note.looked (pos j) (pos k -ℤ pos j) (pos 0 -ℤ pos k) none)
@@ -101,45 +91,35 @@ module _ (rules : Rules) (local : IsLocal rules) (t : Text) (notes : List Note) 
   abbrev of : Change
   of = record { a = a; b = b; count = length new }
 
-  keeps_by_looked : (j : ℕ) (note : Note) (looked : Option Looked) → old_line of k ≡ Some j → slice_get notes j ≡ Some note → note.looked ≡ looked → is_clear of looked ≡ true → note.before ≡ state → KeepsItsPainting rules (replaced t a b new) notes of k state
-  keeps_by_looked j note None was found is clear begins =
+  keeps_looked : (r : IsReusable notes of k state) (looked : Option Looked) → r.note.looked ≡ looked → KeepsItsPainting rules (replaced t a b new) notes of k state
+  keeps_looked r None is =
       let w = (whole_paintings rules t notes).0 whole in
-      let own = w.each j note (sym found) in
-      let l = looks rules t j (state_before notes j) in
+      let own = w.each r.line r.note (sym r.noted) in
+      let l = looks rules t r.line (state_before notes r.line) in
       let none : Some (l.0) ≡ None = sym l.1 ∙ ap (λ (q : Painted Refusal PaintedLine). looked_of q) own.painted ∙ is in
       absurd cc
-  keeps_by_looked j note (Some looked) was found is clear begins =
+  keeps_looked r (Some looked) is =
+      let note = r.note in
+      let j = r.line in
       let w = (whole_paintings rules t notes).0 whole in
-      let own = w.each j note (sym found) in
-      let on : j < length t = omega (arith, slice_get_within notes j note found, w.count) in
+      let own = w.each j note (sym r.noted) in
+      let on : j < length t = omega (arith, slice_get_within notes j note r.noted, w.count) in
       let p : PaintedLine = record { spans = note.spans; after = note.after } in
-      let from : state_before notes j ≡ state = sym own.begins ∙ begins in
+      let from : state_before notes j ≡ state = sym own.begins ∙ r.begins in
       let painted : painted_line (line_in rules t j) state ≡ Done p (Some looked) = ap (painted_line (line_in rules t j)) (sym from) ∙ own.painted ∙ ap (λ (l : Option Looked). Done p l) is in
+      let apart = subst (λ (l : Option Looked). AreBefore a l ⊎ AreFrom b l) is r.apart in
+      let number = subst (KeepsNumber j k) is r.number in
       record {
         line = j;
-        was = was;
+        was = r.was;
         note = note;
-        noted = found;
-        begins = begins;
-        painted = stands rules local t a b new ordered inside k j state p looked on painted was clear ∙ ap (λ (l : Option Looked). moved (pos k -ℤ pos j) (Done p l)) (sym is);
+        noted = r.noted;
+        begins = r.begins;
+        painted = stands rules local t a b new ordered inside k j state p looked on painted r.was apart number ∙ ap (λ (l : Option Looked). moved (pos k -ℤ pos j) (Done p l)) (sym is);
       }
 
-  keeps_at : (j : ℕ) (note : Note) → old_line of k ≡ Some j → slice_get notes j ≡ Some note → may_stay of state (Some note) ≡ true → KeepsItsPainting rules (replaced t a b new) notes of k state
-  keeps_at j note was found h =
-      let both = and_parts (is_clear of note.looked) (same_state note.before state) h in
-      keeps_by_looked j note note.looked was found refl both.0 (same_state_is note.before state both.1)
-
-  keeps_note : (j : ℕ) (note : Option Note) → old_line of k ≡ Some j → slice_get notes j ≡ note → may_stay of state note ≡ true → KeepsItsPainting rules (replaced t a b new) notes of k state
-  keeps_note j None was found h = absurd cc
-  keeps_note j (Some note) was found h = keeps_at j note was found h
-
-  keeps_line : (line : Option ℕ) → old_line of k ≡ line → may_stay of state (note_of notes line) ≡ true → KeepsItsPainting rules (replaced t a b new) notes of k state
-  keeps_line None was h = absurd cc
-  keeps_line (Some j) was h = keeps_note j (slice_get notes j) was refl h
-
   pub keeps : is_reusable notes of k state ≡ true → KeepsItsPainting rules (replaced t a b new) notes of k state
-  unfolding is_reusable
-  keeps h = keeps_line (old_line of k) refl h
+  keeps h = let r = conditions notes of k state h in keeps_looked r r.note.looked refl
 
 pub rules_are_local : (items : _) (lists : _) (keywords : _) (sets : _) (budget : ℕ) → IsLocal (rules_of items lists keywords sets budget)
 rules_are_local items lists keywords sets budget = record {

@@ -23,7 +23,7 @@ record IsExact {A : Type 0} (E : A → A → Bool) : Type 0 where
   equal : (a b : A) → E a b ≡ true → a ≡ b
   same : (a : A) → E a a ≡ true
 
-both_true : (x y : Bool) → x ≡ true → y ≡ true → (x && y) ≡ true
+pub both_true : (x y : Bool) → x ≡ true → y ≡ true → (x && y) ≡ true
 both_true x y e f = ap (λ (z : Bool). z && y) e ∙ f
 
 exact_nat : IsExact nat_eq

@@ -1,6 +1,6 @@
 -- Which lines of a changed text keep the painting that they had in the old one, and how many are to
 -- be painted.
-use Rattle.std.specs.Prelude.{ℕ, suc, ◌+◌, pos, int_lt, int_le, ◌&&◌, ◌||◌, Bool, true, false}
+use Rattle.std.specs.Prelude.{ℕ, suc, ◌+◌, ◌==◌, pos, int_lt, int_le, ◌&&◌, ◌||◌, Bool, true, false, not}
 use Rattle.std.specs.Prelude.{List, [], ◌∷◌, length, Option, Some, None, slice_get}
 use Rattle.syn_base.specs.declared.looked.Looked.{Looked}
 use Rattle.match_rules.specs.Ways.{Text}
@@ -18,20 +18,29 @@ abbrev pub is_clear : Change → Option Looked → Bool
 is_clear change None = true
 is_clear change (Some looked) = int_lt looked.high (pos change.a) || int_le (pos change.b) looked.low
 
--- a line of the old text was painted so that it may stay as it was, where this state stands before it
-abbrev pub may_stay : Change → State → Option Note → Bool
-may_stay change state None = false
-may_stay change state (Some note) = is_clear change note.looked && same_state note.before state
+-- line j of the old text, which is line k of the changed one, has the same number in both, if its
+-- painting looked at a line's number
+abbrev pub keeps_number : ℕ → ℕ → Option Looked → Bool
+keeps_number j k None = true
+keeps_number j k (Some looked) = not looked.numbered || (j == k)
 
--- the note of an old line
-abbrev pub note_of : List Note → Option ℕ → Option Note
-note_of notes None = None
-note_of notes (Some j) = slice_get notes j
+-- line j of the old text was painted so that it may stay as it was as line k of the changed one, where
+-- this state stands before it
+abbrev pub may_stay : Change → ℕ → ℕ → State → Option Note → Bool
+may_stay change j k state None = false
+may_stay change j k state (Some note) =
+    is_clear change note.looked && keeps_number j k note.looked && same_state note.before state
+
+-- the same of the old line that it was; a new line was none
+abbrev pub stays_as : List Note → Change → ℕ → State → Option ℕ → Bool
+stays_as old change k state None = false
+stays_as old change k state (Some j) = may_stay change j k state (slice_get old j)
 
 -- Line k of the changed text, before which this state stands, is reusable: it is a line of the old
--- text, whose painting looked at nothing that was replaced, and before which the same state stood.
+-- text, whose painting looked at nothing that was replaced, nor at a line's number if it moved, and
+-- before which the same state stood.
 unfoldable pub is_reusable : List Note → Change → ℕ → State → Bool
-is_reusable old change k state = may_stay change state (note_of old (old_line change k))
+is_reusable old change k state = stays_as old change k state (old_line change k)
 
 abbrev pub one_unless : Bool → ℕ
 one_unless true = 0

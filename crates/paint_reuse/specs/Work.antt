@@ -1,9 +1,10 @@
 -- What an edit does, line by line: the notes that it leaves, the lines that it tells, how many it may
 -- paint, and how it ends.
 use Rattle.std.specs.Prelude.{◌≡◌, ◌+◌, ◌-◌, ◌≤◌, ◌<◌, ℕ, zero, suc, List, [], ◌∷◌, ◌++◌, map}
-use Rattle.std.specs.Prelude.{Option, Some, None, Result, Ok, Err, Bool, true, if◌then◌else◌, take, drop}
+use Rattle.std.specs.Prelude.{Option, Some, None, Result, Ok, Err, Bool, true, ◌&&◌, if◌then◌else◌, take, drop}
 use Rattle.std.specs.Prelude.{length, pos, slice_get}
 use Rattle.syn_base.specs.Looked.{moved_by}
+use Rattle.syn_base.specs.declared.looked.Looked.{Looked}
 use Rattle.syn_base.specs.declared.places.Span.{Span}
 use Rattle.match_rules.specs.Ways.{Text}
 use Rattle.paint_rules.specs.Line.{Refusal}
@@ -13,7 +14,7 @@ use Rattle.paint_reuse.specs.declared.change.Change.{Change}
 use Rattle.paint_reuse.specs.Change.{old_line}
 use Rattle.paint_reuse.specs.Kept.{KeptNote, RefusedLine, line_note, notes_from, walked}
 use Rattle.paint_reuse.specs.Report.{differs}
-use Rattle.paint_reuse.specs.Reuse.{is_clear, is_reusable, one_unless}
+use Rattle.paint_reuse.specs.Reuse.{is_clear, is_reusable, keeps_number, one_unless}
 
 -- the spans of the lines
 abbrev pub kept_spans : List KeptNote → List (List Span)
@@ -125,15 +126,21 @@ pub record Splits (whole first rest : Work) : Type 0 where
   pub count : whole.count ≡ first.count + rest.count
   pub end : whole.end ≡ rest.end
 
--- the old lines from one to another looked at nothing of the change
-abbrev pub AreClear : Change → List KeptNote → ℕ → ℕ → Type 0
-AreClear e notes from to =
-    (i : ℕ) (note : KeptNote) → from ≤ i → i < to → slice_get notes i ≡ Some note →
-    is_clear e (Some (moved_by note.looked (pos i))) ≡ true
+-- old line j, which is line k of the changed text, looked at nothing that the change made another: at
+-- no replaced line, nor at a line's number if it moved
+abbrev pub is_untouched : Change → ℕ → ℕ → Looked → Bool
+is_untouched e j k looked =
+    is_clear e (Some (moved_by looked (pos j))) && keeps_number j k (Some looked)
+
+-- so did the old lines from one to another
+abbrev pub AreUntouched : Change → List KeptNote → ℕ → ℕ → Type 0
+AreUntouched e notes from to =
+    (j k : ℕ) (note : KeptNote) → from ≤ j → j < to → old_line e k ≡ Some j →
+    slice_get notes j ≡ Some note → is_untouched e j k note.looked ≡ true
 
 -- only in the state of the old painting are lines passed over
 abbrev pub Passes : Option State → Change → List KeptNote → ℕ → ℕ → Type 0
-Passes None e notes from to = AreClear e notes from to
+Passes None e notes from to = AreUntouched e notes from to
 Passes (Some s) e notes from to = to ≡ from
 
 -- some lines of a text were painted, up to line l: their notes, and the state before that line

@@ -1,8 +1,9 @@
 //! One replacement of lines.
-ghost use Rattle.std.specs.Prelude.{◌≡◌, ◌+◌, ◌-◌, ◌<◌, ◌^◌, pos, ◌+ℤ◌, int_le, int_lt, Some};
+ghost use Rattle.std.specs.Prelude.{◌≡◌, ◌+◌, ◌-◌, ◌<◌, ◌≤◌, ◌==◌, ◌^◌, ℕ, pos, ◌+ℤ◌, int_le, int_lt, Some};
 ghost use Rattle.syn_base.specs.Looked.{moved_by};
 ghost use Rattle.paint_reuse.specs.Change.{old_line};
-ghost use Rattle.paint_reuse.specs.Reuse.{is_clear};
+ghost use Rattle.paint_reuse.specs.Reuse.{is_clear, keeps_number};
+ghost use Rattle.paint_reuse.specs.Work.{is_untouched};
 
 use syn_base::Looked;
 
@@ -38,6 +39,34 @@ impl Change {
         ensures { result ≡ is_clear self (Some (moved_by looked (pos j))) }
     {
         lies_before(looked.high, j, self.a) || lies_behind(looked.low, j, self.b)
+    }
+
+    /// Whether as many lines come as give way, so that no line behind them moves.
+    pub fn keeps_count(self) -> bool
+        requires { self.a ≤ self.b }
+        ensures { result ≡ (self.a + self.count == self.b) }
+    {
+        self.count == self.b - self.a
+    }
+
+    /// Whether line `j` of the old text, if it is still there, has its number still, or its painting
+    /// looked at none.
+    pub fn keeps_number(self, j: usize, looked: Looked) -> bool
+        requires { self.a ≤ self.b }
+        ensures { (k : ℕ) → old_line self k ≡ Some j → result ≡ keeps_number j k (Some looked) }
+    {
+        !looked.numbered || j < self.a || self.keeps_count()
+    }
+
+    /// Whether line `j` of the old text, if it is still there, looked at nothing that the change made
+    /// another: at no replaced line, nor at a number that isn't its own any more.
+    pub fn is_untouched(self, j: usize, looked: Looked) -> bool
+        requires ordered { self.a ≤ self.b }
+        requires b { self.b < 2 ^ 32 }
+        requires line { j < 2 ^ 32 }
+        ensures { (k : ℕ) → old_line self k ≡ Some j → result ≡ is_untouched self j k looked }
+    {
+        self.is_clear(j, looked) && self.keeps_number(j, looked)
     }
 }
 

@@ -4,12 +4,19 @@ ghost use Rattle.syn_base.specs.declared.places.Span.{Span};
 ghost use Rattle.paint_reuse.specs.declared.change.Change.{Change};
 ghost use Rattle.paint_reuse.specs.Kept.{KeptNotesAreThePainting};
 ghost use Rattle.paint_reuse.specs.Report.{IsReport, report};
-ghost use Rattle.paint_reuse.specs.Reusable.{ReusableLinesKeepTheirPainting};
+ghost use Rattle.paint_reuse.specs.Reusable.{FourConditionsMakeALineReusable, ReusableLinesKeepTheirPainting};
 ghost use Rattle.paint_reuse.specs.SameState.{EqualStatesAreTheSame};
 
 /// The test of two states that decides whether a line is reusable passes exactly for equal ones.
 pub fn equal_states_are_the_same()
     ensures { EqualStatesAreTheSame }
+{}
+
+/// The test of a line passes exactly where it had an old line, nothing that this one's painting looked
+/// at was replaced, it has its old number if that painting looked at one, and the same state stands
+/// before it.
+pub fn four_conditions_make_a_line_reusable()
+    ensures { FourConditionsMakeALineReusable }
 {}
 
 /// A reusable line has the spans, the states and the looked lines of its old line, the latter moved

@@ -1,20 +1,19 @@
 -- Worked rows: what small syntaxes show in small texts, computed from the rules.
-use Rattle.std.specs.Prelude.{◌≡◌, ℕ, Bool, true, false, List, [], ◌∷◌, Option, Some, None, codes, pos, negsuc, refl}
+use Rattle.std.specs.Prelude.{◌≡◌, Bool, true, false, List, [], ◌∷◌, Some, None, codes, pos, negsuc, refl}
 use Rattle.char_class.specs.CharSet.{set_has, is_member}
 use Rattle.char_class.specs.Folds.{is_same, range_holds}
 use Rattle.syn_base.specs.declared.class.Class.TheVariants.{Digit, Word}
 use Rattle.pattern_items.specs.declared.atom.Atom.TheVariants.{Char, Any, Is, LineEnd, LineStart, LineStop, MatchStart, ExternalRef}
-use Rattle.vim_pattern.specs.Shape.{Shape, empty, one, seq, external}
+use Rattle.vim_pattern.specs.Shape.{one, seq, external}
 use Rattle.keyword_table.specs.Candidates.{candidates}
 use Rattle.keyword_table.specs.Words.{word_end}
 use Rattle.syntax_set.specs.Membership.{cluster_has}
 use Rattle.syntax_set.specs.declared.item.Entry.TheVariants.{Group}
 use Rattle.syntax_set.specs.declared.item.Item.{Item}
 use Rattle.syntax_set.specs.declared.item.ItemKind.TheVariants.{Match, Region, Keyword}
-use Rattle.syntax_set.specs.declared.item.Pattern.{Pattern}
 use Rattle.syntax_set.specs.declared.item.Special.TheVariants.{Plain}
 use Rattle.paint_rules.specs.Syntax.{attempt_by}
-use Rattle.paint_rules.proofs.Sample.{letters, lit, pattern_of, tree_of, with_line_end, star, plus, s_plus, e_plus, group, item, only, region, word, span, run}
+use Rattle.paint_rules.proofs.Sample.{in_line, letters, lit, pattern_of, tree_of, with_line_end, star, plus, s_plus, e_plus, group, item, only, region, word, span, run}
 
 -- syn match Num "\d\+"
 digits_are_shown : run (item 0 (Match (pattern_of (plus (Is Digit false false)))) ∷ []) [] (codes "a12b3" ∷ []) ≡ Some ((span 2 3 0 ∷ span 5 5 0 ∷ []) ∷ [])
@@ -145,6 +144,11 @@ unfolding attempt_by word_end candidates set_has is_member is_same range_holds c
 leading_context = refl
 
 -- Cases beyond the rows.
+
+-- syn match M "\%2lx"
+a_line_number_is_that_of_the_text : run (item 0 (Match (in_line 2 (codes "x"))) ∷ []) [] (codes "x" ∷ codes "x" ∷ codes "x" ∷ []) ≡ Some ([] ∷ (span 1 1 0 ∷ []) ∷ [] ∷ [])
+unfolding attempt_by word_end candidates set_has is_member is_same range_holds cluster_has
+a_line_number_is_that_of_the_text = refl
 
 -- syn region R matchgroup=Q start="ab" end="z" contains=M / syn match M "b\zsc" contained: the pop of a start area is a close
 area_pop_is_close : run (record (item 0 (region (record (lit (codes "ab")) { matchgroup = Some (group 1) }) None (record (lit (codes "z")) { matchgroup = Some (group 1) }))) { contains = only 2 } ∷ record (item 2 (Match (record (lit []) { tree = record (tree_of (seq (one (Char 98)) (seq (one MatchStart) (one (Char 99))))) { moves_start = true } }))) { contained = true } ∷ []) [] (codes "abcz" ∷ []) ≡ Some ((span 1 2 1 ∷ span 3 3 0 ∷ span 4 4 1 ∷ []) ∷ [])

@@ -1,10 +1,10 @@
 -- Small syntaxes for worked rows, over the rules of matching.
-use Rattle.std.specs.Prelude.{ℕ, ℤ, ◌-◌, Bool, true, false, List, [], ◌∷◌, map, Option, Some, None, codes}
+use Rattle.std.specs.Prelude.{ℕ, ℤ, ◌-◌, true, false, List, [], ◌∷◌, map, Option, Some, None, codes}
 use Rattle.syn_base.specs.declared.places.GroupId.{GroupId}
-use Rattle.syn_base.specs.declared.places.ItemId.{ItemId}
 use Rattle.syn_base.specs.declared.places.Span.{Span}
 use Rattle.pattern_items.specs.declared.atom.Atom.{Atom}
-use Rattle.pattern_items.specs.declared.atom.Atom.TheVariants.{Char}
+use Rattle.pattern_items.specs.declared.atom.Atom.TheVariants.{Char, LineNumber}
+use Rattle.pattern_items.specs.declared.atom.Compare.TheVariants.{At}
 use Rattle.vim_pattern.specs.Shape.{Shape, empty, one, seq, repeat}
 use Rattle.vim_pattern.specs.Tree.{PatternTree}
 use Rattle.match_rules.specs.Ways.{Text}
@@ -20,7 +20,7 @@ use Rattle.syntax_set.specs.declared.item.Pattern.{Pattern}
 use Rattle.syntax_set.specs.declared.item.Special.TheVariants.{Plain}
 use Rattle.paint_rules.specs.Rules.{Rules, no_item}
 use Rattle.paint_rules.specs.Syntax.{rules_of}
-use Rattle.paint_rules.specs.Line.{Painting, Whole, Fails, Note, painting}
+use Rattle.paint_rules.specs.Line.{Painting, Whole, Fails, painting}
 
 -- ---- patterns
 
@@ -49,6 +49,10 @@ pattern_of node = record {
 
 abbrev pub lit : List ℕ → Pattern
 lit text = pattern_of (letters text)
+
+-- in the line of that number
+abbrev pub in_line : ℕ → List ℕ → Pattern
+in_line n text = pattern_of (seq (one (LineNumber At n)) (letters text))
 
 abbrev pub with_line_end : Pattern → Pattern
 with_line_end pattern = record pattern { tree = record (pattern.tree) { line_end = true } }

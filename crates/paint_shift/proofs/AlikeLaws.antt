@@ -1,7 +1,7 @@
 -- The laws of paintings that are alike.
 use Rattle.std.proofs.Common.{◌≡◌, inl, inr, ◌<◌, ◌≤◌, ℕ, arith, Bool, true, false, List, [], ◌∷◌}
 use Rattle.std.proofs.Common.{length, refl, sym, ap, ◌∙◌}
-use Rattle.std.specs.Prelude.{Option, Some, None, ℤ, pos, ◌+ℤ◌, ◌≤ℤ◌, int_lt, cond, slice_get}
+use Rattle.std.specs.Prelude.{Option, Some, None, pos, ◌+ℤ◌, ◌≤ℤ◌, slice_get}
 use Rattle.std.specs.Prelude.{get_or, nat_lt}
 use Rattle.std.specs.List.{AllByRecursion}
 use Rattle.std.proofs.lemmas.Int.{ints}
@@ -11,6 +11,7 @@ use Rattle.std.proofs.lemmas.List.{get_or_past}
 use Rattle.syn_base.specs.Agreement.{AgreeAt, seen_at, or_behind}
 use Rattle.syn_base.specs.declared.looked.Looked.{Looked}
 use Rattle.syn_base.specs.Looked.{hull_of, one_line, moved_by}
+use Rattle.syn_base.proofs.HullLaws.{either_left, either_right, hull_moved}
 use Rattle.paint_rules.specs.Painted.{Painted, Done, Refused, looked_both, looked_first, ◌>>=◌}
 use Rattle.paint_rules.specs.Painted.{done, looks_at, refused_as, first_found}
 use Rattle.paint_shift.proofs.Shift.{Two, IsMovedLine, shift, Agrees, AgreesOn, moved_looked}
@@ -33,29 +34,18 @@ low_least a b = (grind (arith, ints), grind (arith, ints))
 high_most : (a b : Looked) → (a.high ≤ℤ (hull_of a b).high) × (b.high ≤ℤ (hull_of a b).high)
 high_most a b = (grind (arith, ints), grind (arith, ints))
 
-min_moved : (a b d : ℤ) →
-    cond (int_lt (b +ℤ d) (a +ℤ d)) (b +ℤ d) (a +ℤ d) ≡ cond (int_lt b a) b a +ℤ d
-min_moved a b d = grind (arith, ints)
-
-max_moved : (a b d : ℤ) →
-    cond (int_lt (a +ℤ d) (b +ℤ d)) (b +ℤ d) (a +ℤ d) ≡ cond (int_lt a b) b a +ℤ d
-max_moved a b d = grind (arith, ints)
-
-pub hull_moved : (a b : Looked) (d : ℤ) →
-    hull_of (moved_by a d) (moved_by b d) ≡ moved_by (hull_of a b) d
-hull_moved a b d =
-    λ i. record { low = min_moved a.low b.low d i; high = max_moved a.high b.high d i }
-
 module _ (two : Two) where
   pub covered : (a b : Looked) → Agrees two (hull_of a b) → Agrees two a × Agrees two b
   covered a b ok =
       let l = low_least a b in
       let h = high_most a b in (
         record {
+          unmoved = λ n. ok.unmoved (either_left a.numbered b.numbered n);
           each_line =
               (λ k x y. ok.each_line k (omega (arith, ints, l.0)) (omega (arith, ints, h.0)));
         },
         record {
+          unmoved = λ n. ok.unmoved (either_right a.numbered b.numbered n);
           each_line =
               (λ k x y. ok.each_line k (omega (arith, ints, l.1)) (omega (arith, ints, h.1)));
         },
@@ -181,7 +171,11 @@ module _ (two : Two) where
 
   pub one_line_moved : (k j : ℕ) → IsMovedLine two k j →
       one_line (pos j) ≡ moved_by (one_line (pos k)) (shift two)
-  one_line_moved k j h = λ i. record { low = moved_line k j h i; high = moved_line k j h i }
+  one_line_moved k j h = λ i. record {
+    low = moved_line k j h i;
+    high = moved_line k j h i;
+    numbered = false;
+  }
 
   same_by : (k j : ℕ) → IsMovedLine two k j → (o r : Option (List ℕ)) → slice_get two.one k ≡ o →
       slice_get two.other j ≡ r →

@@ -26,7 +26,7 @@ use Rattle.paint_rules.specs.States.{State}
 use Rattle.paint_rules.specs.Syntax.{rules_of}
 use Rattle.paint_shift.specs.AboutLine.{LooksAbout}
 use Rattle.paint_shift.specs.Elsewhere.{looked_of, moved, AgreeOn, line_in}
-use Rattle.paint_shift.specs.Change.{replaced, AreBefore, AreFrom, ChangesLeaveOtherLines}
+use Rattle.paint_shift.specs.Change.{replaced, AreBefore, AreFrom, KeepsNumber, ChangesLeaveOtherLines}
 use Rattle.paint_shift.proofs.AboutLine.{paintings_look_about}
 use Rattle.paint_shift.proofs.Elsewhere.{lines_are_painted_alike}
 
@@ -44,12 +44,14 @@ moved_nowhere (Done a k) = ap (λ k. Done a k) (looked_nowhere k)
   where
     looked_nowhere : (k : Option Looked) → option_map (λ l. moved_by l (pos 0)) k ≡ k
     looked_nowhere None = refl
-    looked_nowhere (Some l) = λ i. Some (record { low = unmoved l.low i; high = unmoved l.high i })
+    looked_nowhere (Some l) =
+        λ i. Some (record l { low = unmoved l.low i; high = unmoved l.high i })
 moved_nowhere (Refused c k) = ap (λ k. Refused c k) (looked_nowhere k)
   where
     looked_nowhere : (k : Option Looked) → option_map (λ l. moved_by l (pos 0)) k ≡ k
     looked_nowhere None = refl
-    looked_nowhere (Some l) = λ i. Some (record { low = unmoved l.low i; high = unmoved l.high i })
+    looked_nowhere (Some l) =
+        λ i. Some (record l { low = unmoved l.low i; high = unmoved l.high i })
 
 module _ (t : Text) (first end : ℕ) (new : List (List ℕ)) (order : first ≤ end)
     (inside : end ≤ length t) where
@@ -134,6 +136,7 @@ module _ (t : Text) (first end : ℕ) (new : List (List ℕ)) (order : first ≤
         let a = about in
         let high : a.lines.high <ℤ pos first = subst (AreBefore first) a.are h in
         let agree : Agree t u (pos 0) a.lines = record {
+          unmoved = λ n. refl;
           each_line = λ l from to. at_before l
               (let low = a.about.from_before_first in omega (arith, ints, low, from))
               (omega (arith, ints, to, high));
@@ -144,14 +147,17 @@ module _ (t : Text) (first end : ℕ) (new : List (List ℕ)) (order : first ≤
 
     pub stays_behind : (now : ℕ) → now + end ≡ k + (first + length new) →
         AreFrom end (looked_of (painted_line (line_in r t k) before)) →
+        KeepsNumber k now (looked_of (painted_line (line_in r t k) before)) →
         painted_line (line_in r u now) before
         ≡ moved (pos (first + length new) -ℤ pos end) (painted_line (line_in r t k) before)
-    stays_behind now there h =
+    stays_behind now there h keeps =
         let a = about in
         let low : pos end ≤ℤ a.lines.low = subst (AreFrom end) a.are h in
+        let own : KeepsNumber k now (Some a.lines) = subst (KeepsNumber k now) a.are keeps in
         let line : pos now ≡ pos k +ℤ (pos (first + length new) -ℤ pos end) =
         omega (arith, ints, there) in
         let agree : Agree t u (pos (first + length new) -ℤ pos end) a.lines = record {
+          unmoved = λ n. let same : now ≡ k = own n in omega (arith, ints, there, same);
           each_line = λ l from to. at_behind l (omega (arith, ints, from, low))
               (let high = a.about.to_behind_last in omega (arith, ints, high, to));
         } in
@@ -166,7 +172,7 @@ changes_leave_other_lines items lists keywords sets budget t first end new befor
           λ k on h.
           stays_before t first end new order inside items lists keywords sets budget before k on h;
       lines_behind =
-          λ k now on there h.
+          λ k now on there h keeps.
           stays_behind t first end new order inside items lists keywords sets budget before k on now
-          there h;
+          there h keeps;
     }

@@ -1,8 +1,8 @@
 -- A change of a text replaces some of its lines. A line whose painting looked at none of them keeps
--- it.
+-- it, unless it looked at a line's number and stands under another one now.
 use Rattle.std.specs.Prelude.{◌≡◌, ◌<◌, ◌≤◌, ◌+◌, ℕ, pos, ◌-ℤ◌, ◌<ℤ◌, ◌≤ℤ◌, List, ◌++◌, length}
 use Rattle.std.specs.Prelude.{take, drop}
-use Rattle.std.specs.Prelude.{Option, Some, None}
+use Rattle.std.specs.Prelude.{Option, Some, None, true}
 use Rattle.char_class.specs.declared.sets.Sets.{Sets}
 use Rattle.syn_base.specs.declared.looked.Looked.{Looked}
 use Rattle.keyword_table.specs.declared.table.Definition.{Definition}
@@ -29,6 +29,11 @@ abbrev pub AreFrom : ℕ → Option Looked → Type 0
 AreFrom n None = Unit {0}
 AreFrom n (Some l) = pos n ≤ℤ l.low
 
+-- a line's number k is the same now, if it was looked at
+abbrev pub KeepsNumber : ℕ → ℕ → Option Looked → Type 0
+KeepsNumber k now None = Unit {0}
+KeepsNumber k now (Some l) = l.numbered ≡ true → now ≡ k
+
 -- what a change leaves, where the same stands before a line in both texts
 pub record Leaves (r : Rules) (t : Text) (first end : ℕ) (new : List (List ℕ))
     (before : State) : Type 0 where
@@ -37,9 +42,11 @@ pub record Leaves (r : Rules) (t : Text) (first end : ℕ) (new : List (List ℕ
       AreBefore first (looked_of (painted_line (line_in r t k) before)) →
       painted_line (line_in r (replaced t first end new) k) before
       ≡ painted_line (line_in r t k) before
-  -- and so is one that looked at lines behind it alone, where that stands now
+  -- and so is one that looked at lines behind it alone, where that stands now: under another number,
+  -- if it looked at none
   pub lines_behind : (k now : ℕ) → k < length t → now + end ≡ k + (first + length new) →
       AreFrom end (looked_of (painted_line (line_in r t k) before)) →
+      KeepsNumber k now (looked_of (painted_line (line_in r t k) before)) →
       painted_line (line_in r (replaced t first end new) now) before
       ≡ moved (pos (first + length new) -ℤ pos end) (painted_line (line_in r t k) before)
 

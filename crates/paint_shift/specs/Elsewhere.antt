@@ -25,7 +25,7 @@ abbrev pub moved : {E A : Type 0} → ℤ → Painted E A → Painted E A
 moved by (Done a k) = Done a (option_map (λ l. moved_by l by) k)
 moved by (Refused c k) = Refused c (option_map (λ l. moved_by l by) k)
 
--- two texts agree on the lines that were looked at
+-- two texts agree on the lines that were looked at, and stand alike where a line's number was
 abbrev pub AgreeOn : Text → Text → ℤ → Option Looked → Type 0
 AgreeOn t u by None = Unit {0}
 AgreeOn t u by (Some looked) = Agree t u by looked

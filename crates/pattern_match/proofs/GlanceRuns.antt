@@ -1,27 +1,25 @@
 -- Short looks at counts of an atom: turns that are made at once, and turns one behind the other.
-use Rattle.std.proofs.Common.{◌≡◌, ◌≢◌, ℕ, zero, suc, ◌+◌, ◌<◌, ◌≤◌, true, false, List, [], ◌∷◌, ◌++◌, length, refl, sym, ap, ◌∙◌, subst, append-nil, append_assoc, arith}
-use Rattle.std.specs.Prelude.{Option, Some, None}
+use Rattle.std.proofs.Common.{◌≡◌, ◌≢◌, ℕ, zero, suc, ◌+◌, ◌<◌, ◌≤◌, true, false, List, [], ◌∷◌, ◌++◌, refl, sym, ap, ◌∙◌, subst, append-nil, append_assoc, arith}
 use Rattle.syn_base.specs.declared.places.Place.{Place}
 use Rattle.pattern_items.specs.declared.atom.Atom.{Atom}
-use Rattle.pattern_screens.proofs.FirstScreens.{fits-told}
 use Rattle.vim_pattern.specs.Shape.{one}
-use Rattle.match_rules.specs.Ways.{Context, Text, Way, IsPlaceOf, is_after, line_at}
-use Rattle.match_rules.specs.Atoms.{fits, lines_looked, own_line, way_behind}
+use Rattle.match_rules.specs.Ways.{Context, Text, Way, IsPlaceOf, is_after}
+use Rattle.match_rules.specs.Atoms.{lines_looked, own_line, way_behind}
 use Rattle.match_rules.specs.Attempt.{answer_from}
 use Rattle.match_rules.specs.Counts.{one_less, less_by, is_spent}
 use Rattle.match_rules.specs.Marks.{Mark, Tick, Reach, followed}
 use Rattle.match_rules.specs.Visits.{visits}
 use Rattle.pattern_match.specs.declared.glance.Saw.{Saw}
-use Rattle.pattern_match.specs.declared.glance.Saw.TheVariants.{Reached, InVain, TooFar}
+use Rattle.pattern_match.specs.declared.glance.Saw.TheVariants.{Reached, InVain}
 use Rattle.pattern_match.specs.declared.glance.Sight.{Sight}
 use Rattle.pattern_match.specs.declared.spent.Spent.{Spent}
 use Rattle.pattern_match.specs.declared.task.Turns.{Turns}
-use Rattle.pattern_match.specs.Glance.{AreTaken, AreTurnsLeft, GoesOn, IsAtomSeen, IsSeen, stops_of, turns_of, turns_behind, turn_of}
+use Rattle.pattern_match.specs.Glance.{AreTaken, GoesOn, IsAtomSeen, IsSeen, stops_of, turns_of, turns_behind, turn_of}
 use Rattle.pattern_match.specs.Runs.{AreAllowed, IsRun}
 use Rattle.pattern_match.specs.Spending.{spent_times}
 use Rattle.pattern_match.specs.Steps.{shape_of}
 use Rattle.pattern_match.specs.Ways.{columns_on}
-use Rattle.pattern_match.proofs.GlanceLaws.{at_behind, atom_stops, atom_then, first_stops, greedy_is, lazy_is, left_none, left_took, seen_behind, spent_is, turn_is, vain_then}
+use Rattle.pattern_match.proofs.GlanceLaws.{at_behind, atom_stops, atom_then, first_stops, greedy_is, lazy_is, left_none, left_took, seen_behind, spent_is, turn_is}
 use Rattle.pattern_match.proofs.LookingBehind.{none_first}
 use Rattle.pattern_match.proofs.RunLaws.{is_after-next, less-next, less-none, less-unspent, plain-looks, plain-moves, run-fits}
 

@@ -21,7 +21,8 @@ use crate::runs::{less_by, run_length};
 use crate::spent::Spent;
 use crate::step::{Step, Test};
 use crate::task::Turns;
-use crate::turns::{is_after, is_spent, next_turns, one_less};
+use crate::turns::{is_after, next_turns, one_less};
+use pattern_screens::is_spent;
 use syn_base::{Lines, Looked, Place};
 
 /// How many nodes a short look visits.

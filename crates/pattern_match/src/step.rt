@@ -6,8 +6,8 @@ ghost use Rattle.pattern_match.specs.Steps.{atom_of, shape_of};
 
 use crate::collection::Collection;
 use crate::runs::less_by;
-use crate::turns::is_spent;
 use pattern_items::{Behind, Compare};
+use pattern_screens::is_spent;
 use syn_base::Class;
 
 /// A node, with the names of `vim_pattern::Node`, and plainer ones that stand for some of them.

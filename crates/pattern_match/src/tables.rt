@@ -4,11 +4,11 @@ ghost use Rattle.std.specs.List.{list_any};
 ghost use Rattle.std.specs.Str.{chars};
 ghost use Rattle.char_class.specs.Bits.{has_code};
 ghost use Rattle.char_class.specs.OptionValue.{set_of};
-ghost use Rattle.match_rules.specs.Collections.{class_in_set, part_holds};
 ghost use Rattle.pattern_match.specs.ReadyParts.{IsTableOf, is_optional, is_optional_class, some_fixed_holds, some_optional_holds, some_part_holds};
 
-use char_class::{CharSet, Codes, Sets, class_has, range_has};
+use char_class::{CharSet, Codes, Sets};
 use pattern_items::SetPart;
+use pattern_screens::part_has;
 use syn_base::Class;
 
 /// The table of the parts on which no option's set decides.
@@ -114,28 +114,4 @@ fn is_optional_class(class: Class) -> bool
             | Class::KeywordNoDigit
             | Class::FileNoDigit
     )
-}
-
-fn part_has(part: SetPart, c: char, sets: &Sets, ignore: bool) -> bool
-    ensures { result ≡ part_holds part c sets.now ignore }
-{
-    match part {
-        SetPart::Range(low, high) => range_has(low, high, c, ignore),
-        SetPart::Of(class) => class_in_set(class, c, sets, ignore),
-        SetPart::Punct => c.is_ascii_punctuation(),
-        SetPart::Cntrl => c.is_ascii_control(),
-        SetPart::Graph => ('!'..='~').contains(&c),
-        SetPart::Space => ('\t'..='\r').contains(&c) || c == ' ',
-    }
-}
-
-/// Whether a class of a collection holds a character: where case is ignored, small letters and
-/// capitals are each all letters.
-fn class_in_set(class: Class, c: char, sets: &Sets, ignore: bool) -> bool
-    ensures { result ≡ class_in_set class c sets.now ignore }
-{
-    match class {
-        Class::Lower | Class::Upper if ignore => c.is_ascii_alphabetic(),
-        _ => class_has(class, c, sets),
-    }
 }

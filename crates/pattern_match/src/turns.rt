@@ -18,6 +18,7 @@ use crate::step::{Step, Test};
 use crate::task::{Next, Task, Turns, Went};
 use crate::tick::tick;
 use crate::ways::Ways;
+use pattern_screens::is_spent;
 use syn_base::{Lines, Memory, Place};
 
 /// Whether a place stands behind another.
@@ -34,16 +35,6 @@ pub(crate) fn one_less(most: Option<u32>) -> Option<u32>
     match most {
         None => None,
         Some(most) => Some(most.saturating_sub(1)),
-    }
-}
-
-/// Whether no turn is allowed any more.
-pub(crate) fn is_spent(most: Option<u32>) -> bool
-    ensures { result ≡ is_spent most }
-{
-    match most {
-        None => false,
-        Some(most) => most == 0,
     }
 }
 

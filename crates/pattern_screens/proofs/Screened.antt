@@ -6,6 +6,7 @@ use Rattle.std.proofs.lemmas.Option.{same_Some, none-some}
 use Rattle.syn_base.specs.declared.looked.Looked.{Looked}
 use Rattle.syn_base.specs.declared.places.Place.{Place}
 use Rattle.syn_base.specs.Looked.{hull_of, one_line, lesser, greater}
+use Rattle.syn_base.proofs.HullLaws.{hull_comm, hull_self}
 use Rattle.pattern_items.specs.declared.atom.Atom.{Atom}
 use Rattle.pattern_items.specs.declared.item.Behind.{Behind}
 use Rattle.vim_pattern.specs.Shape.{Shape, empty, one, seq, or, and, group, external, repeat, ahead, before, whole}
@@ -206,33 +207,18 @@ lines-or : (start : Place) (a : Answer) → lines_of start a ≡ or_line start.l
 lines-or start a =
     elim a.looked as (λ o. elim o as (λ _. Looked) [ None ↦ one_line (pos start.line) | Some looked ↦ looked ] ≡ or_line start.line o) [ None ↦ refl | Some l ↦ refl ]
 
-lesser-same : (a : ℤ) → lesser a a ≡ a
-lesser-same a = grind (arith, ints)
-
-greater-same : (a : ℤ) → greater a a ≡ a
-greater-same a = grind (arith, ints)
-
-same-line : (line : ℕ) → hull_of (one_line (pos line)) (one_line (pos line)) ≡ one_line (pos line)
-same-line line = λ i. record { low = lesser-same (pos line) i; high = greater-same (pos line) i; numbered = false }
-
 answer-here : (line n : ℕ) (l : Option Looked) (marks : List Mark) → ways_of marks ≡ 0 → or_line line l ≡ one_line (pos line) → AllTicks (IsSeen line false) marks → or_line line (answer_from n l marks).looked ≡ one_line (pos line)
 answer-here line n l [] h o t = o
 answer-here line n None (Tick m ∷ marks) h o t = answer-here line (suc n) (Some m) marks h t.0 t.1
 answer-here line n (Some l) (Tick m ∷ marks) h o t =
-    answer-here line (suc n) (Some (hull_of l m)) marks h ((λ i. hull_of (o i) (t.0 i)) ∙ same-line line) t.1
+    answer-here line (suc n) (Some (hull_of l m)) marks h ((λ i. hull_of (o i) (t.0 i)) ∙ hull_self (one_line (pos line))) t.1
 answer-here line n l (Reach w ∷ marks) h o t = absurd (omega arith)
 
 low-left : (m a : ℤ) → m ≤ℤ a → lesser m a ≡ m
 low-left m a h = grind (arith, ints)
 
-low-right : (m a : ℤ) → m ≤ℤ a → lesser a m ≡ m
-low-right m a h = grind (arith, ints)
-
 high-left : (m a : ℤ) → a ≤ℤ m → greater m a ≡ m
 high-left m a h = grind (arith, ints)
-
-high-right : (m a : ℤ) → a ≤ℤ m → greater a m ≡ m
-high-right m a h = grind (arith, ints)
 
 abbrev WithinOrNone : ℕ → Option Looked → Type 0
 WithinOrNone line None = Unit {0}
@@ -245,21 +231,15 @@ within-hull line a b h k = record {
   unnumbered = λ i. h.unnumbered i || k.unnumbered i;
 }
 
-least-two : (line : ℕ) (a : Looked) → Within line a → (hull_of (two_lines line) a ≡ two_lines line) × (hull_of a (two_lines line) ≡ two_lines line)
+least-two : (line : ℕ) (a : Looked) → Within line a → hull_of (two_lines line) a ≡ two_lines line
 least-two line a h =
     let low : (pos line -ℤ pos 1) ≤ℤ a.low = h.low in
-    let high : a.high ≤ℤ pos line = h.high in (
-      λ i. record {
-        low = low-left (two_lines line).low a.low (grind (arith, ints, low)) i;
-        high = high-left (two_lines line).high a.high (grind (arith, ints, high)) i;
-        numbered = h.unnumbered i;
-      },
-      λ i. record {
-        low = low-right (two_lines line).low a.low (grind (arith, ints, low)) i;
-        high = high-right (two_lines line).high a.high (grind (arith, ints, high)) i;
-        numbered = h.unnumbered i || false;
-      },
-    )
+    let high : a.high ≤ℤ pos line = h.high in
+    λ i. record {
+      low = low-left (two_lines line).low a.low (grind (arith, ints, low)) i;
+      high = high-left (two_lines line).high a.high (grind (arith, ints, high)) i;
+      numbered = h.unnumbered i;
+    }
 
 -- the hull of both lines, met or still to be met
 abbrev Meets : ℕ → Option Looked → List Mark → Type 0
@@ -277,9 +257,9 @@ meets-next line None m marks h k met = (
 meets-next line (Some l) m marks h k met = (
   within-hull line l m h k,
   elim met [
-    | inl e ↦ inl (ap (λ a. Some (hull_of a m)) (same_Some l (two_lines line) e) ∙ ap (λ a. Some a) (least-two line m k).0)
+    | inl e ↦ inl (ap (λ a. Some (hull_of a m)) (same_Some l (two_lines line) e) ∙ ap (λ a. Some a) (least-two line m k))
     | inr t ↦ elim t [
-      | inl here ↦ inl (ap (λ a. Some (hull_of l a)) here ∙ ap (λ a. Some a) (least-two line l h).1)
+      | inl here ↦ inl (ap (λ a. Some (hull_of l a)) here ∙ ap (λ a. Some a) (hull_comm l (two_lines line) ∙ least-two line l h))
       | inr later ↦ inr later
     ]
   ],

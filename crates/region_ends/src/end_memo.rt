@@ -147,42 +147,9 @@ impl EndMemo {
     }
 }
 
-/// The same as `find_end`, with what is known of the line (`EndMemo::clear`). `none` are nine empty
-/// texts (`Externals::none`): a search with other externals is made anew.
-pub fn find_end_with<T: Lines>(
-    alloc: Global,
-    items: &ItemSet,
-    programs: &Programs,
-    sets: &Sets,
-    lines: &T,
-    region: ItemId,
-    externals: &Externals,
-    none: &Externals,
-    from: Place,
-    memo: &mut EndMemo,
-    budget: u64,
-) -> Result<EndAnswer, Memory>
-    requires sound { AreSound items.now programs.now }
-    requires item { region.0 < length items.now }
-    requires region { is_region (item_of items.now region).kind ≡ true }
-    requires present { from.line < length (T.lines lines.now) }
-    requires budget { 1 ≤ budget }
-    requires none { none.now ≡ no_externals }
-    requires memo { EndMemoStands items.now sets.now budget (T.lines lines.now) from.line
-        memo.old }
-    ensures end { IfOk result (λ a. IsEnd a region (end_in_line (search_of items.now sets.now budget
-        (T.lines lines.now) region externals.now from))) }
-    ensures memo { EndMemoStands items.now sets.now budget (T.lines lines.now) from.line
-        memo.new }
-{
-    let mut shut = KeyAnswers::new(alloc);
-    find_end_by(
-        alloc, items, programs, sets, lines, region, externals, none, from, memo, &mut shut, budget,
-    )
-}
-
-/// The same, with what is known of the syntax, from line to line, at which columns no pattern of a
-/// region fits.
+/// The same as `find_end`, with what is known of the line (`EndMemo::clear`) and, from line to line, of
+/// the columns at which no pattern of a region fits. `none` are nine empty texts (`Externals::none`):
+/// a search with other externals is made anew.
 pub fn find_end_by<T: Lines>(
     alloc: Global,
     items: &ItemSet,

@@ -16,7 +16,7 @@ mod passing;
 mod searching;
 mod skips;
 
-pub use end_memo::{EndMemo, find_end_by, find_end_with};
+pub use end_memo::{EndMemo, find_end_by};
 pub use keeping::{earlier_end, item_of, kept_end, kept_end_over};
 pub use key_answers::KeyAnswers;
 pub use matching::Matcher;

@@ -153,7 +153,7 @@ impl Stack {
         ensures { IfOk result (λ s. s ≡ below ++ frame ∷ []) }
     {
         let len = below.len + 1;
-        let settled = both(below.settled, frame.is_settled());
+        let settled = below.settled && frame.is_settled();
         let enders = below.enders.over(&frame);
         let kinds = kinds_over(alloc, &below, &frame)?;
         let node = Rc::new(
@@ -290,10 +290,4 @@ fn kinds_over(alloc: Global, below: &Stack, frame: &Frame) -> Result<Kinds, Memo
         None => Kinds::new().over(alloc, frame),
         Some(kinds) => Ok(kinds.over(alloc, frame)?),
     }
-}
-
-fn both(a: bool, b: bool) -> bool
-    ensures { result ≡ (a && b) }
-{
-    a && b
 }

@@ -19,7 +19,7 @@ use Rattle.match_rules.specs.Counts.{is_spent}
 use Rattle.pattern_match.specs.Spending.{spent_times}
 use Rattle.pattern_match.specs.Ways.{columns_on}
 use Rattle.pattern_match.specs.Glance.{stops_of, turns_of}
-use Rattle.pattern_match.proofs.GlanceRuns.{greedy_seen, turns_less, way_on, lazy_stops, lazy_ends, lazy_misses, lazy_stays, lazy_goes, comes_first, none_then, went_back, went_on, went_to}
+use Rattle.pattern_match.proofs.GlanceRuns.{greedy_seen, turns_less, way_on, lazy_stops, lazy_ends, lazy_misses, lazy_stays, lazy_goes, none_then, went_back, went_on, went_to}
 use Rattle.pattern_match.proofs.glance.+look.Goals as goal
 
 pub look_at-returns-in-Empty-clause-seen : goal.look_at-returns-in-Empty-clause-seen

@@ -1,4 +1,4 @@
-use Rattle.std.proofs.Common.{◌≡◌, ◌+◌, ◌<◌, ◌≤◌, arith}
+use Rattle.std.proofs.Common.{arith}
 use Rattle.pattern_match.proofs.RunLaws.{none-allowed}
 use Rattle.pattern_match.proofs.glance.turns_at_once.Goals as goal
 
