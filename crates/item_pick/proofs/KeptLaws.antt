@@ -1,6 +1,6 @@
 -- What is kept of an item at the columns with a key, as a test and as what it says.
 use Rattle.std.proofs.Common.{◌≡◌, refl, sym, subst, ℕ, zero, suc, Bool, true, List, [], ◌∷◌}
-use Rattle.std.specs.Prelude.{Some, Option, slice_get}
+use Rattle.std.specs.Prelude.{Some, Option, slice_get, ◌&&◌}
 use Rattle.std.specs.List.{list_all}
 use Rattle.char_class.specs.declared.sets.Sets.{Sets}
 use Rattle.syn_base.specs.declared.places.ItemId.{ItemId}
@@ -8,9 +8,11 @@ use Rattle.syntax_set.specs.declared.item.ItemKind.{ItemKind}
 use Rattle.syntax_set.specs.declared.item.ItemKind.TheVariants.{Keyword, Match, Region}
 use Rattle.syntax_set.specs.declared.item.Pattern.{Pattern}
 use Rattle.paint_rules.specs.Rules.{Rules, item_of}
+use Rattle.pattern_screens.specs.Following.{fails_after}
 use Rattle.pattern_screens.proofs.Stands.{both_true}
-use Rattle.item_pick.specs.Standing.{IsFirst, IsPatternOf}
-use Rattle.item_pick.specs.Tables.{is_first_vain, is_kind_screened, is_screened, is_some_vain, is_vain, IsVainAt, stays_out, StaysOut}
+use Rattle.item_pick.specs.Firsts.{Asks, first_asked, idles_before, IsToldOfFirst, sits_by, some_asked, some_idle}
+use Rattle.item_pick.specs.Standing.{has_one_start, IsFirst, IsPatternOf}
+use Rattle.item_pick.specs.Tables.{is_kind_screened, is_screened, stays_out, StaysOut}
 
 -- a test that all of a list pass
 all_pass : {A : Type 0} (f : A → Bool) (xs : List A) → ((n : ℕ) (x : A) → Some x ≡ slice_get xs n → f x ≡ true) → list_all f xs ≡ true
@@ -45,12 +47,23 @@ pub out_by : (r : Rules) (number : ℕ) (i : ItemId) → stays_out r number i.0 
 out_by r number i told = one_screened r.sets r.budget (item_of r.items i).ignore number (item_of r.items i).kind told
 
 -- what was answered of a first pattern is true of the item
-pub vain_told : (r : Rules) (i : ItemId) (number : ℕ) (ignore : Bool) → ignore ≡ (item_of r.items i).ignore → (pattern : Pattern) → IsFirst r i pattern → (is : Bool) →
-    (is ≡ true → is_vain r.sets r.budget ignore number pattern ≡ true) → is ≡ true → is_first_vain r number i.0 ≡ true
-vain_told r i number ignore same pattern first is told e =
-    subst (λ (o : Option Pattern). is_some_vain r.sets r.budget (item_of r.items i).ignore number o ≡ true) (sym first)
-    (subst (λ b. is_vain r.sets r.budget b number pattern ≡ true) same (told e))
+pub first_told : (asks : Asks) (r : Rules) (i : ItemId) (number : ℕ) (ignore : Bool) → ignore ≡ (item_of r.items i).ignore → (pattern : Pattern) → IsFirst r i pattern → (is : Bool) →
+    (is ≡ true → asks r.sets r.budget ignore number pattern.tree ≡ true) → is ≡ true → first_asked asks r number i.0 ≡ true
+first_told asks r i number ignore same pattern first is told e =
+    subst (λ (o : Option Pattern). some_asked (asks r.sets r.budget (item_of r.items i).ignore number) o ≡ true) (sym first)
+    (subst (λ b. asks r.sets r.budget b number pattern.tree ≡ true) same (told e))
 
-pub vain_by : (r : Rules) (i : ItemId) (number : ℕ) → is_first_vain r number i.0 ≡ true → IsVainAt r number i
-vain_by r i number told pattern first =
-    subst (λ (o : Option Pattern). is_some_vain r.sets r.budget (item_of r.items i).ignore number o ≡ true) first told
+pub first_by : (asks : Asks) (r : Rules) (i : ItemId) (number : ℕ) → first_asked asks r number i.0 ≡ true → IsToldOfFirst asks r number i
+first_by asks r i number told pattern first =
+    subst (λ (o : Option Pattern). some_asked (asks r.sets r.budget (item_of r.items i).ignore number) o ≡ true) first told
+
+pub both_told : (a b : Bool) → a ≡ true → b ≡ true → (a && b) ≡ true
+both_told a b e f = λ i. e i && f i
+
+pub idle_told : (r : Rules) (i : ItemId) (number : ℕ) (ignore : Bool) → ignore ≡ (item_of r.items i).ignore → (pattern : Pattern) → IsFirst r i pattern → (is sits : Bool) →
+    (is ≡ true → fails_after r.sets r.budget ignore number pattern.tree ≡ true) → (sits ≡ true → (has_one_start (item_of r.items i).kind && sits_by pattern) ≡ true) → (is && sits) ≡ true → idles_before r number i.0 ≡ true
+idle_told r i number ignore same pattern first is sits told sat e =
+    let a = both_true is sits e in
+    let b = both_true (has_one_start (item_of r.items i).kind) (sits_by pattern) (sat a.1) in
+    let fails : fails_after r.sets r.budget (item_of r.items i).ignore number pattern.tree ≡ true = subst (λ c. fails_after r.sets r.budget c number pattern.tree ≡ true) same (told a.0) in
+    λ j. b.0 j && subst (λ (o : Option Pattern). some_idle r.sets r.budget (item_of r.items i).ignore number o ≡ true) (sym first) (λ k. b.1 k && fails k) j

@@ -1,7 +1,6 @@
 pub mod BehindLaws
-pub mod FollowingLaws
-pub mod BehindParts
 pub mod FoundLaws
+pub mod FutileLaws
 pub mod KeptLaws
 pub mod ListLaws
 pub mod MatchLaws
@@ -10,7 +9,6 @@ pub mod OwnLaws
 pub mod PickLaws
 pub mod QuietLaws
 pub mod QuietPlaceLaws
-pub mod RoomParts
 pub mod ScreenLaws
 pub mod SettledLaws
 pub mod StackLaws

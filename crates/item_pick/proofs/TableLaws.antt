@@ -23,6 +23,8 @@ use Rattle.paint_rules.specs.ItemMatch.{match_from}
 use Rattle.paint_rules.specs.Offsets.{within_line}
 use Rattle.char_class.specs.declared.sets.Sets.{Sets}
 use Rattle.match_rules.specs.Atoms.{has_keyword}
+use Rattle.pattern_screens.specs.Failing.{fails, fails_at}
+use Rattle.pattern_screens.specs.Following.{fails_after, takes_first}
 use Rattle.pattern_screens.specs.Keys.{AreNumbers, is_first, key_numbered, key_of, last_of}
 use Rattle.pattern_screens.specs.declared.key.Key.{Key}
 use Rattle.pattern_screens.proofs.Stands.{both_true}
@@ -34,14 +36,13 @@ use Rattle.item_pick.specs.Attempts.{IsFutile}
 use Rattle.item_pick.specs.Columns.{may_start_at}
 use Rattle.item_pick.specs.Quiet.{IsEarlier, IsNextItem, IsPassed, IsQuiet, item_numbered}
 use Rattle.item_pick.specs.Runs.{Covers, TellsOf}
-use Rattle.item_pick.specs.Screens.{HoldsLine, HoldsLines, IsIdle, IsLater, IsSettled}
+use Rattle.item_pick.specs.Screens.{HoldsLine, HoldsLines, IsIdle, IsLater, IsSettled, IsVainFrom}
 use Rattle.item_pick.specs.Standing.{first_pattern, has_one_start, IsFirst, IsPatternOf}
 use Rattle.item_pick.specs.Started.{admits, is_free}
-use Rattle.item_pick.specs.Following.{FailsAfterAt, fails_after, idles_before, sits_by, some_idle, takes_first}
-use Rattle.item_pick.specs.Tables.{fails, is_vain, passes, EndsStand, IsAnchored, IsEnough, IsMissed, IsNextAt, IsNextIn, IsNumberAt, IsVainAt, Lacks, ListStands, MemoryStands, RisesTo, RunStands, StaysOut, TablesStand}
+use Rattle.item_pick.specs.Firsts.{idles_before, IsToldOfFirst, sits_by, some_idle}
+use Rattle.item_pick.specs.Tables.{passes, EndsStand, IsAnchored, IsEnough, IsMissed, IsNextAt, IsNextIn, IsNumberAt, Lacks, ListStands, MemoryStands, RisesTo, RunStands, StaysOut, TablesStand}
 use Rattle.syn_base.specs.Looked.{one_line}
-use Rattle.item_pick.specs.Behind.{IsVainFrom}
-use Rattle.item_pick.proofs.BehindLaws.{futile-vain}
+use Rattle.item_pick.proofs.BehindLaws.{futile_vain}
 use Rattle.item_pick.proofs.MatchLaws.{no_start}
 use Rattle.item_pick.proofs.QuietLaws.{earlier}
 use Rattle.item_pick.proofs.ScreenLaws.{each_held, futile_idle}
@@ -55,8 +56,8 @@ IsLaw r =
 -- the law of what follows a first atom
 abbrev pub IsAfterLaw : Rules → Type 0
 IsAfterLaw r =
-    (pattern : Pattern) (t : Text) (ignore : Bool) (l c number : ℕ) → takes_first (nat_lt 0 c) pattern.tree.node ≡ true → c + 1 ≤ length (line_at t l) → key_numbered number ≡ key_of r.sets (line_at t l) (c + 1) →
-    fails_after r.sets r.budget ignore number pattern ≡ true → IsFutile (r.attempt t pattern.tree ignore no_externals (place_at l c)) r.budget l
+    (tree : PatternTree) (t : Text) (ignore : Bool) (l c number : ℕ) → takes_first (nat_lt 0 c) tree.node ≡ true → c + 1 ≤ length (line_at t l) → key_numbered number ≡ key_of r.sets (line_at t l) (c + 1) →
+    fails_after r.sets r.budget ignore number tree ≡ true → IsFutile (r.attempt t tree ignore no_externals (place_at l c)) r.budget l
 
 module _ (r : Rules) (law : IsLaw r) (t : Text) (p : Place) (i : ItemId) (pattern : Pattern) (k : Looked) (held : HoldsLine k p.line) where
   -- where the screen fails nothing is found
@@ -69,7 +70,7 @@ module _ (r : Rules) (law : IsLaw r) (t : Text) (p : Place) (i : ItemId) (patter
   missed_idle after c within missed =
       elim missed [
         | inl e ↦ screened_idle c within e
-        | inr m ↦ futile_idle r t i pattern p c r.budget k held (after pattern t (item_of r.items i).ignore p.line c m.1.0 m.0 m.1.1.0.0 m.1.1.0.1 m.1.1.1) (omega arith)
+        | inr m ↦ futile_idle r t i pattern p c r.budget k held (after pattern.tree t (item_of r.items i).ignore p.line c m.1.0 m.0 m.1.1.0.0 m.1.1.0.1 m.1.1.1) (omega arith)
       ]
 
 -- ---- what a row says
@@ -121,7 +122,7 @@ only_first (Region starts skip ends) e pattern its = zero_below starts its.0 pat
 -- nor has one that starts by one pattern, where what follows its first piece fails one column behind
 module _ (r : Rules) (after : IsAfterLaw r) (t : Text) (p : Place) (number : ℕ) (key : IsNumberAt r (line_at t p.line) (p.col + 1) number) (later : 0 < p.col) (i : ItemId) (idle : idles_before r number i.0 ≡ true) where
   module _ (pattern : Pattern) (its : IsPatternOf (item_of r.items i).kind pattern) (k : Looked) (held : HoldsLine k p.line) (c : ℕ) where
-    own-idle : (sits_by pattern && fails_after r.sets r.budget (item_of r.items i).ignore number pattern) ≡ true
+    own-idle : (sits_by pattern && fails_after r.sets r.budget (item_of r.items i).ignore number pattern.tree) ≡ true
     own-idle =
         let a = both_true (has_one_start (item_of r.items i).kind) _ idle in
         subst (λ (o : Option Pattern). some_idle r.sets r.budget (item_of r.items i).ignore number o ≡ true) (only_first (item_of r.items i).kind a.0 pattern its) a.1
@@ -137,7 +138,7 @@ module _ (r : Rules) (after : IsAfterLaw r) (t : Text) (p : Place) (number : ℕ
         let some : nat_lt 0 p.col ≡ true = grind (arith, nat_tests, later) in
         let takes : takes_first (nat_lt 0 p.col) tree.node ≡ true = subst (λ n. takes_first n tree.node ≡ true) (sym some) d.1 in
         subst (λ n. IsIdle (match_from r t i pattern p) k n) (sym here)
-        (futile_idle r t i pattern p p.col r.budget k held (after pattern t (item_of r.items i).ignore p.line p.col number takes key.0 key.1 a.1) (omega arith))
+        (futile_idle r t i pattern p p.col r.budget k held (after pattern.tree t (item_of r.items i).ignore p.line p.col number takes key.0 key.1 a.1) (omega arith))
 
   pub idle_quiet : (floor : ℕ) (k : Looked) → HoldsLine k p.line → IsQuiet r t p floor k i
   idle_quiet floor k held pattern its c from within =
@@ -188,7 +189,7 @@ next_ok r t p floor tried choice k left (Err memory) h = tt
 -- ---- what is known of columns
 
 -- where attempts are in vain by a column's key, the item is missed there
-pub vain_is_missed : (r : Rules) (line : List ℕ) (at number : ℕ) → IsNumberAt r line at number → (i : ItemId) → IsVainAt r number i → (pattern : Pattern) → IsFirst r i pattern →
+pub vain_is_missed : (r : Rules) (line : List ℕ) (at number : ℕ) → IsNumberAt r line at number → (i : ItemId) → IsToldOfFirst fails_at r number i → (pattern : Pattern) → IsFirst r i pattern →
     IsMissed r line i pattern at
 vain_is_missed r line at number its i vain pattern first =
     let ignore = (item_of r.items i).ignore in
@@ -277,7 +278,7 @@ nothing_known r t l i lines = record {
 -- missed by what stands one column behind
 pub missed_after : (r : Rules) (memory : PickMemory) (i : ItemId) (pattern : Pattern) → IsFirst r i pattern → (col number : ℕ) → takes_first (nat_lt 0 col) pattern.tree.node ≡ true →
     ((t : Text) (l : ℕ) → MemoryStands r t l memory → IsNumberAt r (line_at t l) (col + 1) number) → (result : Result Bool Memory) →
-    IfOk result (λ vain. IsTrue vain → FailsAfterAt r number i) →
+    IfOk result (λ vain. IsTrue vain → IsToldOfFirst fails_after r number i) →
     IfOk result (λ missed. IsTrue missed → (t : Text) (l : ℕ) → MemoryStands r t l memory → IsMissed r (line_at t l) i pattern col)
 missed_after r memory i pattern first col number takes key (Ok vain) h = λ e t l stands. inr (takes, (number, (key t l stands, h e pattern first)))
 missed_after r memory i pattern first col number takes key (Err m) h = tt
@@ -368,10 +369,10 @@ narrowed r choice number all list stands kept j within admitted lacks = elim (ha
 
 -- what was answered of a first pattern is true of the item
 pub anchored_by : (r : Rules) (i : ItemId) (ignore : Bool) → ignore ≡ (item_of r.items i).ignore → (pattern : Pattern) → IsFirst r i pattern →
-    ((number : ℕ) → number < 777 → is_first (key_numbered number).last ≡ false → is_vain r.sets r.budget ignore number pattern ≡ true) → IsAnchored r i
+    ((number : ℕ) → number < 777 → is_first (key_numbered number).last ≡ false → fails_at r.sets r.budget ignore number pattern.tree ≡ true) → IsAnchored r i
 anchored_by r i ignore same pattern first told number below behind other own =
-    subst (λ (q : Pattern). is_vain r.sets r.budget (item_of r.items i).ignore number q ≡ true) (one_first r i pattern other first own)
-    (subst (λ b. is_vain r.sets r.budget b number pattern ≡ true) same (told number below behind))
+    subst (λ (q : Pattern). fails_at r.sets r.budget (item_of r.items i).ignore number q.tree ≡ true) (one_first r i pattern other first own)
+    (subst (λ b. fails_at r.sets r.budget b number pattern.tree ≡ true) same (told number below behind))
 
 -- behind the first column something stands before
 not_first : (sets : Sets) (line : List ℕ) (col : ℕ) → 0 < col → is_first (key_of sets line col).last ≡ false
@@ -408,7 +409,7 @@ missed_futile : (r : Rules) → IsLaw r → IsAfterLaw r → (t : Text) (i : Ite
 missed_futile r law after t i pattern l c within missed =
     elim missed [
       | inl e ↦ law pattern.tree t (item_of r.items i).ignore l c within e
-      | inr m ↦ after pattern t (item_of r.items i).ignore l c m.1.0 m.0 m.1.1.0.0 m.1.1.0.1 m.1.1.1
+      | inr m ↦ after pattern.tree t (item_of r.items i).ignore l c m.1.0 m.0 m.1.1.0.0 m.1.1.0.1 m.1.1.1
     ]
 
 pub missed_vain : (r : Rules) → IsLaw r → IsAfterLaw r → (t : Text) (i : ItemId) (pattern : Pattern) (p : Place) (c : ℕ) → may_start_at pattern (length (line_at t p.line)) p.col c ≡ true → c ≤ length (line_at t p.line) → (missed : Bool) → (missed ≡ true → IsMissed r (line_at t p.line) i pattern c) →
@@ -416,4 +417,4 @@ pub missed_vain : (r : Rules) → IsLaw r → IsAfterLaw r → (t : Text) (i : I
 missed_vain r law after t i pattern p c may within missed is None h = tt
 missed_vain r law after t i pattern p c may within missed is (Some lines) h =
     subst (λ k. IsVainFrom r t p i pattern k c) (sym h.1)
-    (futile-vain r t i pattern p c (one_line (pos p.line)) may (missed_futile r law after t i pattern p.line c within (is h.0)))
+    (futile_vain r t i pattern p c (one_line (pos p.line)) may (missed_futile r law after t i pattern p.line c within (is h.0)))

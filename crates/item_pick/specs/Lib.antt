@@ -5,8 +5,7 @@ pub mod Picks
 pub mod QuietUntil
 -- what the code and proofs alone cite
 pub mod Attempts
-pub mod Behind
-pub mod Following
+pub mod Firsts
 pub mod Columns
 pub mod Screens
 pub mod Marks
@@ -15,9 +14,7 @@ pub mod Started
 pub mod Told
 pub mod Tries
 pub mod Tables
-pub mod Screened
 pub mod Quiet
-pub mod Rooms
 pub mod Runs
 pub mod Settled
 pub mod QuietPlaces

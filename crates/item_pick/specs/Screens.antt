@@ -35,3 +35,9 @@ pub record IsLater (r : Rules) (t : Text) (i : ItemId) (pattern : Pattern) (p : 
   pub ahead : col ≤ next
   pub idle : (c : ℕ) → col ≤ c → c < next → c ≤ length (line_at t p.line) →
       IsIdle (match_from r t i pattern p) k c
+
+-- an attempt from this column finds nothing with its item start at the place, and looks at these lines
+abbrev pub IsVainFrom : Rules → Text → Place → ItemId → Pattern → Looked → ℕ → Type 0
+IsVainFrom r t p i pattern lines c =
+    (k : Looked) →
+    looked_first (Some k) (match_from r t i pattern p c) ≡ Done None (Some (hull_of k lines))

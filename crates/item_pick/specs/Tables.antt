@@ -1,5 +1,5 @@
 -- Which items of a choice may start at a column, by the key of the column.
-use Rattle.std.specs.Prelude.{◌≡◌, ◌<◌, ◌≤◌, ◌+◌, ◌-◌, ◌⊎◌, ℕ, Bool, true, not, ◌&&◌, false, nat_lt, is_none, List, length, slice_index, IfSome, Option, Some, None}
+use Rattle.std.specs.Prelude.{◌≡◌, ◌<◌, ◌≤◌, ◌+◌, ◌-◌, ◌⊎◌, ℕ, Bool, true, not, ◌&&◌, false, nat_lt, is_none, List, length, slice_index, IfSome}
 use Rattle.std.specs.List.{All, list_all}
 use Rattle.std.specs.List.Sorted.{IsNonDecreasing}
 use Rattle.char_class.specs.declared.sets.Sets.{Sets}
@@ -12,10 +12,10 @@ use Rattle.syntax_set.specs.declared.item.ItemKind.{ItemKind}
 use Rattle.syntax_set.specs.declared.item.ItemKind.TheVariants.{Keyword, Match, Region}
 use Rattle.syntax_set.specs.declared.item.Pattern.{Pattern}
 use Rattle.paint_rules.specs.Rules.{Rules, item_of}
-use Rattle.pattern_screens.specs.Bounds.{failing_cost}
+use Rattle.pattern_screens.specs.Behind.{fails_behind}
+use Rattle.pattern_screens.specs.Failing.{fails, fails_at}
+use Rattle.pattern_screens.specs.Following.{fails_after, takes_first}
 use Rattle.pattern_screens.specs.Keys.{AreNumbers, is_first, key_numbered, key_of}
-use Rattle.pattern_screens.specs.Screens.{is_futile, verdict}
-use Rattle.pattern_screens.specs.declared.key.Key.{Key}
 use Rattle.region_ends.specs.EndMemo.{EndMemoStands}
 use Rattle.region_ends.specs.KeyAnswers.{AnswersStand}
 use Rattle.region_ends.specs.Passing.{is_shut_at}
@@ -25,18 +25,12 @@ use Rattle.item_pick.specs.declared.memory.PickMemory.{PickMemory}
 use Rattle.item_pick.specs.declared.runs.Run.{Run}
 use Rattle.item_pick.specs.declared.runs.Runs.{Runs}
 use Rattle.item_pick.specs.declared.tables.Row.{Row}
-use Rattle.item_pick.specs.Behind.{first_fails_behind}
-use Rattle.item_pick.specs.Following.{fails_after, first_fails_after, idles_before, takes_first}
+use Rattle.item_pick.specs.Firsts.{first_asked, idles_before, IsToldOfFirst}
 use Rattle.item_pick.specs.Quiet.{item_numbered, IsPassed}
 use Rattle.item_pick.specs.Screens.{IsSettled}
 use Rattle.item_pick.specs.Settled.{item_wanders}
-use Rattle.item_pick.specs.Standing.{first_pattern, IsFirst, IsPatternOf}
+use Rattle.item_pick.specs.Standing.{IsFirst, IsPatternOf}
 use Rattle.item_pick.specs.Started.{admits}
-
--- an attempt at a column with this key has no way, looks at its line alone, and is within the budget
-abbrev pub fails : Sets → ℕ → Bool → Key → PatternTree → Bool
-fails sets budget ignore key tree =
-    is_futile (verdict sets ignore key tree) && not (nat_lt budget (failing_cost tree))
 
 -- whether an attempt at a column of a line isn't known to fail
 abbrev pub passes : Sets → ℕ → PatternTree → Bool → List ℕ → ℕ → Bool
@@ -107,31 +101,12 @@ pub record RowStands (r : Rules) (row : Row) : Type 0 where
   pub resting : HasThose r false row.items.items row.resting.items
   pub wandering : IfSome row.wandering (λ those. HasThose r true row.items.items those.items)
 
--- an attempt by a pattern has no way at a column whose key has a number
-abbrev pub is_vain : Sets → ℕ → Bool → ℕ → Pattern → Bool
-is_vain sets budget ignore number pattern =
-    nat_lt number 777 && fails sets budget ignore (key_numbered number) pattern.tree
-
--- the same of the first pattern of an item
-abbrev pub IsVainAt : Rules → ℕ → ItemId → Type 0
-IsVainAt r number i =
-    (pattern : Pattern) → IsFirst r i pattern →
-    is_vain r.sets r.budget (item_of r.items i).ignore number pattern ≡ true
-
--- the same as a test, of a pattern, if there is one, and of the first one of an item, by its number
-abbrev pub is_some_vain : Sets → ℕ → Bool → ℕ → Option Pattern → Bool
-is_some_vain sets budget ignore number None = true
-is_some_vain sets budget ignore number (Some pattern) = is_vain sets budget ignore number pattern
-
-abbrev pub is_first_vain : Rules → ℕ → ℕ → Bool
-is_first_vain r number item =
-    is_some_vain r.sets r.budget (item_of r.items (item_numbered item)).ignore number
-    (first_pattern (item_of r.items (item_numbered item)).kind)
-
--- they are in vain at each column that has one before it, whatever stands there
+-- attempts by the first pattern of an item fail at each column that has one before it, whatever stands
+-- there
 abbrev pub IsAnchored : Rules → ItemId → Type 0
 IsAnchored r i =
-    (number : ℕ) → number < 777 → is_first (key_numbered number).last ≡ false → IsVainAt r number i
+    (number : ℕ) → number < 777 → is_first (key_numbered number).last ≡ false →
+    IsToldOfFirst fails_at r number i
 
 abbrev pub AnchorStands : Rules → Anchor → Type 0
 AnchorStands r anchor = anchor.is ≡ true → IsAnchored r anchor.item
@@ -147,15 +122,15 @@ abbrev pub IsMissed : Rules → List ℕ → ItemId → Pattern → ℕ → Type
 IsMissed r line i pattern c =
     (passes r.sets r.budget pattern.tree (item_of r.items i).ignore line c ≡ false)
     ⊎ ((takes_first (nat_lt 0 c) pattern.tree.node ≡ true) × ((number : ℕ) × (IsNumberAt r line (c + 1) number
-    × (fails_after r.sets r.budget (item_of r.items i).ignore number pattern ≡ true))))
+    × (fails_after r.sets r.budget (item_of r.items i).ignore number pattern.tree ≡ true))))
 
 -- what is kept is true of these rules
 pub record TablesStand (r : Rules) (memory : PickMemory) : Type 0 where
   pub rows : All (RowStands r) memory.rows.items
   pub outs : AnswersStand (stays_out r) memory.outs
-  pub vains : AnswersStand (is_first_vain r) memory.vains
-  pub behinds : AnswersStand (first_fails_behind r) memory.behinds
-  pub afters : AnswersStand (first_fails_after r) memory.afters
+  pub vains : AnswersStand (first_asked fails_at r) memory.vains
+  pub behinds : AnswersStand (first_asked fails_behind r) memory.behinds
+  pub afters : AnswersStand (first_asked fails_after r) memory.afters
   pub idles : AnswersStand (idles_before r) memory.idles
   pub shut : AnswersStand (is_shut_at r.items r.sets r.budget) memory.shut
   pub anchors : All (AnchorStands r) memory.anchors.list.items

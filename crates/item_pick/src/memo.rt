@@ -1,13 +1,12 @@
 //! What is remembered of a line: from which columns no item is matched, and where regions end.
 ghost use Rattle.std.specs.Prelude.{◌≡◌, ◌<◌, ◌≤◌, ℕ, length, reverse, true, IfOk, IfSome};
 ghost use Rattle.match_rules.specs.Ways.{Text, line_at};
-ghost use Rattle.item_pick.specs.Behind.{IsVainFrom};
 ghost use Rattle.paint_rules.specs.Rules.{item_of};
 ghost use Rattle.paint_rules.specs.Close.{is_region};
 ghost use Rattle.paint_rules.specs.EndInLine.{end_in_line, for_ends};
 ghost use Rattle.region_ends.specs.Searches.{IsEnd};
 ghost use Rattle.item_pick.specs.Quiet.{IsEarlier};
-ghost use Rattle.item_pick.specs.Screens.{HoldsLine, IsLater, IsSettled};
+ghost use Rattle.item_pick.specs.Screens.{HoldsLine, IsLater, IsSettled, IsVainFrom};
 ghost use Rattle.item_pick.specs.Standing.{ChoiceFits, IsFirst, IsItem, IsOwn, IsPlace};
 
 use crate::choice::Choice;

@@ -5,23 +5,23 @@ ghost use Rattle.std.specs.List.{All};
 ghost use Rattle.std.specs.List.Sorted.{IsNonDecreasing};
 ghost use Rattle.match_rules.specs.Ways.{Text, line_at};
 ghost use Rattle.paint_rules.specs.Rules.{Rules, item_of, place_at};
+ghost use Rattle.pattern_screens.specs.Behind.{fails_behind};
+ghost use Rattle.pattern_screens.specs.Failing.{fails_at};
+ghost use Rattle.pattern_screens.specs.Following.{fails_after};
 ghost use Rattle.pattern_screens.specs.Keys.{AreNumbers};
-ghost use Rattle.item_pick.specs.Behind.{FailsBehindAt};
-ghost use Rattle.item_pick.specs.Following.{FailsAfterAt};
+ghost use Rattle.item_pick.specs.Firsts.{IsToldOfFirst};
 ghost use Rattle.item_pick.specs.PartsSeen.{rules_in};
 ghost use Rattle.item_pick.specs.Quiet.{IsPassed, IsQuiet, item_numbered};
 ghost use Rattle.item_pick.specs.Runs.{TellsOf};
 ghost use Rattle.item_pick.specs.Screens.{HoldsLine};
 ghost use Rattle.item_pick.specs.Standing.{ChoiceFits, IsFirst, IsItem, IsOwn};
-ghost use Rattle.item_pick.specs.Tables.{IsAnchored, IsMissed, IsNextAt, IsNextIn, IsNumberAt, IsVainAt, MemoryStands, RowStands, RunStands, TablesStand};
+ghost use Rattle.item_pick.specs.Tables.{IsAnchored, IsMissed, IsNextAt, IsNextIn, IsNumberAt, MemoryStands, RowStands, RunStands, TablesStand};
 
 use crate::anchors::{Anchor, Anchors};
 use crate::asked::Asked;
-use crate::behind::{are_short, begins_behind, two_lines};
 use crate::choice::Choice;
 use crate::columns::{Columns, may_start};
 use crate::ends::end_with;
-use crate::following::takes_first;
 use crate::memo::Memo;
 use crate::parts::Parts;
 use crate::picking::Picking;
@@ -29,7 +29,10 @@ use crate::runs::{Run, Runs, Search, holds};
 use crate::syntax::Syntax;
 use crate::tables::{ANY, Row};
 use crate::wandering::wanders;
-use pattern_screens::number_line;
+use pattern_screens::{
+    are_short, begins_behind, fails_after, fails_at, fails_behind, fails_past_first, number_line,
+    takes_first, two_lines,
+};
 use region_ends::{EndAnswer, KeyAnswers, item_of};
 use std::alloc::Global;
 use syn_base::{Externals, ItemId, Lines, Looked, Memory, Place};
@@ -351,14 +354,20 @@ impl PickMemory {
         ensures numbers { self.new.numbers ≡ self.old.numbers }
         ensures runs { self.new.runs ≡ self.old.runs }
         ensures vain { IfOk result (λ vain. IsTrue vain →
-            IsVainAt (rules_in asked.now.parts.now asked.now.budget) number id) }
+            IsToldOfFirst fails_at (rules_in asked.now.parts.now asked.now.budget) number id) }
     {
         match self.vains.known(number, id) {
             Some(vain) => return Ok(vain),
             None => {}
         }
         let ignore = item_of(asked.parts.items, id).ignore;
-        let is = asked.is_vain(ignore, pattern, number);
+        let is = fails_at(
+            &pattern.tree,
+            asked.parts.sets,
+            ignore,
+            number,
+            asked.budget,
+        );
         self.vains.keep(number, id, is)?;
         Ok(is)
     }
@@ -379,17 +388,23 @@ impl PickMemory {
         ensures numbers { self.new.numbers ≡ self.old.numbers }
         ensures runs { self.new.runs ≡ self.old.runs }
         ensures vain { IfOk result (λ vain. IsTrue vain →
-            FailsAfterAt (rules_in asked.now.parts.now asked.now.budget) number id) }
+            IsToldOfFirst fails_after (rules_in asked.now.parts.now asked.now.budget) number id) }
     {
         match self.afters.known(number, id) {
             Some(vain) => return Ok(vain),
             None => {}
         }
         let ignore = item_of(asked.parts.items, id).ignore;
-        let is = asked.fails_after(self.alloc, ignore, pattern, number)?;
+        let is = fails_after(
+            &pattern.tree,
+            asked.parts.sets,
+            ignore,
+            number,
+            asked.budget,
+        );
         self.afters.keep(number, id, is)?;
         let sits = asked.sits(id, pattern);
-        self.idles.keep(number, id, both_hold(is, sits))?;
+        self.idles.keep(number, id, is && sits)?;
         Ok(is)
     }
 
@@ -503,7 +518,7 @@ impl PickMemory {
             None => {}
         }
         let ignore = item_of(asked.parts.items, id).ignore;
-        let is = asked.is_anchored(ignore, pattern);
+        let is = fails_past_first(&pattern.tree, asked.parts.sets, ignore, asked.budget);
         self.anchors.keep(Anchor { item: id, is })?;
         Ok(is)
     }
@@ -572,14 +587,20 @@ impl PickMemory {
         ensures numbers { self.new.numbers ≡ self.old.numbers }
         ensures runs { self.new.runs ≡ self.old.runs }
         ensures vain { IfOk result (λ vain. IsTrue vain →
-            FailsBehindAt (rules_in asked.now.parts.now asked.now.budget) number id) }
+            IsToldOfFirst fails_behind (rules_in asked.now.parts.now asked.now.budget) number id) }
     {
         match self.behinds.known(number, id) {
             Some(vain) => return Ok(vain),
             None => {}
         }
         let ignore = item_of(asked.parts.items, id).ignore;
-        let is = asked.fails_behind(self.alloc, ignore, pattern, number)?;
+        let is = fails_behind(
+            &pattern.tree,
+            asked.parts.sets,
+            ignore,
+            number,
+            asked.budget,
+        );
         self.behinds.keep(number, id, is)?;
         Ok(is)
     }
@@ -818,11 +839,4 @@ fn own_line_if(missed: bool, line: usize) -> Option<Looked>
     } else {
         None
     }
-}
-
-/// Whether both hold.
-fn both_hold(one: bool, other: bool) -> bool
-    ensures { result ≡ (one && other) }
-{
-    one && other
 }

@@ -3,7 +3,7 @@ ghost use Rattle.std.specs.Prelude.{◌≡◌, ◌<◌, ◌≤◌, ◌+◌, ℕ,
 ghost use Rattle.syn_base.specs.declared.looked.Looked.{Looked as LookedOf};
 ghost use Rattle.match_rules.specs.Ways.{Text, line_at};
 ghost use Rattle.paint_rules.specs.Rules.{Rules, place_at};
-ghost use Rattle.item_pick.specs.Following.{idles_before};
+ghost use Rattle.item_pick.specs.Firsts.{idles_before};
 ghost use Rattle.item_pick.specs.PartsSeen.{rules_in};
 ghost use Rattle.item_pick.specs.Quiet.{IsQuiet, item_numbered};
 ghost use Rattle.item_pick.specs.Screens.{HoldsLine};

@@ -8,16 +8,15 @@ ghost use Rattle.item_pick.specs.Quiet.{item_numbered};
 ghost use Rattle.item_pick.specs.Standing.{ChoiceFits, IsItem};
 ghost use Rattle.item_pick.specs.Started.{admits};
 ghost use Rattle.region_ends.specs.KeyAnswers.{AnswersStand};
-ghost use Rattle.item_pick.specs.Tables.{fails, is_screened, is_vain, Lacks, ListStands, RisesTo, RowStands, stays_out, StaysOut};
+ghost use Rattle.item_pick.specs.Tables.{is_screened, Lacks, ListStands, RisesTo, RowStands, stays_out, StaysOut};
 
 use crate::asked::Asked;
 use crate::choice::{Choice, admits};
-use pattern_screens::{KEYS, Key, failing_cost, screen};
+use pattern_screens::{KEYS, Key, fails};
 use region_ends::{KeyAnswers, item_of};
 use std::alloc::Global;
 use syn_base::{ItemId, Memory};
 use syntax_set::{ItemKind, Pattern};
-use vim_pattern::Tree;
 
 /// In place of the number of a key: the row has all items that start by a pattern.
 pub(crate) const ANY: u16 = KEYS;
@@ -36,27 +35,6 @@ pub(crate) struct Row {
 }
 
 impl Asked<'_> {
-    /// Whether an attempt at a column with a key is known to fail within the budget.
-    pub(crate) fn fails(&self, ignore: bool, tree: &Tree, key: Key) -> bool
-        ensures { IsTrue result →
-            fails self.now.parts.now.sets.now self.now.budget ignore key tree.now ≡ true }
-    {
-        match failing_cost(tree) {
-            Some(cost) => {
-                cost <= self.budget && screen(tree, self.parts.sets, ignore, key).is_futile()
-            }
-            None => false,
-        }
-    }
-
-    /// Whether no attempt by a pattern has a way at a column whose key has a number.
-    pub(crate) fn is_vain(&self, ignore: bool, pattern: &Pattern, number: u16) -> bool
-        ensures { IsTrue result → is_vain self.now.parts.now.sets.now self.now.budget ignore number
-            pattern.now ≡ true }
-    {
-        number < KEYS && self.fails(ignore, &pattern.tree, Key::numbered(number))
-    }
-
     /// Whether an item can't start by a pattern at a column whose key has a number.
     fn is_screened(&self, ignore: bool, pattern: &Pattern, number: u16) -> bool
         ensures { IsTrue result → is_screened self.now.parts.now.sets.now self.now.budget ignore
@@ -65,7 +43,13 @@ impl Asked<'_> {
         number < KEYS
             && !pattern.tree.moves_start
             && pattern.ms.is_none()
-            && self.fails(ignore, &pattern.tree, Key::numbered(number))
+            && fails(
+                &pattern.tree,
+                self.parts.sets,
+                ignore,
+                Key::numbered(number),
+                self.budget,
+            )
     }
 
     /// Whether it can't start by any of some patterns.

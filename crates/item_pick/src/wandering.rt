@@ -1,11 +1,14 @@
 //! Items whose start says nothing of where their match begins.
-ghost use Rattle.std.specs.Prelude.{◌≡◌, ◌<◌, ℕ, length, IfOk};
+ghost use Rattle.std.specs.Prelude.{◌≡◌, ◌&&◌, ◌<◌, ℕ, length, true, IfOk, IsTrue};
+ghost use Rattle.paint_rules.specs.Rules.{item_of};
+ghost use Rattle.item_pick.specs.Firsts.{sits_by};
 ghost use Rattle.item_pick.specs.PartsSeen.{rules_in};
 ghost use Rattle.item_pick.specs.Settled.{item_wanders, wanders};
-ghost use Rattle.item_pick.specs.Standing.{IsItem};
+ghost use Rattle.item_pick.specs.Standing.{has_one_start, IsItem};
 ghost use Rattle.item_pick.specs.Tables.{HasThose, Lacks};
 
 use crate::asked::Asked;
+use pattern_screens::takes_first;
 use region_ends::item_of;
 use std::alloc::Global;
 use syn_base::{ItemId, Memory};
@@ -20,6 +23,20 @@ pub(crate) fn wanders(pattern: &Pattern) -> bool
 }
 
 impl Asked<'_> {
+    /// Whether an item starts by this pattern alone, where its match begins, and that begins with a piece
+    /// of one character.
+    pub(crate) fn sits(&self, id: ItemId, pattern: &Pattern) -> bool
+        requires { IsItem (rules_in self.now.parts.now self.now.budget) id }
+        ensures { IsTrue result →
+            (has_one_start (item_of (rules_in self.now.parts.now self.now.budget).items id).kind
+            && sits_by pattern.now) ≡ true }
+    {
+        self.has_one_start(id)
+            && !pattern.tree.moves_start
+            && pattern.ms.is_none()
+            && takes_first(&pattern.tree, true)
+    }
+
     /// Whether an item wanders by the first of its start patterns.
     fn item_wanders(&self, id: ItemId) -> bool
         requires { IsItem (rules_in self.now.parts.now self.now.budget) id }

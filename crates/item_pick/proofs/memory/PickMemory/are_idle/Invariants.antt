@@ -1,6 +1,6 @@
 use Rattle.std.proofs.Common.{◌≡◌, ◌<◌, ℕ, get_or, true}
 use Rattle.paint_rules.specs.Rules.{Rules}
-use Rattle.item_pick.specs.Following.{idles_before}
+use Rattle.item_pick.specs.Firsts.{idles_before}
 use Rattle.item_pick.specs.Tables.{TablesStand}
 use Rattle.item_pick.proofs.memory.PickMemory.are_idle.Given as goal
 

@@ -4,7 +4,7 @@ use Rattle.paint_rules.specs.Rules.{place_at}
 use Rattle.item_pick.specs.PartsSeen.{rules_in}
 use Rattle.item_pick.specs.Quiet.{item_numbered}
 use Rattle.item_pick.specs.Tables.{IsNumberAt}
-use Rattle.item_pick.proofs.FollowingLaws.{after-futile}
+use Rattle.item_pick.proofs.FutileLaws.{futile_after}
 use Rattle.item_pick.proofs.TableLaws.{idle_quiet}
 use Rattle.item_pick.proofs.memory.PickMemory.are_idle_at.Goals as goal
 
@@ -18,5 +18,5 @@ returns-in-Some-number_at c = λ e t l memory floor looked held k h.
     let nonzero : col ≢ 0 = search rules in
     let later : 0 < col = omega (arith, nonzero) in
     let key = subst (λ n. IsNumberAt r (line_at t l) n number) behind (c.in-Some-number_at.ensures r t l memory) in
-    idle_quiet r (after-futile asked.parts.now.sets.now asked.budget) t (place_at l col) number key later (item_numbered (get_or c.args.list.now k 0))
+    idle_quiet r (futile_after asked.parts.now.sets.now asked.budget) t (place_at l col) number key later (item_numbered (get_or c.args.list.now k 0))
     (c.are_idle.ensures e r memory.tables k h) floor looked held

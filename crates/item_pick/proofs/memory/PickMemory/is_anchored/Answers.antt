@@ -21,7 +21,7 @@ returns-in_err-keep-clause-stands c =
       idles = c.requires.stands.idles;
       shut = c.requires.stands.shut;
       anchors = c.keep.ensures r c.requires.stands.anchors
-          (λ e. anchored_by r c.args.id c.item_of.result.now.ignore (ap (λ (x : Item). x.ignore) c.item_of.ensures) c.args.pattern.now c.requires.first (c.is_anchored-is.ensures e));
+          (λ e. anchored_by r c.args.id c.item_of.result.now.ignore (ap (λ (x : Item). x.ignore) c.item_of.ensures) c.args.pattern.now c.requires.first (c.fails_past_first-is.ensures e));
     }
 
 pub returns-clause-stands : goal.returns-clause-stands
@@ -36,10 +36,10 @@ returns-clause-stands c =
       idles = c.requires.stands.idles;
       shut = c.requires.stands.shut;
       anchors = c.keep.ensures r c.requires.stands.anchors
-          (λ e. anchored_by r c.args.id c.item_of.result.now.ignore (ap (λ (x : Item). x.ignore) c.item_of.ensures) c.args.pattern.now c.requires.first (c.is_anchored-is.ensures e));
+          (λ e. anchored_by r c.args.id c.item_of.result.now.ignore (ap (λ (x : Item). x.ignore) c.item_of.ensures) c.args.pattern.now c.requires.first (c.fails_past_first-is.ensures e));
     }
 
 pub returns-clause-anchored : goal.returns-clause-anchored
 returns-clause-anchored c e =
     let r = rules_in c.args.asked.now.parts.now c.args.asked.now.budget in
-    anchored_by r c.args.id c.item_of.result.now.ignore (ap (λ (x : Item). x.ignore) c.item_of.ensures) c.args.pattern.now c.requires.first (c.is_anchored-is.ensures e)
+    anchored_by r c.args.id c.item_of.result.now.ignore (ap (λ (x : Item). x.ignore) c.item_of.ensures) c.args.pattern.now c.requires.first (c.fails_past_first-is.ensures e)

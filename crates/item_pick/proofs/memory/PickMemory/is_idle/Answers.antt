@@ -2,11 +2,11 @@ use Rattle.std.proofs.Common.{◌≡◌, ◌+◌, ◌<◌, ◌≢◌, ◌∙◌,
 use Rattle.std.specs.Prelude.{Bool, Some}
 use Rattle.match_rules.specs.Ways.{line_at}
 use Rattle.paint_rules.specs.Rules.{place_at}
-use Rattle.item_pick.specs.Following.{idles_before}
+use Rattle.item_pick.specs.Firsts.{idles_before}
 use Rattle.item_pick.specs.PartsSeen.{rules_in}
 use Rattle.item_pick.specs.Quiet.{item_numbered}
 use Rattle.item_pick.specs.Tables.{IsNumberAt}
-use Rattle.item_pick.proofs.FollowingLaws.{after-futile}
+use Rattle.item_pick.proofs.FutileLaws.{futile_after}
 use Rattle.item_pick.proofs.TableLaws.{idle_quiet}
 use Rattle.item_pick.proofs.memory.PickMemory.is_idle.Goals as goal
 
@@ -21,4 +21,4 @@ returns-in-Some-known c = λ e t l memory held.
     let later : 0 < sought.at = omega (arith, nonzero) in
     let key = subst (λ n. IsNumberAt r (line_at t l) n number) behind (c.in-Some-number_at.ensures r t l memory) in
     let idle = c.known.ensures (idles_before r) memory.tables.idles (c.in-Some-known.is ∙ ap (λ (b : Bool). Some b) e) in
-    idle_quiet r (after-futile asked.parts.now.sets.now asked.budget) t (place_at l sought.at) number key later (item_numbered c.args.id) idle sought.floor sought.looked held
+    idle_quiet r (futile_after asked.parts.now.sets.now asked.budget) t (place_at l sought.at) number key later (item_numbered c.args.id) idle sought.floor sought.looked held

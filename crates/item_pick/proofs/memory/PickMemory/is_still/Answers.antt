@@ -2,7 +2,7 @@ use Rattle.std.proofs.Common.{◌<◌, ℕ, List, get_or, length, subst}
 use Rattle.paint_rules.specs.Rules.{place_at}
 use Rattle.item_pick.specs.PartsSeen.{rules_in}
 use Rattle.item_pick.specs.Quiet.{IsQuiet, item_numbered}
-use Rattle.item_pick.specs.Screened.{futile_by}
+use Rattle.item_pick.proofs.FutileLaws.{futile_by}
 use Rattle.item_pick.specs.Tables.{ListStands}
 use Rattle.item_pick.proofs.SettledLaws.{still_by}
 use Rattle.item_pick.proofs.memory.PickMemory.is_still.Goals as goal

@@ -2,14 +2,15 @@ use Rattle.std.proofs.Common.{◌∙◌, ap}
 use Rattle.std.specs.Prelude.{Some, Bool}
 use Rattle.syntax_set.specs.declared.item.Item.{Item}
 use Rattle.item_pick.specs.PartsSeen.{rules_in}
-use Rattle.item_pick.specs.Tables.{is_first_vain}
-use Rattle.item_pick.proofs.KeptLaws.{vain_by, vain_told}
+use Rattle.pattern_screens.specs.Failing.{fails_at}
+use Rattle.item_pick.specs.Firsts.{first_asked}
+use Rattle.item_pick.proofs.KeptLaws.{first_by, first_told}
 use Rattle.item_pick.proofs.memory.PickMemory.is_vain.Goals as goal
 
 pub returns-in-Some-clause-vain : goal.returns-in-Some-clause-vain
 returns-in-Some-clause-vain c e =
     let r = rules_in c.args.asked.now.parts.now c.args.asked.now.budget in
-    vain_by r c.args.id c.args.number (c.known.ensures (is_first_vain r) c.requires.stands.vains (c.in-Some.is ∙ ap (λ (b : Bool). Some b) e))
+    first_by fails_at r c.args.id c.args.number (c.known.ensures (first_asked fails_at r) c.requires.stands.vains (c.in-Some.is ∙ ap (λ (b : Bool). Some b) e))
 
 pub returns-in_err-keep-clause-stands : goal.returns-in_err-keep-clause-stands
 returns-in_err-keep-clause-stands c =
@@ -17,8 +18,8 @@ returns-in_err-keep-clause-stands c =
     record {
       rows = c.requires.stands.rows;
       outs = c.requires.stands.outs;
-      vains = c.keep.ensures (is_first_vain r) c.requires.stands.vains
-          (vain_told r c.args.id c.args.number c.item_of.result.now.ignore (ap (λ (x : Item). x.ignore) c.item_of.ensures) c.args.pattern.now c.requires.first c.is_vain-is.result c.is_vain-is.ensures);
+      vains = c.keep.ensures (first_asked fails_at r) c.requires.stands.vains
+          (first_told fails_at r c.args.id c.args.number c.item_of.result.now.ignore (ap (λ (x : Item). x.ignore) c.item_of.ensures) c.args.pattern.now c.requires.first c.fails_at-is.result c.fails_at-is.ensures);
       behinds = c.requires.stands.behinds;
       afters = c.requires.stands.afters;
       idles = c.requires.stands.idles;
@@ -32,8 +33,8 @@ returns-clause-stands c =
     record {
       rows = c.requires.stands.rows;
       outs = c.requires.stands.outs;
-      vains = c.keep.ensures (is_first_vain r) c.requires.stands.vains
-          (vain_told r c.args.id c.args.number c.item_of.result.now.ignore (ap (λ (x : Item). x.ignore) c.item_of.ensures) c.args.pattern.now c.requires.first c.is_vain-is.result c.is_vain-is.ensures);
+      vains = c.keep.ensures (first_asked fails_at r) c.requires.stands.vains
+          (first_told fails_at r c.args.id c.args.number c.item_of.result.now.ignore (ap (λ (x : Item). x.ignore) c.item_of.ensures) c.args.pattern.now c.requires.first c.fails_at-is.result c.fails_at-is.ensures);
       behinds = c.requires.stands.behinds;
       afters = c.requires.stands.afters;
       idles = c.requires.stands.idles;
@@ -44,5 +45,5 @@ returns-clause-stands c =
 pub returns-clause-vain : goal.returns-clause-vain
 returns-clause-vain c e =
     let r = rules_in c.args.asked.now.parts.now c.args.asked.now.budget in
-    vain_by r c.args.id c.args.number
-    (vain_told r c.args.id c.args.number c.item_of.result.now.ignore (ap (λ (x : Item). x.ignore) c.item_of.ensures) c.args.pattern.now c.requires.first c.is_vain-is.result c.is_vain-is.ensures e)
+    first_by fails_at r c.args.id c.args.number
+    (first_told fails_at r c.args.id c.args.number c.item_of.result.now.ignore (ap (λ (x : Item). x.ignore) c.item_of.ensures) c.args.pattern.now c.requires.first c.fails_at-is.result c.fails_at-is.ensures e)

@@ -2,14 +2,15 @@ use Rattle.std.proofs.Common.{◌∙◌, ap}
 use Rattle.std.specs.Prelude.{Some, Bool}
 use Rattle.syntax_set.specs.declared.item.Item.{Item}
 use Rattle.item_pick.specs.PartsSeen.{rules_in}
-use Rattle.item_pick.specs.Behind.{first_fails_behind}
-use Rattle.item_pick.proofs.BehindLaws.{behind-by, behind-told}
+use Rattle.pattern_screens.specs.Behind.{fails_behind}
+use Rattle.item_pick.specs.Firsts.{first_asked}
+use Rattle.item_pick.proofs.KeptLaws.{first_by, first_told}
 use Rattle.item_pick.proofs.memory.PickMemory.is_vain_seeing_before.Goals as goal
 
 pub returns-in-Some-clause-vain : goal.returns-in-Some-clause-vain
 returns-in-Some-clause-vain c e =
     let r = rules_in c.args.asked.now.parts.now c.args.asked.now.budget in
-    behind-by r c.args.id c.args.number (c.known.ensures (first_fails_behind r) c.requires.stands.behinds (c.in-Some.is ∙ ap (λ (b : Bool). Some b) e))
+    first_by fails_behind r c.args.id c.args.number (c.known.ensures (first_asked fails_behind r) c.requires.stands.behinds (c.in-Some.is ∙ ap (λ (b : Bool). Some b) e))
 
 pub returns-in_err-keep-clause-stands : goal.returns-in_err-keep-clause-stands
 returns-in_err-keep-clause-stands c =
@@ -18,8 +19,8 @@ returns-in_err-keep-clause-stands c =
       rows = c.requires.stands.rows;
       outs = c.requires.stands.outs;
       vains = c.requires.stands.vains;
-      behinds = c.keep.ensures (first_fails_behind r) c.requires.stands.behinds
-          (behind-told r c.args.id c.args.number c.item_of.result.now.ignore (ap (λ (x : Item). x.ignore) c.item_of.ensures) c.args.pattern.now c.requires.first c.in_ok-is.is' c.in_ok-is.ensures);
+      behinds = c.keep.ensures (first_asked fails_behind r) c.requires.stands.behinds
+          (first_told fails_behind r c.args.id c.args.number c.item_of.result.now.ignore (ap (λ (x : Item). x.ignore) c.item_of.ensures) c.args.pattern.now c.requires.first c.fails_behind-is.result c.fails_behind-is.ensures);
       afters = c.requires.stands.afters;
       idles = c.requires.stands.idles;
       shut = c.requires.stands.shut;
@@ -33,8 +34,8 @@ returns-clause-stands c =
       rows = c.requires.stands.rows;
       outs = c.requires.stands.outs;
       vains = c.requires.stands.vains;
-      behinds = c.keep.ensures (first_fails_behind r) c.requires.stands.behinds
-          (behind-told r c.args.id c.args.number c.item_of.result.now.ignore (ap (λ (x : Item). x.ignore) c.item_of.ensures) c.args.pattern.now c.requires.first c.in_ok-is.is' c.in_ok-is.ensures);
+      behinds = c.keep.ensures (first_asked fails_behind r) c.requires.stands.behinds
+          (first_told fails_behind r c.args.id c.args.number c.item_of.result.now.ignore (ap (λ (x : Item). x.ignore) c.item_of.ensures) c.args.pattern.now c.requires.first c.fails_behind-is.result c.fails_behind-is.ensures);
       afters = c.requires.stands.afters;
       idles = c.requires.stands.idles;
       shut = c.requires.stands.shut;
@@ -44,5 +45,5 @@ returns-clause-stands c =
 pub returns-clause-vain : goal.returns-clause-vain
 returns-clause-vain c e =
     let r = rules_in c.args.asked.now.parts.now c.args.asked.now.budget in
-    behind-by r c.args.id c.args.number
-    (behind-told r c.args.id c.args.number c.item_of.result.now.ignore (ap (λ (x : Item). x.ignore) c.item_of.ensures) c.args.pattern.now c.requires.first c.in_ok-is.is' c.in_ok-is.ensures e)
+    first_by fails_behind r c.args.id c.args.number
+    (first_told fails_behind r c.args.id c.args.number c.item_of.result.now.ignore (ap (λ (x : Item). x.ignore) c.item_of.ensures) c.args.pattern.now c.requires.first c.fails_behind-is.result c.fails_behind-is.ensures e)

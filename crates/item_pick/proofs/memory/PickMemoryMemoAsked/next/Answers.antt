@@ -1,8 +1,7 @@
 use Rattle.std.proofs.Common.{arith, refl, subst, sym}
 use Rattle.item_pick.specs.PartsSeen.{rules_in}
-use Rattle.item_pick.specs.Screened.{futile_by}
 use Rattle.region_ends.specs.EndMemo.{EndMemoStands}
-use Rattle.item_pick.proofs.FollowingLaws.{after-futile}
+use Rattle.item_pick.proofs.FutileLaws.{futile_after, futile_by}
 use Rattle.item_pick.proofs.TableLaws.{later_by, run_goes_on, still_stands}
 use Rattle.item_pick.proofs.memory.PickMemoryMemoAsked.next.Goals as goal
 
@@ -15,7 +14,7 @@ returns-in_err-keep-clause-stands g c =
     let l = p.at.line in
     let first = c.requires.first (omega (arith, c.if-start-ne0.false)) in
     let run = c.run_at-run.result in
-    let longer = run_goes_on r (futile_by s.parts.now.sets.now s.budget) (after-futile s.parts.now.sets.now s.budget) t l c.args.id c.args.pattern.now first run c.in_ok-to.to
+    let longer = run_goes_on r (futile_by s.parts.now.sets.now s.budget) (futile_after s.parts.now.sets.now s.budget) t l c.args.id c.args.pattern.now first run c.in_ok-to.to
     c.run_at-run.ensures.tells.same (c.run_at-run.ensures.stands t l c.requires.stands) (c.in_ok-to.ensures.missed t l c.requires.stands) in
     let kept = still_stands r t l c.args.self.now c.first_open.new.self c.first_open.ensures.stands c.first_open.ensures.numbers c.first_open.ensures.runs c.requires.stands in
     record {
@@ -34,7 +33,7 @@ returns-clause-stands g c =
     let l = p.at.line in
     let first = c.requires.first (omega (arith, c.if-start-ne0.false)) in
     let run = c.run_at-run.result in
-    let longer = run_goes_on r (futile_by s.parts.now.sets.now s.budget) (after-futile s.parts.now.sets.now s.budget) t l c.args.id c.args.pattern.now first run c.in_ok-to.to
+    let longer = run_goes_on r (futile_by s.parts.now.sets.now s.budget) (futile_after s.parts.now.sets.now s.budget) t l c.args.id c.args.pattern.now first run c.in_ok-to.to
     c.run_at-run.ensures.tells.same (c.run_at-run.ensures.stands t l c.requires.stands) (c.in_ok-to.ensures.missed t l c.requires.stands) in
     let kept = still_stands r t l c.args.self.now c.first_open.new.self c.first_open.ensures.stands c.first_open.ensures.numbers c.first_open.ensures.runs c.requires.stands in
     record {
@@ -53,6 +52,6 @@ returns-clause-next g c =
     let l = p.at.line in
     let first = c.requires.first (omega (arith, c.if-start-ne0.false)) in
     let run = c.run_at-run.result in
-    let longer = run_goes_on r (futile_by s.parts.now.sets.now s.budget) (after-futile s.parts.now.sets.now s.budget) t l c.args.id c.args.pattern.now first run c.in_ok-to.to
+    let longer = run_goes_on r (futile_by s.parts.now.sets.now s.budget) (futile_after s.parts.now.sets.now s.budget) t l c.args.id c.args.pattern.now first run c.in_ok-to.to
     c.run_at-run.ensures.tells.same (c.run_at-run.ensures.stands t l c.requires.stands) (c.in_ok-to.ensures.missed t l c.requires.stands) in
     later_by r t p.at c.args.id c.args.pattern.now first run c.args.col c.run_at-run.ensures.tells c.in_ok-to.to c.in_ok-to.ensures.from c.args.looked c.requires.held (c.if-not-holds.ensures refl) longer

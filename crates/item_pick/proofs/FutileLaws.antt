@@ -1,0 +1,52 @@
+-- An attempt that is known to fail finds nothing, within the budget.
+use Rattle.std.proofs.Common.{◌≡◌, ap, refl, ℕ, ◌+◌, ◌≤◌, Bool, true, false, length}
+use Rattle.std.specs.Prelude.{not, nat_lt, option_map}
+use Rattle.char_class.specs.declared.sets.Sets.{Sets}
+use Rattle.vim_pattern.specs.Tree.{PatternTree}
+use Rattle.match_rules.specs.Attempt.{attempt}
+use Rattle.match_rules.specs.Ways.{Text, line_at, place}
+use Rattle.paint_rules.specs.Rules.{no_externals, place_at}
+use Rattle.paint_rules.specs.Syntax.{attempt_by, context_of}
+use Rattle.pattern_match.specs.Answers.{match_of}
+use Rattle.pattern_screens.specs.Behind.{fails_behind}
+use Rattle.pattern_screens.specs.Failing.{fails}
+use Rattle.pattern_screens.specs.Following.{fails_after, takes_first}
+use Rattle.pattern_screens.specs.Keys.{key_numbered, key_of}
+use Rattle.pattern_screens.specs.ScreenLaw.{lines_seen, two_lines, IsInVain}
+use Rattle.pattern_screens.specs.Short.{AreShort}
+use Rattle.pattern_screens.proofs.BehindLaws.{behind-law}
+use Rattle.pattern_screens.proofs.FailingLaws.{fails-here}
+use Rattle.pattern_screens.proofs.FollowingLaws.{after-law}
+use Rattle.item_pick.specs.Attempts.{IsFutile, IsFutileBy}
+use Rattle.item_pick.specs.Tables.{passes}
+
+-- one that is in vain by the rules of matching is so by those of painting
+pub futile_in : (sets : Sets) (budget : ℕ) (tree : PatternTree) (t : Text) (ignore : Bool) (l c : ℕ) (before : Bool) → IsInVain (place l c) budget before (attempt tree (context_of sets t ignore no_externals) (place l c)) →
+    IsFutileBy (attempt_by sets t tree ignore no_externals (place_at l c)) budget (lines_seen before l)
+unfolding attempt_by
+futile_in sets budget tree t ignore l c before h = (ap (option_map (match_of t (place_at l c))) h.way, h.cost, h.looked)
+
+not_false : (b : Bool) → not b ≡ false → b ≡ true
+not_false true e = refl
+not_false false e = absurd (cc)
+
+-- where its screen fails
+pub futile_by : (sets : Sets) (budget : ℕ) (tree : PatternTree) (t : Text) (ignore : Bool) (l c : ℕ) → c ≤ length (line_at t l) →
+    passes sets budget tree ignore (line_at t l) c ≡ false → IsFutile (attempt_by sets t tree ignore no_externals (place_at l c)) budget l
+futile_by sets budget tree t ignore l c within e =
+    futile_in sets budget tree t ignore l c false
+    (fails-here tree (context_of sets t ignore no_externals) budget l c within (not_false (fails sets budget ignore (key_of sets (line_at t l) c) tree) e))
+
+-- where what follows its first piece fails one column behind
+pub futile_after : (sets : Sets) (budget : ℕ) (tree : PatternTree) (t : Text) (ignore : Bool) (l c number : ℕ) → takes_first (nat_lt 0 c) tree.node ≡ true → c + 1 ≤ length (line_at t l) →
+    key_numbered number ≡ key_of sets (line_at t l) (c + 1) → fails_after sets budget ignore number tree ≡ true → IsFutile (attempt_by sets t tree ignore no_externals (place_at l c)) budget l
+futile_after sets budget tree t ignore l c number first inside same e =
+    futile_in sets budget tree t ignore l c false
+    (after-law tree (context_of sets t ignore no_externals) budget l c number first (record { within = inside; is = same }) e)
+
+-- where what follows a look behind fails, in short lines
+pub futile_behind : (sets : Sets) (budget : ℕ) (tree : PatternTree) (t : Text) (ignore : Bool) (l c number : ℕ) → c ≤ length (line_at t l) → AreShort t l → key_numbered number ≡ key_of sets (line_at t l) c →
+    fails_behind sets budget ignore number tree ≡ true → IsFutileBy (attempt_by sets t tree ignore no_externals (place_at l c)) budget (two_lines l)
+futile_behind sets budget tree t ignore l c number inside short same e =
+    futile_in sets budget tree t ignore l c true
+    (behind-law tree (context_of sets t ignore no_externals) budget l c number short (record { within = inside; is = same }) e)

@@ -1,0 +1,49 @@
+-- What is known of attempts by the first start pattern of an item, at columns with a key.
+use Rattle.std.specs.Prelude.{◌≡◌, ◌&&◌, ℕ, Bool, true, not, is_none, Option, Some, None}
+use Rattle.char_class.specs.declared.sets.Sets.{Sets}
+use Rattle.syn_base.specs.declared.places.ItemId.{ItemId}
+use Rattle.vim_pattern.specs.Tree.{PatternTree}
+use Rattle.syntax_set.specs.declared.item.Pattern.{Pattern}
+use Rattle.paint_rules.specs.Rules.{Rules, item_of}
+use Rattle.pattern_screens.specs.Following.{fails_after, takes_first}
+use Rattle.item_pick.specs.Quiet.{item_numbered}
+use Rattle.item_pick.specs.Standing.{first_pattern, has_one_start, IsFirst}
+
+-- what may be asked of a pattern: by the sets, the budget, whether case is ignored and a key's number
+abbrev pub Asks : Type 0
+Asks = Sets → ℕ → Bool → ℕ → PatternTree → Bool
+
+-- a pattern, if there is one, is asked
+abbrev pub some_asked : (PatternTree → Bool) → Option Pattern → Bool
+some_asked asks None = true
+some_asked asks (Some pattern) = asks pattern.tree
+
+-- the first one of an item is asked, by the item's number
+abbrev pub first_asked : Asks → Rules → ℕ → ℕ → Bool
+first_asked asks r number item =
+    some_asked (asks r.sets r.budget (item_of r.items (item_numbered item)).ignore number)
+    (first_pattern (item_of r.items (item_numbered item)).kind)
+
+-- the answer is yes
+abbrev pub IsToldOfFirst : Asks → Rules → ℕ → ItemId → Type 0
+IsToldOfFirst asks r number i =
+    (pattern : Pattern) → IsFirst r i pattern →
+    asks r.sets r.budget (item_of r.items i).ignore number pattern.tree ≡ true
+
+-- a match by the pattern begins where its item starts, and with a piece of one character
+abbrev pub sits_by : Pattern → Bool
+sits_by pattern =
+    not pattern.tree.moves_start && (is_none pattern.ms && takes_first true pattern.tree.node)
+
+abbrev pub some_idle : Sets → ℕ → Bool → ℕ → Option Pattern → Bool
+some_idle sets budget ignore number None = true
+some_idle sets budget ignore number (Some pattern) =
+    sits_by pattern && fails_after sets budget ignore number pattern.tree
+
+-- an item that starts by one such pattern can't start at the column before one whose key has this number,
+-- unless that is a line's first
+abbrev pub idles_before : Rules → ℕ → ℕ → Bool
+idles_before r number item =
+    has_one_start (item_of r.items (item_numbered item)).kind
+    && some_idle r.sets r.budget (item_of r.items (item_numbered item)).ignore number
+    (first_pattern (item_of r.items (item_numbered item)).kind)
