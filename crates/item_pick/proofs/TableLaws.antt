@@ -1,7 +1,7 @@
 -- What is kept says of an item, and what that means for picking.
 use Rattle.std.proofs.Common.{◌≡◌, ◌∙◌, refl, sym, ap, subst, arith, ℕ, zero, suc, ◌+◌, ◌-◌, ◌<◌, ◌≤◌, ◌⊎◌, inl, inr, Bool, true, false, List, [], ◌∷◌, ◌++◌, length, get_or}
 use Rattle.std.specs.Prelude.{IfSome, IsTrue, slice_get, Result, Ok, Err, IfOk, Option, Some, None, not, slice_index, ◌&&◌, ◌||◌, nat_lt, nat_eq, is_none, pos, ◌+ℤ◌}
-use Rattle.std.specs.List.{All, list_any}
+use Rattle.std.specs.List.{list_any}
 use Rattle.std.proofs.lemmas.Bool.{cases_lt}
 use Rattle.std.proofs.lemmas.List.Elements.{All-append, All-cons, All-nil}
 use Rattle.std.proofs.lemmas.List.Sorted.{IsNonDecreasingBy-push}
@@ -12,6 +12,9 @@ use Rattle.syn_base.specs.declared.places.ItemId.{ItemId}
 use Rattle.syn_base.specs.declared.places.Place.{Place}
 use Rattle.syn_base.specs.declared.want_of_memory.Memory.{Memory}
 use Rattle.vim_pattern.specs.Tree.{PatternTree}
+use Rattle.slots.specs.declared.table.Table.{Table}
+use Rattle.slots.specs.Entries.{IsAt, IsPut}
+use Rattle.slots.proofs.EntryLaws.{all_still}
 use Rattle.match_rules.specs.Ways.{Text, line_at}
 use Rattle.syntax_set.specs.declared.item.ItemKind.{ItemKind}
 use Rattle.syntax_set.specs.declared.item.ItemKind.TheVariants.{Keyword, Match, Region}
@@ -40,7 +43,7 @@ use Rattle.item_pick.specs.Screens.{HoldsLine, HoldsLines, IsIdle, IsLater, IsSe
 use Rattle.item_pick.specs.Standing.{first_pattern, has_one_start, IsFirst, IsPatternOf}
 use Rattle.item_pick.specs.Started.{admits, is_free}
 use Rattle.item_pick.specs.Firsts.{idles_before, IsToldOfFirst, sits_by, some_idle}
-use Rattle.item_pick.specs.Tables.{passes, EndsStand, IsAnchored, IsEnough, IsMissed, IsNextAt, IsNextIn, IsNumberAt, Lacks, ListStands, MemoryStands, RisesTo, RunStands, StaysOut, TablesStand}
+use Rattle.item_pick.specs.Tables.{passes, AnchorsStand, EndsStand, IsAnchored, IsEnough, IsMissed, IsNextAt, IsNextIn, IsNumberAt, Lacks, ListStands, MemoryStands, RisesTo, RunsStand, RunStands, StaysOut, TablesStand}
 use Rattle.syn_base.specs.Looked.{one_line}
 use Rattle.item_pick.proofs.BehindLaws.{futile_vain}
 use Rattle.item_pick.proofs.MatchLaws.{no_start}
@@ -267,14 +270,6 @@ covered_quiet r t l search end i run held stands covers is pattern its c from wi
     subst (λ n. IsIdle (match_from r t n pattern (place_at l search.at)) search.looked c) covers.same
     (stands.settled pattern e.0 c (omega (arith, e.1 search.floor covers.enough.2, from)) (omega (arith, within, covers.to, is)) within search.at covers.above covers.below search.looked held covers.held)
 
--- a run without columns, of an item that it names wrongly or rightly, says nothing
-pub nothing_known : (r : Rules) (t : Text) (l : ℕ) (i : ItemId) (lines : Looked) →
-    RunStands r t l (record { item = i; from = 0; to = 0; places = record { first = 0; end = 0 }; looked = lines; least = None })
-nothing_known r t l i lines = record {
-  settled = λ pattern first c from below within. absurd (omega (arith, below));
-  enough = tt;
-}
-
 -- missed by what stands one column behind
 pub missed_after : (r : Rules) (memory : PickMemory) (i : ItemId) (pattern : Pattern) → IsFirst r i pattern → (col number : ℕ) → takes_first (nat_lt 0 col) pattern.tree.node ≡ true →
     ((t : Text) (l : ℕ) → MemoryStands r t l memory → IsNumberAt r (line_at t l) (col + 1) number) → (result : Result Bool Memory) →
@@ -288,7 +283,7 @@ pub still_stands : (r : Rules) (t : Text) (l : ℕ) (a b : PickMemory) → Table
 still_stands r t l a b tables numbers runs stands = record {
   tables = tables;
   keys = subst (λ v. AreNumbers r.sets (line_at t l) (length (line_at t l) + 1) v.items) (sym numbers) stands.keys;
-  runs = subst (λ v. All (RunStands r t l) v.list.items) (sym runs) stands.runs;
+  runs = subst (RunsStand r t l) (sym runs) stands.runs;
   ends = subst (EndsStand r t l) (sym runs) stands.ends;
 }
 
@@ -418,3 +413,9 @@ missed_vain r law after t i pattern p c may within missed is None h = tt
 missed_vain r law after t i pattern p c may within missed is (Some lines) h =
     subst (λ k. IsVainFrom r t p i pattern k c) (sym h.1)
     (futile_vain r t i pattern p c (one_line (pos p.line)) may (missed_futile r law after t i pattern p.line c within (is h.0)))
+
+-- an answer that is kept
+pub anchors_still : (r : Rules) (old new : Table Bool) (i : ItemId) (is : Bool) → IsPut (IsAt old) (IsAt new) i.0 is → AnchorsStand r old → (is ≡ true → IsAnchored r i) → AnchorsStand r new
+anchors_still r old new i is put stands own = record {
+  told = λ item there. all_still (λ k is. is ≡ true → IsAnchored r (item_numbered k)) (IsAt old) (IsAt new) i.0 is put (λ k is was e. stands.told k (subst (λ (is : Bool). IsAt old k is) e was)) own item true there refl;
+}

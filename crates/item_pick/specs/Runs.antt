@@ -1,12 +1,9 @@
 -- What a run says of a place.
-use Rattle.std.specs.Prelude.{◌≡◌, ◌<◌, ◌≤◌, ℕ, Some, List, get_or, length}
+use Rattle.std.specs.Prelude.{◌≡◌, ◌<◌, ◌≤◌, ℕ, Some}
 use Rattle.syn_base.specs.declared.places.ItemId.{ItemId}
-use Rattle.match_rules.specs.Ways.{Text}
-use Rattle.paint_rules.specs.Rules.{Rules}
 use Rattle.item_pick.specs.declared.runs.Run.{Run}
 use Rattle.item_pick.specs.declared.runs.Search.{Search}
 use Rattle.item_pick.specs.Screens.{HoldsLines}
-use Rattle.item_pick.specs.Tables.{RunStands}
 
 -- it is of this item, holds a column or ends there, and tells of a place
 pub record TellsOf (item : ItemId) (col at : ℕ) (run : Run) : Type 0 where
@@ -25,9 +22,3 @@ pub record Covers (run : Run) (item : ItemId) (search : Search) (end : ℕ) : Ty
   pub below : search.at < run.places.end
   pub held : HoldsLines search.looked run.looked
   pub enough : (least : ℕ) × (run.least ≡ Some least) × (least ≤ search.floor)
-
--- those before a place stand in whatever line
-abbrev pub SayNothing : List Run → ℕ → Type 0
-SayNothing runs place =
-    (r : Rules) (t : Text) (l k : ℕ) (d : Run) → k < place → k < length runs →
-    RunStands r t l (get_or runs k d)

@@ -7,6 +7,8 @@ use Rattle.vim_pattern.specs.Tree.{PatternTree}
 use Rattle.syn_base.specs.declared.looked.Looked.{Looked}
 use Rattle.syn_base.specs.declared.places.ItemId.{ItemId}
 use Rattle.syn_base.specs.declared.places.Place.{Place}
+use Rattle.slots.specs.declared.table.Table.{Table}
+use Rattle.slots.specs.Entries.{Has, IsAt}
 use Rattle.match_rules.specs.Ways.{Text, line_at}
 use Rattle.syntax_set.specs.declared.item.ItemKind.{ItemKind}
 use Rattle.syntax_set.specs.declared.item.ItemKind.TheVariants.{Keyword, Match, Region}
@@ -19,7 +21,6 @@ use Rattle.pattern_screens.specs.Keys.{AreNumbers, is_first, key_numbered, key_o
 use Rattle.region_ends.specs.EndMemo.{EndMemoStands}
 use Rattle.region_ends.specs.KeyAnswers.{AnswersStand}
 use Rattle.region_ends.specs.Passing.{is_shut_at}
-use Rattle.item_pick.specs.declared.anchors.Anchor.{Anchor}
 use Rattle.item_pick.specs.declared.choice.Choice.{Choice}
 use Rattle.item_pick.specs.declared.memory.PickMemory.{PickMemory}
 use Rattle.item_pick.specs.declared.runs.Run.{Run}
@@ -108,8 +109,9 @@ IsAnchored r i =
     (number : ℕ) → number < 777 → is_first (key_numbered number).last ≡ false →
     IsToldOfFirst fails_at r number i
 
-abbrev pub AnchorStands : Rules → Anchor → Type 0
-AnchorStands r anchor = anchor.is ≡ true → IsAnchored r anchor.item
+-- of which items it was answered
+pub record AnchorsStand (r : Rules) (anchors : Table Bool) : Type 0 where
+  pub told : (item : ℕ) → IsAt anchors item true → IsAnchored r (item_numbered item)
 
 -- the column is one of the line's, its end included, and its key has this number
 abbrev pub IsNumberAt : Rules → List ℕ → ℕ → ℕ → Type 0
@@ -133,7 +135,7 @@ pub record TablesStand (r : Rules) (memory : PickMemory) : Type 0 where
   pub afters : AnswersStand (first_asked fails_after r) memory.afters
   pub idles : AnswersStand (idles_before r) memory.idles
   pub shut : AnswersStand (is_shut_at r.items r.sets r.budget) memory.shut
-  pub anchors : All (AnchorStands r) memory.anchors.list.items
+  pub anchors : AnchorsStand r memory.anchors
 
 -- ---- what is known of the line
 
@@ -149,6 +151,10 @@ pub record RunStands (r : Rules) (t : Text) (l : ℕ) (run : Run) : Type 0 where
       IsSettled r t l run.item pattern run.places.first run.places.end run.looked c
   pub enough : IfSome run.least (IsEnough r run.item run.from)
 
+-- each run that is kept does
+pub record RunsStand (r : Rules) (t : Text) (l : ℕ) (runs : Runs) : Type 0 where
+  pub each : (k : ℕ) (run : Run) → Has runs.list k run → RunStands r t l run
+
 -- what is known of where regions end in the line
 abbrev pub EndsStand : Rules → Text → ℕ → Runs → Type 0
 EndsStand r t l runs = EndMemoStands r.items r.sets r.budget t l runs.ends
@@ -157,5 +163,5 @@ EndsStand r t l runs = EndMemoStands r.items r.sets r.budget t l runs.ends
 pub record MemoryStands (r : Rules) (t : Text) (l : ℕ) (memory : PickMemory) : Type 0 where
   pub tables : TablesStand r memory
   pub keys : AreNumbers r.sets (line_at t l) (length (line_at t l) + 1) memory.numbers.items
-  pub runs : All (RunStands r t l) memory.runs.list.items
+  pub runs : RunsStand r t l memory.runs
   pub ends : EndsStand r t l memory.runs

@@ -5,7 +5,6 @@
 #![tactic(auto)]
 
 mod allowed;
-mod anchors;
 mod answer;
 mod asked;
 mod asking;

@@ -17,7 +17,6 @@ ghost use Rattle.item_pick.specs.Screens.{HoldsLine};
 ghost use Rattle.item_pick.specs.Standing.{ChoiceFits, IsFirst, IsItem, IsOwn};
 ghost use Rattle.item_pick.specs.Tables.{IsAnchored, IsMissed, IsNextAt, IsNextIn, IsNumberAt, MemoryStands, RowStands, RunStands, TablesStand};
 
-use crate::anchors::{Anchor, Anchors};
 use crate::asked::Asked;
 use crate::choice::Choice;
 use crate::columns::{Columns, may_start};
@@ -34,15 +33,10 @@ use pattern_screens::{
     takes_first, two_lines,
 };
 use region_ends::{EndAnswer, KeyAnswers, item_of};
+use slots::{Grid, Table};
 use std::alloc::Global;
 use syn_base::{Externals, ItemId, Lines, Looked, Memory, Place};
 use syntax_set::Pattern;
-
-/// How many rows a choice has: one for each key, and one for all.
-const ROWS: usize = 778;
-
-/// No place.
-pub(crate) const NOWHERE: usize = usize::MAX;
 
 /// What is kept of a syntax and a budget from line to line: for what is allowed, and what stands at a
 /// column, the items that may start there, and those that can't be matched from there. It is made as
@@ -53,10 +47,8 @@ pub struct PickMemory {
     alloc: Global,
     /// Each says itself of what it is.
     rows: Vec<Row>,
-    /// Where the rows of a choice begin in `places`, by the choice's number.
-    starts: Vec<usize>,
-    /// Where a row of a choice and a key would be.
-    places: Vec<usize>,
+    /// Where a row stands in them, by the number of its choice and that of its key.
+    places: Grid<u32>,
     /// Whether an item can't start.
     outs: KeyAnswers,
     /// Whether attempts by the first start pattern of an item are in vain.
@@ -69,7 +61,8 @@ pub struct PickMemory {
     pub(crate) idles: KeyAnswers,
     /// Whether no skip or end of a region fits.
     pub(crate) shut: KeyAnswers,
-    anchors: Anchors,
+    /// Whether it has no match but from a line's first column, by the number of the item.
+    anchors: Table<bool>,
     pub(crate) numbers: Vec<u16>,
     pub(crate) runs: Runs,
 }
@@ -82,15 +75,14 @@ impl PickMemory {
         PickMemory {
             alloc,
             rows: Vec::new(alloc),
-            starts: Vec::new(alloc),
-            places: Vec::new(alloc),
+            places: Grid::new(alloc),
             outs: KeyAnswers::new(alloc),
             vains: KeyAnswers::new(alloc),
             behinds: KeyAnswers::new(alloc),
             afters: KeyAnswers::new(alloc),
             idles: KeyAnswers::new(alloc),
             shut: KeyAnswers::new(alloc),
-            anchors: Anchors::new(alloc),
+            anchors: Table::new(alloc),
             numbers: Vec::new(alloc),
             runs: Runs::new(alloc),
         }
@@ -107,86 +99,69 @@ impl PickMemory {
         number_line(parts.sets, line, &mut self.numbers)
     }
 
-    /// Where a row would be.
-    pub(crate) fn place(&self, choice: Choice, number: u16) -> Option<usize> {
-        let start = *self.starts.get(number_of(choice))?;
-        let place = start.checked_add(number as usize)?;
-        Some(*self.places.get(place)?)
+    /// The place of a row.
+    fn place(&self, choice: Choice, number: u16) -> Option<usize> {
+        let place = self.places.get(number_of(choice), number as usize)?;
+        Some(place as usize)
     }
 
-    /// A row, if it stands at a place.
-    pub(crate) fn row(&self, place: usize, choice: Choice, number: u16) -> Option<&Row>
+    /// A row, if it was made.
+    pub(crate) fn row(&self, choice: Choice, number: u16) -> Option<&Row>
         ensures choice { IfSome result (λ row. row.now.choice ≡ choice) }
         ensures number { IfSome result (λ row. row.now.number ≡ number) }
         ensures stands { (r : Rules) → TablesStand r self.now →
             IfSome result (λ row. RowStands r row.now) }
     {
+        let place = self.place(choice, number)?;
         row_at(self.rows.as_slice(), place, choice, number)
     }
 
-    /// Notes where a row will be.
-    fn note(&mut self, choice: Choice, number: u16) -> Result<(), Memory>
-        ensures rows { self.new.rows ≡ self.old.rows }
-        ensures outs { self.new.outs ≡ self.old.outs }
-        ensures vains { self.new.vains ≡ self.old.vains }
-        ensures behinds { self.new.behinds ≡ self.old.behinds }
-        ensures afters { self.new.afters ≡ self.old.afters }
-        ensures idles { self.new.idles ≡ self.old.idles }
-        ensures shut { self.new.shut ≡ self.old.shut }
-        ensures anchors { self.new.anchors ≡ self.old.anchors }
-        ensures numbers { self.new.numbers ≡ self.old.numbers }
-        ensures runs { self.new.runs ≡ self.old.runs }
-    {
-        let choice = number_of(choice);
-        grow(&mut self.starts, choice + 1, NOWHERE)?;
-        let start = start_of(&mut self.starts, choice, self.places.len());
-        grow(&mut self.places, start.saturating_add(ROWS), NOWHERE)?;
-        let place = start.saturating_add(number as usize);
-        put(&mut self.places, place, self.rows.len());
-        Ok(())
-    }
-
-    /// Keeps a row, and answers its place.
-    fn keep(&mut self, row: Row) -> Result<usize, Memory>
+    /// Keeps a row.
+    fn keep(&mut self, row: Row) -> Result<(), Memory>
         ensures stands { (r : Rules) → TablesStand r self.old → RowStands r row →
             TablesStand r self.new }
         ensures numbers { self.new.numbers ≡ self.old.numbers }
         ensures runs { self.new.runs ≡ self.old.runs }
     {
-        let place = self.rows.len();
-        self.note(row.choice, row.number)?;
+        let Ok(place) = u32::try_from(self.rows.len()) else {
+            return Err(Memory);
+        };
+        self.places
+            .put(number_of(row.choice), row.number as usize, place)?;
         self.rows.push(row)?;
-        Ok(place)
+        Ok(())
     }
 
-    /// The place of the row of all items of a choice.
-    fn whole(&mut self, asked: &Asked, choice: Choice) -> Result<usize, Memory>
+    /// Makes the row of all items of a choice, unless it was made.
+    fn make_whole(&mut self, asked: &Asked, choice: Choice) -> Result<(), Memory>
         requires choice { ChoiceFits (rules_in asked.now.parts.now asked.now.budget) choice }
         requires stands { TablesStand (rules_in asked.now.parts.now asked.now.budget) self.old }
         ensures stands { TablesStand (rules_in asked.now.parts.now asked.now.budget) self.new }
         ensures numbers { self.new.numbers ≡ self.old.numbers }
         ensures runs { self.new.runs ≡ self.old.runs }
     {
-        let place = self.place(choice, ANY).unwrap_or(NOWHERE);
-        if self.row(place, choice, ANY).is_some() {
-            return Ok(place);
+        if self.row(choice, ANY).is_some() {
+            return Ok(());
         }
         let row = asked.whole_row(self.alloc, choice)?;
         self.keep(row)
     }
 
-    /// The place of a row that wasn't made yet.
-    fn made(&mut self, asked: &Asked, choice: Choice, number: u16) -> Result<usize, Memory>
+    /// Makes a row that wasn't made yet.
+    fn make(&mut self, asked: &Asked, choice: Choice, number: u16) -> Result<(), Memory>
         requires choice { ChoiceFits (rules_in asked.now.parts.now asked.now.budget) choice }
         requires stands { TablesStand (rules_in asked.now.parts.now asked.now.budget) self.old }
         ensures stands { TablesStand (rules_in asked.now.parts.now asked.now.budget) self.new }
         ensures numbers { self.new.numbers ≡ self.old.numbers }
         ensures runs { self.new.runs ≡ self.old.runs }
     {
-        let place = self.whole(asked, choice)?;
+        self.make_whole(asked, choice)?;
+        let Some(place) = self.place(choice, ANY) else {
+            return Ok(());
+        };
         let row = match row_at(self.rows.as_slice(), place, choice, ANY) {
             Some(all) => asked.row_of(self.alloc, all, number, &mut self.outs)?,
-            None => return Ok(place),
+            None => return Ok(()),
         };
         self.keep(row)
     }
@@ -271,11 +246,10 @@ impl PickMemory {
         0
     }
 
-    /// The number of items that are left by a row, if it stands at a place.
+    /// The number of items that are left by a row, if it was made.
     fn left_by(
         &self,
         asked: &Asked,
-        place: usize,
         choice: Choice,
         number: u16,
         search: &Search<'_>,
@@ -290,7 +264,7 @@ impl PickMemory {
             (place_at l search.now.at) search.now.floor search.now.looked
             (reverse search.now.tried.now) choice left) }
     {
-        let row = self.row(place, choice, number)?;
+        let row = self.row(choice, number)?;
         Some(self.next_open(asked, &row.items, left, search))
     }
 
@@ -318,13 +292,12 @@ impl PickMemory {
             (place_at l search.now.at) search.now.floor search.now.looked
             (reverse search.now.tried.now) choice left) }
     {
-        let place = self.place(choice, number).unwrap_or(NOWHERE);
-        match self.left_by(asked, place, choice, number, search, left) {
+        match self.left_by(asked, choice, number, search, left) {
             Some(next) => return Ok(next),
             None => {}
         }
-        let place = self.made(asked, choice, number)?;
-        match self.left_by(asked, place, choice, number, search, left) {
+        self.make(asked, choice, number)?;
+        match self.left_by(asked, choice, number, search, left) {
             Some(next) => Ok(next),
             None => Ok(left),
         }
@@ -513,13 +486,13 @@ impl PickMemory {
         ensures anchored { IfOk result (λ anchored. IsTrue anchored →
             IsAnchored (rules_in asked.now.parts.now asked.now.budget) id) }
     {
-        match self.anchors.known(id) {
+        match self.anchors.get(id.0 as usize) {
             Some(is) => return Ok(is),
             None => {}
         }
         let ignore = item_of(asked.parts.items, id).ignore;
         let is = fails_past_first(&pattern.tree, asked.parts.sets, ignore, asked.budget);
-        self.anchors.keep(Anchor { item: id, is })?;
+        self.anchors.put(id.0 as usize, is)?;
         Ok(is)
     }
 
@@ -789,43 +762,12 @@ fn row_at(rows: &[Row], place: usize, choice: Choice, number: u16) -> Option<&Ro
 }
 
 /// The number of a choice.
-fn number_of(choice: Choice) -> usize
-    ensures { result < 2 ^ 34 }
-{
+fn number_of(choice: Choice) -> usize {
     match choice {
         Choice::Within(None) => 0,
         Choice::NoItem => 1,
         Choice::Within(Some(item)) => 2 * item.0 as usize + 2,
         Choice::ListOf(item) => 2 * item.0 as usize + 3,
-    }
-}
-
-/// Puts a value at the end until a list is so long.
-fn grow(list: &mut Vec<usize>, to: usize, value: usize) -> Result<(), Memory> {
-    for _ in list.len()..to {
-        list.push(value)?;
-    }
-    Ok(())
-}
-
-/// Where the rows of a choice begin: where they would, if they do nowhere yet.
-fn start_of(starts: &mut Vec<usize>, choice: usize, next: usize) -> usize {
-    match starts.get(choice) {
-        Some(start) => {
-            if *start != NOWHERE {
-                return *start;
-            }
-        }
-        None => return next,
-    }
-    put(starts, choice, next);
-    next
-}
-
-/// Puts a value at a place, if the list has it.
-fn put(list: &mut Vec<usize>, place: usize, value: usize) {
-    if place < list.len() {
-        list[place] = value;
     }
 }
 

@@ -1,13 +1,12 @@
 //! What is known of the line that is painted: from which columns an item isn't matched, and where
 //! regions end.
-ghost use Rattle.std.specs.Prelude.{◌≡◌, ◌<◌, ◌≤◌, ◌-◌, ◌+◌, ◌^◌, ℕ, [], length, IfSome, IsTrue};
-ghost use Rattle.std.specs.List.{All};
+ghost use Rattle.std.specs.Prelude.{◌≡◌, ◌<◌, ◌≤◌, ◌-◌, ◌+◌, ◌^◌, ℕ, length, IfSome, IsTrue};
 ghost use Rattle.match_rules.specs.Ways.{Text, line_at};
 ghost use Rattle.paint_rules.specs.Rules.{Rules, item_of, place_at};
 ghost use Rattle.item_pick.specs.PartsSeen.{rules_in};
 ghost use Rattle.item_pick.specs.Standing.{has_one_start, IsFirst, IsItem};
-ghost use Rattle.item_pick.specs.Tables.{EndsStand, IsEnough, RunStands};
-ghost use Rattle.item_pick.specs.Runs.{Covers, SayNothing, TellsOf};
+ghost use Rattle.item_pick.specs.Tables.{EndsStand, IsEnough, RunsStand, RunStands};
+ghost use Rattle.item_pick.specs.Runs.{Covers, TellsOf};
 ghost use Rattle.item_pick.specs.Quiet.{IsQuiet};
 ghost use Rattle.item_pick.specs.Screens.{HoldsLine, HoldsLines};
 
@@ -15,6 +14,7 @@ use crate::asked::Asked;
 use crate::columns::Columns;
 use crate::tried::Tried;
 use region_ends::{EndMemo, item_of};
+use slots::Slots;
 use std::alloc::Global;
 use syn_base::{ItemId, Looked, Memory};
 use syntax_set::{ItemKind, Pattern};
@@ -54,35 +54,15 @@ pub(crate) fn holds(looked: Looked, lines: Looked) -> bool
     looked.join(lines) == looked
 }
 
-/// What is known of a line. An item has one place; what stands there says itself of which item it is.
+/// What is known of a line.
 #[derive(Drop)]
 pub(crate) struct Runs {
-    list: Vec<Run>,
+    /// By the number of the item.
+    list: Slots<Run>,
     pub(crate) ends: EndMemo,
 }
 
-/// What says nothing.
-fn nothing() -> Run
-    ensures { (r : Rules) (t : Text) (l : ℕ) → RunStands r t l result }
-{
-    Run {
-        item: ItemId(0),
-        from: 0,
-        to: 0,
-        places: Columns { first: 0, end: 0 },
-        looked: Looked::one(0),
-        least: None,
-    }
-}
-
 impl Run {
-    /// Whether it has no column, and names no floor.
-    fn says_nothing(&self) -> bool
-        ensures { IsTrue result → (r : Rules) (t : Text) (l : ℕ) → RunStands r t l self.now }
-    {
-        self.from == self.to && self.least.is_none()
-    }
-
     /// Whether an item isn't matched where it is sought from any column before an end, and the lines
     /// that tell so were looked at.
     pub(crate) fn covers(&self, item: ItemId, search: &Search<'_>, end: usize) -> bool
@@ -168,48 +148,34 @@ fn floor_for(col: usize, context: u32) -> Option<usize>
 impl Runs {
     /// Nothing is known.
     pub(crate) fn new(alloc: Global) -> Runs
-        ensures { result.list.items ≡ [] }
+        ensures { (r : Rules) (t : Text) (l : ℕ) → RunsStand r t l result }
     {
         Runs {
-            list: Vec::new(alloc),
+            list: Slots::new(alloc),
             ends: EndMemo::new(alloc),
         }
     }
 
-    /// Forgets what was known. The places stay, so that they needn't be made again.
+    /// Forgets what was known.
     pub(crate) fn clear(&mut self)
-        ensures list { (r : Rules) (t : Text) (l : ℕ) → All (RunStands r t l) self.new.list.items }
+        ensures list { (r : Rules) (t : Text) (l : ℕ) → RunsStand r t l self.new }
         ensures ends { (r : Rules) (t : Text) (l : ℕ) → EndsStand r t l self.new }
     {
-        for place in 0..self.list.len() {
-            self.forget(place);
-        }
+        self.list.clear();
         self.ends.clear();
-    }
-
-    /// Forgets what stands at a place, where those before say nothing.
-    fn forget(&mut self, place: usize)
-        requires { place < length self.old.list.items }
-        ensures many { length self.new.list.items ≡ length self.old.list.items }
-        ensures before { SayNothing self.old.list.items place →
-            SayNothing self.new.list.items (place + 1) }
-    {
-        if !self.list[place].says_nothing() {
-            self.list[place] = nothing();
-        }
     }
 
     /// The run of an item that holds a column or ends there, and tells of a place.
     pub(crate) fn known(&self, item: ItemId, col: usize, at: usize) -> Option<Run>
         ensures tells { IfSome result (TellsOf item col at) }
         ensures stands { (r : Rules) (t : Text) (l : ℕ) →
-            All (RunStands r t l) self.now.list.items →
+            RunsStand r t l self.now →
             IfSome result (RunStands r t l) }
     {
-        let run = *self.list.get(item.0 as usize)?;
+        let run = self.list.get(item.0 as usize)?;
         let holds = run.item == item && run.from <= col && col <= run.to;
         if holds && run.places.first <= at && at < run.places.end {
-            Some(run)
+            Some(*run)
         } else {
             None
         }
@@ -219,7 +185,7 @@ impl Runs {
     /// end.
     pub(crate) fn covers(&self, item: ItemId, search: &Search<'_>, end: usize) -> bool
         ensures { IsTrue result → (r : Rules) (t : Text) (l : ℕ) →
-            All (RunStands r t l) self.now.list.items →
+            RunsStand r t l self.now →
             (run : Run) × RunStands r t l run × Covers run item search.now end }
     {
         match self.list.get(item.0 as usize) {
@@ -231,7 +197,7 @@ impl Runs {
     /// The first column from that of a search on at which it isn't known that an item isn't matched
     /// where it is sought from any column before an end.
     pub(crate) fn covers_until(&self, item: ItemId, search: &Search<'_>, end: usize) -> usize
-        ensures { (r : Rules) (t : Text) (l : ℕ) → All (RunStands r t l) self.now.list.items →
+        ensures { (r : Rules) (t : Text) (l : ℕ) → RunsStand r t l self.now →
             HoldsLine search.now.looked l → end ≡ length (line_at t l) + 1 →
             (c : ℕ) → search.now.at ≤ c → c < result →
             IsQuiet r t (place_at l c) search.now.floor search.now.looked item }
@@ -251,49 +217,12 @@ impl Runs {
     /// Keeps a run at the place of its item, unless it is empty.
     pub(crate) fn keep(&mut self, run: Run) -> Result<(), Memory>
         ensures ends { self.new.ends ≡ self.old.ends }
-        ensures list { (r : Rules) (t : Text) (l : ℕ) → All (RunStands r t l) self.old.list.items →
-            RunStands r t l run → All (RunStands r t l) self.new.list.items }
+        ensures list { (r : Rules) (t : Text) (l : ℕ) → RunsStand r t l self.old →
+            RunStands r t l run → RunsStand r t l self.new }
     {
         if run.from == run.to {
             return Ok(());
         }
-        let place = run.item.0 as usize;
-        if place < self.list.len() {
-            self.list[place] = run;
-            return Ok(());
-        }
-        self.fill(place)?;
-        self.put(run)
-    }
-
-    /// Puts what says nothing before a place.
-    fn fill(&mut self, place: usize) -> Result<(), Memory>
-        ensures ends { self.new.ends ≡ self.old.ends }
-        ensures list { (r : Rules) (t : Text) (l : ℕ) → All (RunStands r t l) self.old.list.items →
-            All (RunStands r t l) self.new.list.items }
-    {
-        for _ in self.list.len()..place {
-            self.put_empty()?;
-        }
-        Ok(())
-    }
-
-    /// Puts at the end what says nothing.
-    fn put_empty(&mut self) -> Result<(), Memory>
-        ensures ends { self.new.ends ≡ self.old.ends }
-        ensures list { (r : Rules) (t : Text) (l : ℕ) → All (RunStands r t l) self.old.list.items →
-            All (RunStands r t l) self.new.list.items }
-    {
-        self.put(nothing())
-    }
-
-    /// Puts a run at the end.
-    fn put(&mut self, run: Run) -> Result<(), Memory>
-        ensures ends { self.new.ends ≡ self.old.ends }
-        ensures list { (r : Rules) (t : Text) (l : ℕ) → All (RunStands r t l) self.old.list.items →
-            RunStands r t l run → All (RunStands r t l) self.new.list.items }
-    {
-        self.list.push(run)?;
-        Ok(())
+        self.list.put(run.item.0 as usize, run)
     }
 }

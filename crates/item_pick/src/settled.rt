@@ -12,7 +12,7 @@ ghost use Rattle.item_pick.specs.Tables.{IsNumberAt, MemoryStands, TablesStand};
 
 use crate::asked::Asked;
 use crate::choice::Choice;
-use crate::memory::{NOWHERE, PickMemory};
+use crate::memory::PickMemory;
 use crate::runs::Search;
 use crate::tables::ANY;
 use syn_base::ItemId;
@@ -45,8 +45,7 @@ impl PickMemory {
             HoldsLine search.now.looked l →
             AreSettled r t l choice search.now.floor search.now.looked search.now.at result }
     {
-        let place = self.place(choice, ANY).unwrap_or(NOWHERE);
-        let Some(all) = self.row(place, choice, ANY) else {
+        let Some(all) = self.row(choice, ANY) else {
             return search.at;
         };
         match &all.wandering {
@@ -112,8 +111,7 @@ impl PickMemory {
             ArePassed (rules_in asked.now.parts.now asked.now.budget) t l choice floor looked false
             col }
     {
-        let place = self.place(choice, number).unwrap_or(NOWHERE);
-        match self.row(place, choice, number) {
+        match self.row(choice, number) {
             Some(row) => self.are_idle_at(asked, row.resting.as_slice(), col),
             None => false,
         }

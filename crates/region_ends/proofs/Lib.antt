@@ -1,4 +1,3 @@
-pub mod AnswerLaws
 pub mod AttemptLaws
 pub mod KeptEndLaws
 pub mod LimitLaws

@@ -1,6 +1,6 @@
 -- What is remembered of where regions end in a line.
 use Rattle.std.specs.Prelude.{◌≡◌, ◌<◌, ◌≤◌, ℕ, List}
-use Rattle.std.specs.List.{All}
+use Rattle.slots.specs.Entries.{Has}
 use Rattle.char_class.specs.declared.sets.Sets.{Sets}
 use Rattle.syn_base.specs.declared.places.ItemId.{ItemId}
 use Rattle.syn_base.specs.declared.places.Place.{Place}
@@ -23,8 +23,8 @@ KnownStands items sets budget text l known =
     (end_in_line (search_of items sets budget text known.region no_externals (place_at l c)))
 
 -- what is remembered is true of the line
-abbrev pub EndMemoStands : List AddedItem → Sets → ℕ → Text → ℕ → EndMemo → Type 0
-EndMemoStands items sets budget text l memo = All (KnownStands items sets budget text l) memo.list.items
+pub record EndMemoStands (items : List AddedItem) (sets : Sets) (budget : ℕ) (text : Text) (l : ℕ) (memo : EndMemo) : Type 0 where
+  pub known : (k : ℕ) (known : Known) → Has memo.searches k known → KnownStands items sets budget text l known
 
 -- it tells of the search of a region from a place
 pub record TellsOf (known : Known) (region : ItemId) (from : Place) : Type 0 where

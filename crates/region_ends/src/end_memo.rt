@@ -18,6 +18,7 @@ use crate::searching::{EndAnswer, Searched, search_anew};
 use char_class::Sets;
 use paint_rules::RegionEnd;
 use pattern_match::Programs;
+use slots::Slots;
 use std::alloc::Global;
 use syn_base::{Externals, ItemId, Lines, Looked, Memory, Place};
 use syntax_set::ItemSet;
@@ -36,14 +37,9 @@ pub(crate) struct Known {
 /// What searches in a line came to: of each region the last one, if it had no externals.
 #[derive(Drop)]
 pub struct EndMemo {
-    /// Each says itself of which region it is.
-    list: Vec<Known>,
-    /// Where a region would stand in the list, by its number.
-    places: Vec<usize>,
+    /// By the number of the region.
+    searches: Slots<Known>,
 }
-
-/// No place.
-const NOWHERE: usize = usize::MAX;
 
 /// What a search came to, if it may be kept.
 fn known_by(region: ItemId, line: usize, searched: Searched) -> Option<Known>
@@ -113,8 +109,7 @@ impl EndMemo {
             EndMemoStands items sets budget t l result }
     {
         EndMemo {
-            list: Vec::new(alloc),
-            places: Vec::new(alloc),
+            searches: Slots::new(alloc),
         }
     }
 
@@ -123,24 +118,7 @@ impl EndMemo {
         ensures { (items : List AddedItem) (sets : SetsRules) (budget : ℕ) (t : Text) (l : ℕ) →
             EndMemoStands items sets budget t l self.new }
     {
-        self.list.clear();
-    }
-
-    /// Where a region would stand in the list.
-    fn place(&self, region: ItemId) -> usize {
-        match self.places.get(region.0 as usize) {
-            Some(place) => *place,
-            None => NOWHERE,
-        }
-    }
-
-    /// What stands at the place of a region.
-    fn entry(&self, region: ItemId) -> Option<Known>
-        ensures { (items : List AddedItem) (sets : SetsRules) (budget : ℕ) (t : Text) (l : ℕ) →
-            EndMemoStands items sets budget t l self.now →
-            IfSome result (KnownStands items sets budget t l) }
-    {
-        Some(*self.list.get(self.place(region))?)
+        self.searches.clear();
     }
 
     /// The end that the search of a region from a place is known to find, or that it finds none.
@@ -150,7 +128,7 @@ impl EndMemo {
             IfSome result (λ end. IsEnd (answer_at end from.line) region
             (end_in_line (search_of items sets budget t region no_externals from))) }
     {
-        let known = self.entry(region)?;
+        let known = self.searches.get(region.0 as usize)?;
         if known.tells_of(region, from) {
             Some(known.end)
         } else {
@@ -165,28 +143,7 @@ impl EndMemo {
             KnownStands items sets budget t l known →
             EndMemoStands items sets budget t l self.new }
     {
-        let place = self.place(known.region);
-        if place < self.list.len() && self.list[place].region == known.region {
-            self.list[place] = known;
-            return Ok(());
-        }
-        self.note(known.region.0 as usize)?;
-        self.list.push(known)?;
-        Ok(())
-    }
-
-    /// Notes that a region will stand behind the others.
-    fn note(&mut self, region: usize) -> Result<(), Memory>
-        ensures { self.new.list ≡ self.old.list }
-    {
-        let end = self.list.len();
-        for _ in self.places.len()..region.saturating_add(1) {
-            self.places.push(NOWHERE)?;
-        }
-        if region < self.places.len() {
-            self.places[region] = end;
-        }
-        Ok(())
+        self.searches.put(known.region.0 as usize, known)
     }
 }
 

@@ -1,41 +1,45 @@
-use Rattle.std.proofs.Common.{◌∙◌, ap}
-use Rattle.std.specs.Prelude.{Some, Bool}
+use Rattle.std.proofs.Common.{subst, ap}
+use Rattle.std.specs.Prelude.{IfSome, Option, Bool}
 use Rattle.syntax_set.specs.declared.item.Item.{Item}
 use Rattle.item_pick.specs.PartsSeen.{rules_in}
-use Rattle.item_pick.proofs.TableLaws.{anchored_by}
+use Rattle.slots.specs.Entries.{IsAt}
+use Rattle.item_pick.proofs.TableLaws.{anchored_by, anchors_still}
 use Rattle.item_pick.proofs.memory.PickMemory.is_anchored.Goals as goal
 
 pub returns-in-Some-clause-anchored : goal.returns-in-Some-clause-anchored
 returns-in-Some-clause-anchored c e =
-    c.known.ensures (rules_in c.args.asked.now.parts.now c.args.asked.now.budget) c.requires.stands.anchors (c.in-Some.is ∙ ap (λ (b : Bool). Some b) e)
+    c.requires.stands.anchors.told c.args.id.0
+    (subst (λ (is : Bool). IsAt c.args.self.now.anchors c.args.id.0 is) e (subst (λ (o : Option Bool). IfSome o (IsAt c.args.self.now.anchors c.args.id.0)) c.in-Some.is c.get.ensures.some))
 
-pub returns-in_err-keep-clause-stands : goal.returns-in_err-keep-clause-stands
-returns-in_err-keep-clause-stands c =
+pub returns-in_err-put-clause-stands : goal.returns-in_err-put-clause-stands
+returns-in_err-put-clause-stands c =
     let r = rules_in c.args.asked.now.parts.now c.args.asked.now.budget in
+    let stands = c.requires.stands in
     record {
-      rows = c.requires.stands.rows;
-      outs = c.requires.stands.outs;
-      vains = c.requires.stands.vains;
-      behinds = c.requires.stands.behinds;
-      afters = c.requires.stands.afters;
-      idles = c.requires.stands.idles;
-      shut = c.requires.stands.shut;
-      anchors = c.keep.ensures r c.requires.stands.anchors
+      rows = stands.rows;
+      outs = stands.outs;
+      vains = stands.vains;
+      behinds = stands.behinds;
+      afters = stands.afters;
+      idles = stands.idles;
+      shut = stands.shut;
+      anchors = anchors_still r c.args.self.now.anchors c.put.new.self c.args.id c.fails_past_first-is.result c.put.ensures.kept stands.anchors
           (λ e. anchored_by r c.args.id c.item_of.result.now.ignore (ap (λ (x : Item). x.ignore) c.item_of.ensures) c.args.pattern.now c.requires.first (c.fails_past_first-is.ensures e));
     }
 
 pub returns-clause-stands : goal.returns-clause-stands
 returns-clause-stands c =
     let r = rules_in c.args.asked.now.parts.now c.args.asked.now.budget in
+    let stands = c.requires.stands in
     record {
-      rows = c.requires.stands.rows;
-      outs = c.requires.stands.outs;
-      vains = c.requires.stands.vains;
-      behinds = c.requires.stands.behinds;
-      afters = c.requires.stands.afters;
-      idles = c.requires.stands.idles;
-      shut = c.requires.stands.shut;
-      anchors = c.keep.ensures r c.requires.stands.anchors
+      rows = stands.rows;
+      outs = stands.outs;
+      vains = stands.vains;
+      behinds = stands.behinds;
+      afters = stands.afters;
+      idles = stands.idles;
+      shut = stands.shut;
+      anchors = anchors_still r c.args.self.now.anchors c.put.new.self c.args.id c.fails_past_first-is.result c.put.ensures.kept stands.anchors
           (λ e. anchored_by r c.args.id c.item_of.result.now.ignore (ap (λ (x : Item). x.ignore) c.item_of.ensures) c.args.pattern.now c.requires.first (c.fails_past_first-is.ensures e));
     }
 

@@ -1,7 +1,8 @@
+use Rattle.slots.specs.Entries.{Has}
+use Rattle.slots.proofs.EntryLaws.{all_still}
+use Rattle.item_pick.specs.Tables.{RunStands}
 use Rattle.item_pick.proofs.runs.Runs.keep.Goals as goal
 
 pub returns-clause-list : goal.returns-clause-list
-returns-clause-list c r t l stands run = c.put.ensures.list r t l (c.fill.ensures.list r t l stands) run
-
-pub returns-in_err-fill-clause-list : goal.returns-in_err-fill-clause-list
-returns-in_err-fill-clause-list c r t l stands run = c.fill.ensures.list r t l stands
+returns-clause-list c r t l stands own =
+    record { each = all_still (λ _ run. RunStands r t l run) (Has c.args.self.now.list) (Has c.put.new.self) _ c.args.run c.put.ensures.kept stands.each own }

@@ -9,7 +9,7 @@ use Rattle.region_ends.proofs.end_memo.EndMemo.known.Goals as goal
 pub returns-then-tells_of : goal.returns-then-tells_of
 returns-then-tells_of c items sets budget t stands =
     let from = c.args.from in
-    let known = c.in_ok-known.known in
+    let known = c.in_ok-known.known.now in
     let tells = c.if-tells_of.ensures refl in
     subst (λ (i : ItemId). IsEnd (answer_at known.end from.line) i (end_in_line (search_of items sets budget t i no_externals from))) tells.same
-    (c.in_ok-known.ensures items sets budget t from.line stands from.col tells.first tells.to tells.reaches)
+    (stands.known c.args.region.0 known c.in_ok-known.ensures.some from.col tells.first tells.to tells.reaches)

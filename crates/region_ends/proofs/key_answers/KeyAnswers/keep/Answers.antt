@@ -1,10 +1,12 @@
-use Rattle.std.proofs.Common.{subst, sym, arith}
-use Rattle.std.proofs.lemmas.List.Elements.{All-set}
-use Rattle.region_ends.specs.KeyAnswers.{OfKeyStands}
+use Rattle.std.proofs.Common.{subst, refl, true, Bool, ◌≡◌}
+use Rattle.slots.specs.Entries.{IsIn}
+use Rattle.slots.proofs.EntryLaws.{all_still_in}
 use Rattle.region_ends.proofs.key_answers.KeyAnswers.keep.Goals as goal
 
-pub returns-then-place-len : goal.returns-then-place-len
-returns-then-place-len c is stands told =
-    let before = c.made.ensures is stands in
-    let key = subst (OfKeyStands is) (sym c.index_mut.ensures.value) (before c.in_ok-place.place c.index_mut.result.now (omega (arith, c.if-place-len.true))) in
-    All-set (OfKeyStands is) _ _ _ (c.keep.ensures is key told) before
+pub returns : goal.returns
+returns c is stands told =
+    let old = IsIn c.args.self.now.answers in
+    record {
+      told = λ number item there. all_still_in (λ n i yes. yes ≡ true → is n i ≡ true) old (IsIn c.put.new.self) _ _ c.args.yes c.put.ensures.kept
+          (λ n i yes was e. stands.told n i (subst (λ (yes : Bool). old n i yes) e was)) told number item true there refl;
+    }

@@ -1,5 +1,5 @@
 use Rattle.item_pick.specs.PartsSeen.{rules_in}
-use Rattle.item_pick.proofs.memory.PickMemory.whole.Goals as goal
+use Rattle.item_pick.proofs.memory.PickMemory.make_whole.Goals as goal
 
 pub returns-clause-stands : goal.returns-clause-stands
 returns-clause-stands c =
