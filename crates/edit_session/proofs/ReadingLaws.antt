@@ -10,12 +10,12 @@ use Rattle.edit_script.specs.declared.commands.Entry.{Entry}
 use Rattle.edit_script.specs.Entries.{entries_at_end, entries_of, kept_of}
 use Rattle.edit_script.specs.Kept.{Kept}
 use Rattle.edit_script.proofs.StandingLaws.{end_two, entries_two, kept_two}
-use Rattle.edit_session.specs.Ends.{SinkChange, SourceChange, Takes}
+use Rattle.edit_session.specs.Ends.{SinkChange, SourceChange, Takes, sink_change, source_change}
 use Rattle.edit_session.specs.Painter.{Painter}
 use Rattle.edit_session.specs.Session.{Answer, Standing, behind, entries_read, is_too_long, most_bytes, session, session_costs}
 use Rattle.edit_session.specs.declared.reading.End.{End}
 use Rattle.edit_session.specs.declared.reading.End.TheVariants.{Done, Refused, TooLong, Unread, Unwritten, Memory}
-use Rattle.edit_session.specs.Steps.{Answers, EndsReading, HasRead, ReachesEnd, ReadsPiece, ReadsPieces, StandsAt, StaysWithin, StepsChange, StopsSo}
+use Rattle.edit_session.specs.Steps.{Answers, EndsReading, HasRead, ReachesEnd, ReadsPiece, ReadsPieces, StandsAt, StaysWithin, StepsChange, StopsSo, steps_change}
 use Rattle.edit_session.proofs.SessionLaws.{appended_nothing, appended_twice, appends_all, appends_behind, appends_of_more, costs_joined, session_joined}
 
 -- ---- sources
@@ -115,25 +115,21 @@ painted_whole p s (Some all) (Some rest) n n' bytes few taken ended painted =
 
 -- ---- steps
 
-abbrev pub source_of : Option (List ℕ) → Option (List ℕ) → ℕ → ℕ → SourceChange
-source_of before after faults faults_after = record { before = before; after = after; faults = faults; faults_after = faults_after }
-
-abbrev pub sink_of : Option (List ℕ) → Option (List ℕ) → ℕ → ℕ → SinkChange
-sink_of before after faults faults_after = record { before = before; after = after; faults = faults; faults_after = faults_after }
-
-abbrev pub steps_of : ℕ → ℕ → StepsChange
-steps_of before after = record { before = before; after = after }
-
 -- the commands whose last line is whole in the bytes that were taken were answered, or a part of them
-within_part : (p : Painter) (s : Standing) (left left' out out' : Option (List ℕ)) (f f' g g' n n' : ℕ) (bytes : List ℕ) → length bytes ≤ most_bytes → Takes bytes left left' → AppendsPrefix out out' (session p s (entries_of 0 bytes)).text → n' ≤ n + session_costs p s (entries_of 0 bytes) → StaysWithin p s (source_of left left' f f') (sink_of out out' g g') (steps_of n n')
+within_part : (p : Painter) (s : Standing) (left left' out out' : Option (List ℕ)) (f f' g g' n n' : ℕ) (bytes : List ℕ) → length bytes ≤ most_bytes → Takes bytes left left' → AppendsPrefix out out' (session p s (entries_of 0 bytes)).text → n' ≤ n + session_costs p s (entries_of 0 bytes) → StaysWithin p s (source_change left left' f f') (sink_change out out' g g') (steps_change n n')
 within_part p s left left' out out' f f' g g' n n' bytes few taken part painted = record {
   part = part_written p s left left' out out' bytes few taken part;
   painted = painted_part p s left left' n n' bytes few taken painted;
   taken = record { bytes = bytes; taken = taken; few = omega arith };
 }
 
+-- nothing was taken, written or painted
+pub within_nothing : (p : Painter) (s : Standing) (left out : Option (List ℕ)) (f g n : ℕ) → StaysWithin p s (source_change left left f f) (sink_change out out g g) (steps_change n n)
+within_nothing p s left out f g n =
+    within_part p s left left out out f f g g n n [] (omega arith) (takes_nothing left) (appends_all out out [] (appended_nothing out)) (omega arith)
+
 -- all commands were answered, or a part of them
-within_whole : (p : Painter) (s : Standing) (left left' out out' : Option (List ℕ)) (f f' g g' n n' : ℕ) (bytes : List ℕ) → length bytes ≤ most_bytes → Takes bytes left left' → IfSome left' (λ rest. rest ≡ []) → AppendsPrefix out out' (session p s (entries_at_end 0 bytes)).text → n' ≤ n + session_costs p s (entries_at_end 0 bytes) → StaysWithin p s (source_of left left' f f') (sink_of out out' g g') (steps_of n n')
+within_whole : (p : Painter) (s : Standing) (left left' out out' : Option (List ℕ)) (f f' g g' n n' : ℕ) (bytes : List ℕ) → length bytes ≤ most_bytes → Takes bytes left left' → IfSome left' (λ rest. rest ≡ []) → AppendsPrefix out out' (session p s (entries_at_end 0 bytes)).text → n' ≤ n + session_costs p s (entries_at_end 0 bytes) → StaysWithin p s (source_change left left' f f') (sink_change out out' g g') (steps_change n n')
 within_whole p s left left' out out' f f' g g' n n' bytes few taken ended part painted = record {
   part = end_written p s left left' out out' bytes few taken ended part;
   painted = painted_whole p s left left' n n' bytes few taken ended painted;
@@ -141,7 +137,7 @@ within_whole p s left left' out out' f f' g g' n n' bytes few taken ended part p
 }
 
 -- nothing was read yet
-pub read_start : (p : Painter) (s : Standing) (kept : Kept) (left out : Option (List ℕ)) (f f' g n : ℕ) → kept ≡ record { lines = 0; bytes = [] } → HasRead p s s kept (source_of left left f f') (sink_of out out g g) (steps_of n n) []
+pub read_start : (p : Painter) (s : Standing) (kept : Kept) (left out : Option (List ℕ)) (f f' g n : ℕ) → kept ≡ record { lines = 0; bytes = [] } → HasRead p s s kept (source_change left left f f') (sink_change out out g g) (steps_change n n) []
 read_start p s kept left out f f' g n fresh = record {
   few = omega arith;
   taken = takes_nothing left;
@@ -173,9 +169,9 @@ costs_at_end p s now kept source sink steps bytes read =
     ∙ ap (λ t. first + session_costs p t (E kept)) (sym read.stands)
 
 -- a piece was read, and the commands that it made whole were answered
-pub read_further : (p : Painter) (s now next : Standing) (kept kept' : Kept) (left left' left'' out out' out'' : Option (List ℕ)) (f f' f'' g g' g'' n n' n'' : ℕ) (bytes piece : List ℕ) → HasRead p s now kept (source_of left left' f f') (sink_of out out' g g') (steps_of n n') bytes → Takes piece left' left'' → length (bytes ++ piece) ≤ most_bytes → kept' ≡ kept_of kept.lines (kept.bytes ++ piece) → next ≡ (session p now (entries_of kept.lines (kept.bytes ++ piece))).stands → out'' ≡ appended out' (session p now (entries_of kept.lines (kept.bytes ++ piece))).text → g'' ≡ g' → n'' ≤ n' + session_costs p now (entries_of kept.lines (kept.bytes ++ piece)) → HasRead p s next kept' (source_of left left'' f f'') (sink_of out out'' g g'') (steps_of n n'') (bytes ++ piece)
+pub read_further : (p : Painter) (s now next : Standing) (kept kept' : Kept) (left left' left'' out out' out'' : Option (List ℕ)) (f f' f'' g g' g'' n n' n'' : ℕ) (bytes piece : List ℕ) → HasRead p s now kept (source_change left left' f f') (sink_change out out' g g') (steps_change n n') bytes → Takes piece left' left'' → length (bytes ++ piece) ≤ most_bytes → kept' ≡ kept_of kept.lines (kept.bytes ++ piece) → next ≡ (session p now (entries_of kept.lines (kept.bytes ++ piece))).stands → out'' ≡ appended out' (session p now (entries_of kept.lines (kept.bytes ++ piece))).text → g'' ≡ g' → n'' ≤ n' + session_costs p now (entries_of kept.lines (kept.bytes ++ piece)) → HasRead p s next kept' (source_change left left'' f f'') (sink_change out out'' g g'') (steps_change n n'') (bytes ++ piece)
 read_further p s now next kept kept' left left' left'' out out' out'' f f' f'' g g' g'' n n' n'' bytes piece read taken few keeps stands written writable painted =
-    let costs = costs_further p s now kept (source_of left left' f f') (sink_of out out' g g') (steps_of n n') bytes piece read in
+    let costs = costs_further p s now kept (source_change left left' f f') (sink_change out out' g g') (steps_change n n') bytes piece read in
     let so_far = read.painted in
     let K : Kept → Kept = λ k. kept_of k.lines (k.bytes ++ piece) in
     let E : Kept → List Entry = λ k. entries_of k.lines (k.bytes ++ piece) in
@@ -196,9 +192,9 @@ read_further p s now next kept kept' left left' left'' out out' out'' f f' f'' g
     }
 
 -- an answer stopped in the middle of a piece
-within_further : (p : Painter) (s now : Standing) (kept : Kept) (left left' left'' out out' out'' : Option (List ℕ)) (f f' f'' g g' g'' n n' n'' : ℕ) (bytes piece : List ℕ) → HasRead p s now kept (source_of left left' f f') (sink_of out out' g g') (steps_of n n') bytes → Takes piece left' left'' → length (bytes ++ piece) ≤ most_bytes → AppendsPrefix out' out'' (session p now (entries_of kept.lines (kept.bytes ++ piece))).text → n'' ≤ n' + session_costs p now (entries_of kept.lines (kept.bytes ++ piece)) → StaysWithin p s (source_of left left'' f f'') (sink_of out out'' g g'') (steps_of n n'')
+within_further : (p : Painter) (s now : Standing) (kept : Kept) (left left' left'' out out' out'' : Option (List ℕ)) (f f' f'' g g' g'' n n' n'' : ℕ) (bytes piece : List ℕ) → HasRead p s now kept (source_change left left' f f') (sink_change out out' g g') (steps_change n n') bytes → Takes piece left' left'' → length (bytes ++ piece) ≤ most_bytes → AppendsPrefix out' out'' (session p now (entries_of kept.lines (kept.bytes ++ piece))).text → n'' ≤ n' + session_costs p now (entries_of kept.lines (kept.bytes ++ piece)) → StaysWithin p s (source_change left left'' f f'') (sink_change out out'' g g'') (steps_change n n'')
 within_further p s now kept left left' left'' out out' out'' f f' f'' g g' g'' n n' n'' bytes piece read taken few part painted =
-    let costs = costs_further p s now kept (source_of left left' f f') (sink_of out out' g g') (steps_of n n') bytes piece read in
+    let costs = costs_further p s now kept (source_change left left' f f') (sink_change out out' g g') (steps_change n n') bytes piece read in
     let so_far = read.painted in
     let E : Kept → List Entry = λ k. entries_of k.lines (k.bytes ++ piece) in
     let same : E kept ≡ E (kept_of 0 bytes) = ap E read.keeps in
@@ -212,12 +208,12 @@ within_further p s now kept left left' left'' out out' out'' f f' f'' g g' g'' n
     (subst P (sym joined) (appends_behind out out' out'' _ (session p now (E kept)).text read.written part)) (omega arith)
 
 -- nothing more is read
-within_so_far : (p : Painter) (s now : Standing) (kept : Kept) (left left' out out' : Option (List ℕ)) (f f' f'' g g' n n' : ℕ) (bytes : List ℕ) → HasRead p s now kept (source_of left left' f f') (sink_of out out' g g') (steps_of n n') bytes → StaysWithin p s (source_of left left' f f'') (sink_of out out' g g') (steps_of n n')
+within_so_far : (p : Painter) (s now : Standing) (kept : Kept) (left left' out out' : Option (List ℕ)) (f f' f'' g g' n n' : ℕ) (bytes : List ℕ) → HasRead p s now kept (source_change left left' f f') (sink_change out out' g g') (steps_change n n') bytes → StaysWithin p s (source_change left left' f f'') (sink_change out out' g g') (steps_change n n')
 within_so_far p s now kept left left' out out' f f' f'' g g' n n' bytes read =
     within_part p s left left' out out' f f'' g g' n n' bytes read.few read.taken (appends_all out out' _ read.written) read.painted
 
 -- the commands that are left at the end
-joined_at_end : (p : Painter) (s now : Standing) (kept : Kept) (left left' out out' : Option (List ℕ)) (f f' g g' n n' : ℕ) (bytes : List ℕ) → HasRead p s now kept (source_of left left' f f') (sink_of out out' g g') (steps_of n n') bytes → session p s (entries_at_end 0 bytes) ≡ behind (session p s (entries_of 0 bytes)).text (session p now (entries_at_end kept.lines kept.bytes))
+joined_at_end : (p : Painter) (s now : Standing) (kept : Kept) (left left' out out' : Option (List ℕ)) (f f' g g' n n' : ℕ) (bytes : List ℕ) → HasRead p s now kept (source_change left left' f f') (sink_change out out' g g') (steps_change n n') bytes → session p s (entries_at_end 0 bytes) ≡ behind (session p s (entries_of 0 bytes)).text (session p now (entries_at_end kept.lines kept.bytes))
 joined_at_end p s now kept left left' out out' f f' g g' n n' bytes read =
     let E : Kept → List Entry = λ k. entries_at_end k.lines k.bytes in
     let same : E kept ≡ E (kept_of 0 bytes) = ap E read.keeps in
@@ -229,9 +225,9 @@ joined_at_end p s now kept left left' out out' f f' g g' n n' bytes read =
 -- ---- pieces
 
 -- a piece more was read
-pub pieces_further : (p p' : Painter) → p' ≡ p → (s now next : Standing) (kept kept' : Kept) (room count taken : ℕ) (left left' left'' out out' out'' : Option (List ℕ)) (f f' f'' g g' g'' n n' n'' : ℕ) (bytes : List ℕ) → HasRead p s now kept (source_of left left' f f') (sink_of out out' g g') (steps_of n n') bytes → length bytes ≡ taken → ReadsPiece p' now next kept kept' room (source_of left' left'' f' f'') (sink_of out' out'' g' g'') (steps_of n' n'') (Ok count) → taken + room ≤ most_bytes → (more : List ℕ) × HasRead p s next kept' (source_of left left'' f f'') (sink_of out out'' g g'') (steps_of n n'') more × (length more ≡ taken + count)
+pub pieces_further : (p p' : Painter) → p' ≡ p → (s now next : Standing) (kept kept' : Kept) (room count taken : ℕ) (left left' left'' out out' out'' : Option (List ℕ)) (f f' f'' g g' g'' n n' n'' : ℕ) (bytes : List ℕ) → HasRead p s now kept (source_change left left' f f') (sink_change out out' g g') (steps_change n n') bytes → length bytes ≡ taken → ReadsPiece p' now next kept kept' room (source_change left' left'' f' f'') (sink_change out' out'' g' g'') (steps_change n' n'') (Ok count) → taken + room ≤ most_bytes → (more : List ℕ) × HasRead p s next kept' (source_change left left'' f f'') (sink_change out out'' g g'') (steps_change n n'') more × (length more ≡ taken + count)
 pieces_further p p' painters s now next kept kept' room count taken left left' left'' out out' out'' f f' f'' g g' g'' n n' n'' bytes read size given fits =
-    let R : Painter → Type 0 = λ q. ReadsPiece q now next kept kept' room (source_of left' left'' f' f'') (sink_of out' out'' g' g'') (steps_of n' n'') (Ok count) in
+    let R : Painter → Type 0 = λ q. ReadsPiece q now next kept kept' room (source_change left' left'' f' f'') (sink_change out' out'' g' g'') (steps_change n' n'') (Ok count) in
     let piece : R p = subst R painters given in
     let joined = length-append bytes piece.0 in
     let total : length (bytes ++ piece.0) ≡ taken + count = omega (arith, piece.2) in (
@@ -241,7 +237,7 @@ pieces_further p p' painters s now next kept kept' room count taken left left' l
     )
 
 -- reading stopped in a piece
-stopped_by : (p : Painter) (s now next : Standing) (kept kept' : Kept) (room taken : ℕ) (left left' left'' out out' out'' : Option (List ℕ)) (f f' f'' g g' g'' n n' n'' : ℕ) (bytes : List ℕ) (end : End) → HasRead p s now kept (source_of left left' f f') (sink_of out out' g g') (steps_of n n') bytes → length bytes ≡ taken → taken + room ≤ most_bytes → f' ≡ f → ReadsPiece p now next kept kept' room (source_of left' left'' f' f'') (sink_of out' out'' g' g'') (steps_of n' n'') (Err end) → StopsSo p s (source_of left left'' f f'') (sink_of out out'' g g'') (steps_of n n'') end
+stopped_by : (p : Painter) (s now next : Standing) (kept kept' : Kept) (room taken : ℕ) (left left' left'' out out' out'' : Option (List ℕ)) (f f' f'' g g' g'' n n' n'' : ℕ) (bytes : List ℕ) (end : End) → HasRead p s now kept (source_change left left' f f') (sink_change out out' g g') (steps_change n n') bytes → length bytes ≡ taken → taken + room ≤ most_bytes → f' ≡ f → ReadsPiece p now next kept kept' room (source_change left' left'' f' f'') (sink_change out' out'' g' g'') (steps_change n' n'') (Err end) → StopsSo p s (source_change left left'' f f'') (sink_change out out'' g g'') (steps_change n n'') end
 stopped_by p s now next kept kept' room taken left left' left'' out out' out'' f f' f'' g g' g'' n n' n'' bytes Unread read size fits readable piece =
     let same_left : left'' ≡ left' = piece.0 in
     let same_out : out'' ≡ out' = piece.2 in
@@ -275,9 +271,9 @@ stopped_by p s now next kept kept' room taken left left' left'' out out' out'' f
 stopped_by p s now next kept kept' room taken left left' left'' out out' out'' f f' f'' g g' g'' n n' n'' bytes Refused read size fits readable piece = absurd piece
 stopped_by p s now next kept kept' room taken left left' left'' out out' out'' f f' f'' g g' g'' n n' n'' bytes TooLong read size fits readable piece = absurd piece
 
-pub pieces_stopped : (p p' : Painter) → p' ≡ p → (s now next : Standing) (kept kept' : Kept) (room taken : ℕ) (left left' left'' out out' out'' : Option (List ℕ)) (f f' f'' g g' g'' n n' n'' : ℕ) (bytes : List ℕ) (end : End) (result : Result Bool End) → HasRead p s now kept (source_of left left' f f') (sink_of out out' g g') (steps_of n n') bytes → length bytes ≡ taken → f' ≡ f → ReadsPiece p' now next kept kept' room (source_of left' left'' f' f'') (sink_of out' out'' g' g'') (steps_of n' n'') (Err end) → taken + room ≤ most_bytes → result ≡ Err end → ReadsPieces p s next kept' (source_of left left'' f f'') (sink_of out out'' g g'') (steps_of n n'') result
+pub pieces_stopped : (p p' : Painter) → p' ≡ p → (s now next : Standing) (kept kept' : Kept) (room taken : ℕ) (left left' left'' out out' out'' : Option (List ℕ)) (f f' f'' g g' g'' n n' n'' : ℕ) (bytes : List ℕ) (end : End) (result : Result Bool End) → HasRead p s now kept (source_change left left' f f') (sink_change out out' g g') (steps_change n n') bytes → length bytes ≡ taken → f' ≡ f → ReadsPiece p' now next kept kept' room (source_change left' left'' f' f'') (sink_change out' out'' g' g'') (steps_change n' n'') (Err end) → taken + room ≤ most_bytes → result ≡ Err end → ReadsPieces p s next kept' (source_change left left'' f f'') (sink_change out out'' g g'') (steps_change n n'') result
 pieces_stopped p p' painters s now next kept kept' room taken left left' left'' out out' out'' f f' f'' g g' g'' n n' n'' bytes end result read size readable given fits at =
-    let R : Painter → Type 0 = λ q. ReadsPiece q now next kept kept' room (source_of left' left'' f' f'') (sink_of out' out'' g' g'') (steps_of n' n'') (Err end) in
+    let R : Painter → Type 0 = λ q. ReadsPiece q now next kept kept' room (source_change left' left'' f' f'') (sink_change out' out'' g' g'') (steps_change n' n'') (Err end) in
     rw at (stopped_by p s now next kept kept' room taken left left' left'' out out' out'' f f' f'' g g' g'' n n' n'' bytes end read size fits readable (subst R painters given))
 
 -- ---- the end
@@ -287,7 +283,7 @@ takes_none before None taken = taken
 takes_none before (Some rest) taken = taken
 
 -- the end wasn't reached: there are more bytes, or the next read failed
-pub over_end : (U V : Type 0) (p : Painter) (s now : Standing) (refused ended : Bool) (kept : Kept) (left left' left'' out out' : Option (List ℕ)) (f f' f'' g g' n n' : ℕ) (bytes : List ℕ) (end : End) → HasRead p s now kept (source_of left left' f f') (sink_of out out' g g') (steps_of n n') bytes → StandsAt ended (source_of left left' f f') bytes → f' ≡ f → ReachesEnd {U = V} ended left' left'' f' f'' (Err end) → EndsReading {U = U} p s refused (source_of left left'' f f'') (sink_of out out' g g') (Err end) × StaysWithin p s (source_of left left'' f f'') (sink_of out out' g g') (steps_of n n')
+pub over_end : (U V : Type 0) (p : Painter) (s now : Standing) (refused ended : Bool) (kept : Kept) (left left' left'' out out' : Option (List ℕ)) (f f' f'' g g' n n' : ℕ) (bytes : List ℕ) (end : End) → HasRead p s now kept (source_change left left' f f') (sink_change out out' g g') (steps_change n n') bytes → StandsAt ended (source_change left left' f f') bytes → f' ≡ f → ReachesEnd {U = V} ended left' left'' f' f'' (Err end) → EndsReading {U = U} p s refused (source_change left left'' f f'') (sink_change out out' g g') (Err end) × StaysWithin p s (source_change left left'' f f'') (sink_change out out' g g') (steps_change n n')
 over_end U V p s now refused true kept left left' left'' out out' f f' f'' g g' n n' bytes end read at readable reached = absurd reached
 over_end U V p s now refused false kept left left' left'' out out' f f' f'' g g' n n' bytes TooLong read at readable reached =
     let within = within_so_far p s now kept left left' out out' f f' f'' g g' n n' bytes read in
@@ -327,7 +323,7 @@ over_end U V p s now refused false kept left left' left'' out out' f f' f'' g g'
 over_end U V p s now refused false kept left left' left'' out out' f f' f'' g g' n n' bytes Memory read at readable reached = absurd reached
 
 -- the end was reached
-pub reached_end : (V : Type 0) (p : Painter) (s now : Standing) (ended : Bool) (kept : Kept) (left left' left'' out out' : Option (List ℕ)) (f f' f'' g g' n n' : ℕ) (bytes : List ℕ) (done : V) → HasRead p s now kept (source_of left left' f f') (sink_of out out' g g') (steps_of n n') bytes → StandsAt ended (source_of left left' f f') bytes → f' ≡ f → ReachesEnd ended left' left'' f' f'' (Ok done) → HasRead p s now kept (source_of left left'' f f'') (sink_of out out' g g') (steps_of n n') bytes × IfSome left'' (λ rest. rest ≡ []) × (f'' ≡ f)
+pub reached_end : (V : Type 0) (p : Painter) (s now : Standing) (ended : Bool) (kept : Kept) (left left' left'' out out' : Option (List ℕ)) (f f' f'' g g' n n' : ℕ) (bytes : List ℕ) (done : V) → HasRead p s now kept (source_change left left' f f') (sink_change out out' g g') (steps_change n n') bytes → StandsAt ended (source_change left left' f f') bytes → f' ≡ f → ReachesEnd ended left' left'' f' f'' (Ok done) → HasRead p s now kept (source_change left left'' f f'') (sink_change out out' g g') (steps_change n n') bytes × IfSome left'' (λ rest. rest ≡ []) × (f'' ≡ f)
 reached_end V p s now true kept left left' left'' out out' f f' f'' g g' n n' bytes done read at readable reached =
     let same : left'' ≡ left' = reached.0 in
     let T : Option (List ℕ) → Type 0 = λ l. Takes bytes left l in
@@ -338,16 +334,16 @@ reached_end V p s now false kept left left' left'' out out' f f' f'' g g' n n' b
     let T : Option (List ℕ) → Type 0 = λ l. Takes bytes left l in
     (record { few = read.few; taken = subst T same read.taken; keeps = read.keeps; stands = read.stands; written = read.written; writable = read.writable; painted = read.painted }, reached.1, reached.2 ∙ readable)
 
-within_end : (p : Painter) (s now : Standing) (kept : Kept) (left left' out out' out'' : Option (List ℕ)) (f f' g g' g'' n n' n'' : ℕ) (bytes : List ℕ) → HasRead p s now kept (source_of left left' f f') (sink_of out out' g g') (steps_of n n') bytes → IfSome left' (λ rest. rest ≡ []) → AppendsPrefix out' out'' (session p now (entries_at_end kept.lines kept.bytes)).text → n'' ≤ n' + session_costs p now (entries_at_end kept.lines kept.bytes) → StaysWithin p s (source_of left left' f f') (sink_of out out'' g g'') (steps_of n n'')
+within_end : (p : Painter) (s now : Standing) (kept : Kept) (left left' out out' out'' : Option (List ℕ)) (f f' g g' g'' n n' n'' : ℕ) (bytes : List ℕ) → HasRead p s now kept (source_change left left' f f') (sink_change out out' g g') (steps_change n n') bytes → IfSome left' (λ rest. rest ≡ []) → AppendsPrefix out' out'' (session p now (entries_at_end kept.lines kept.bytes)).text → n'' ≤ n' + session_costs p now (entries_at_end kept.lines kept.bytes) → StaysWithin p s (source_change left left' f f') (sink_change out out'' g g'') (steps_change n n'')
 within_end p s now kept left left' out out' out'' f f' g g' g'' n n' n'' bytes read ended part painted =
-    let costs = costs_at_end p s now kept (source_of left left' f f') (sink_of out out' g g') (steps_of n n') bytes read in
+    let costs = costs_at_end p s now kept (source_change left left' f f') (sink_change out out' g g') (steps_change n n') bytes read in
     let so_far = read.painted in
     let P : Answer → Type 0 = λ a. AppendsPrefix out out'' a.text in
     within_whole p s left left' out out'' f f' g g'' n n'' bytes read.few read.taken ended
     (subst P (sym (joined_at_end p s now kept left left' out out' f f' g g' n n' bytes read)) (appends_behind out out' out'' _ (session p now (entries_at_end kept.lines kept.bytes)).text read.written part)) (omega arith)
 
 -- the commands that are left were answered
-finished_by : (U : Type 0) (p : Painter) (s now next : Standing) (kept : Kept) (left left' out out' out'' : Option (List ℕ)) (f f' g g' g'' n n' n'' : ℕ) (bytes : List ℕ) (result : Result U End) → HasRead p s now kept (source_of left left' f f') (sink_of out out' g g') (steps_of n n') bytes → IfSome left' (λ rest. rest ≡ []) → f' ≡ f → Answers (session p now (entries_at_end kept.lines kept.bytes)) next (sink_of out' out'' g' g'') result → n'' ≤ n' + session_costs p now (entries_at_end kept.lines kept.bytes) → EndsReading p s next.refused (source_of left left' f f') (sink_of out out'' g g'') result × StaysWithin p s (source_of left left' f f') (sink_of out out'' g g'') (steps_of n n'')
+finished_by : (U : Type 0) (p : Painter) (s now next : Standing) (kept : Kept) (left left' out out' out'' : Option (List ℕ)) (f f' g g' g'' n n' n'' : ℕ) (bytes : List ℕ) (result : Result U End) → HasRead p s now kept (source_change left left' f f') (sink_change out out' g g') (steps_change n n') bytes → IfSome left' (λ rest. rest ≡ []) → f' ≡ f → Answers (session p now (entries_at_end kept.lines kept.bytes)) next (sink_change out' out'' g' g'') result → n'' ≤ n' + session_costs p now (entries_at_end kept.lines kept.bytes) → EndsReading p s next.refused (source_change left left' f f') (sink_change out out'' g g'') result × StaysWithin p s (source_change left left' f f') (sink_change out out'' g g'') (steps_change n n'')
 finished_by U p s now next kept left left' out out' out'' f f' g g' g'' n n' n'' bytes (Ok done) read ended readable answered painted =
     let joined = joined_at_end p s now kept left left' out out' f f' g g' n n' bytes read in
     let rest = session p now (entries_at_end kept.lines kept.bytes) in
@@ -374,8 +370,8 @@ finished_by U p s now next kept left left' out out' out'' f f' g g' g'' n n' n''
 finished_by U p s now next kept left left' out out' out'' f f' g g' g'' n n' n'' bytes (Err TooLong) read ended readable answered painted = absurd answered
 finished_by U p s now next kept left left' out out' out'' f f' g g' g'' n n' n'' bytes (Err Unread) read ended readable answered painted = absurd answered
 
-pub finished : (U : Type 0) (p p' : Painter) → p' ≡ p → (s now next : Standing) (kept : Kept) (left left' out out' out'' : Option (List ℕ)) (f f' g g' g'' n n' n'' : ℕ) (bytes : List ℕ) (result : Result U End) → HasRead p s now kept (source_of left left' f f') (sink_of out out' g g') (steps_of n n') bytes → IfSome left' (λ rest. rest ≡ []) → f' ≡ f → Answers (session p' now (entries_at_end kept.lines kept.bytes)) next (sink_of out' out'' g' g'') result → n'' ≤ n' + session_costs p' now (entries_at_end kept.lines kept.bytes) → EndsReading p s next.refused (source_of left left' f f') (sink_of out out'' g g'') result × StaysWithin p s (source_of left left' f f') (sink_of out out'' g g'') (steps_of n n'')
+pub finished : (U : Type 0) (p p' : Painter) → p' ≡ p → (s now next : Standing) (kept : Kept) (left left' out out' out'' : Option (List ℕ)) (f f' g g' g'' n n' n'' : ℕ) (bytes : List ℕ) (result : Result U End) → HasRead p s now kept (source_change left left' f f') (sink_change out out' g g') (steps_change n n') bytes → IfSome left' (λ rest. rest ≡ []) → f' ≡ f → Answers (session p' now (entries_at_end kept.lines kept.bytes)) next (sink_change out' out'' g' g'') result → n'' ≤ n' + session_costs p' now (entries_at_end kept.lines kept.bytes) → EndsReading p s next.refused (source_change left left' f f') (sink_change out out'' g g'') result × StaysWithin p s (source_change left left' f f') (sink_change out out'' g g'') (steps_change n n'')
 finished U p p' painters s now next kept left left' out out' out'' f f' g g' g'' n n' n'' bytes result read ended readable answered painted =
-    let A : Painter → Type 0 = λ q. Answers (session q now (entries_at_end kept.lines kept.bytes)) next (sink_of out' out'' g' g'') result in
+    let A : Painter → Type 0 = λ q. Answers (session q now (entries_at_end kept.lines kept.bytes)) next (sink_change out' out'' g' g'') result in
     let C : Painter → Type 0 = λ q. n'' ≤ n' + session_costs q now (entries_at_end kept.lines kept.bytes) in
     finished_by U p s now next kept left left' out out' out'' f f' g g' g'' n n' n'' bytes result read ended readable (subst A painters answered) (subst C painters painted)

@@ -22,6 +22,14 @@ pub record SinkChange : Type 0 where
   pub faults : ℕ
   pub faults_after : ℕ
 
+abbrev pub source_change : Option (List ℕ) → Option (List ℕ) → ℕ → ℕ → SourceChange
+source_change before after faults faults_after =
+    record { before = before; after = after; faults = faults; faults_after = faults_after }
+
+abbrev pub sink_change : Option (List ℕ) → Option (List ℕ) → ℕ → ℕ → SinkChange
+sink_change before after faults faults_after =
+    record { before = before; after = after; faults = faults; faults_after = faults_after }
+
 -- these bytes were taken from the front of a source
 abbrev pub Takes : List ℕ → Option (List ℕ) → Option (List ℕ) → Type 0
 Takes bytes before after = before ≡ option_map (λ rest. bytes ++ rest) after

@@ -3,6 +3,7 @@ use Rattle.std.specs.Prelude.{◌≡◌, ℕ, ◌+◌, ◌-◌, ◌≤◌, Bool,
 use Rattle.syn_base.specs.declared.places.Span.{Span}
 use Rattle.syn_base.specs.Causes.{Rose}
 use Rattle.syn_base.specs.Outside.{AppendsPrefix, appended}
+use Rattle.edit_session.specs.declared.commands.Commands.{Commands}
 use Rattle.edit_session.specs.declared.reading.End.{End}
 use Rattle.edit_session.specs.declared.reading.End.TheVariants.{Done, Refused, TooLong, Unread, Unwritten, Memory}
 use Rattle.text_buffer.specs.TextOfBytes.{most_lines}
@@ -15,12 +16,12 @@ use Rattle.edit_session.specs.Ends.{FailsBehind, ReadsOver, ReadsToEnd, SinkChan
 use Rattle.edit_session.specs.Painter.{Painter}
 use Rattle.edit_session.specs.Session.{Answer, Standing, entries_read, most_bytes, session, session_costs}
 
--- what stands, by the document and the counts
-abbrev pub standing : {D : Type 0} → (D → List (List ℕ)) → (D → List (List Span)) → D → ℕ → Bool → Standing
-standing lines shown document number refused = record {
-  number = number;
-  painted = record { text = lines document; spans = shown document };
-  refused = refused;
+-- what stands, by the commands and by what tells the lines and the spans of their document
+abbrev pub standing : {D : Type 0} → (D → List (List ℕ)) → (D → List (List Span)) → Commands D → Standing
+standing lines shown commands = record {
+  number = commands.number;
+  painted = record { text = lines commands.document; spans = shown commands.document };
+  refused = commands.refused;
 }
 
 -- a command with so many lines fits a text of so many
@@ -63,6 +64,9 @@ TakesBytes before after faults faults_after buffer (Err end) = ⊥
 pub record StepsChange : Type 0 where
   pub before : ℕ
   pub after : ℕ
+
+abbrev pub steps_change : ℕ → ℕ → StepsChange
+steps_change before after = record { before = before; after = after }
 
 -- it rose by the lines that these commands may paint, at most
 abbrev pub PaintsFew : Painter → Standing → StepsChange → List Entry → Type 0

@@ -4,6 +4,7 @@ ghost use Rattle.std.specs.List.{range_with_len};
 ghost use Rattle.command_print.specs.CommandText.{head_text};
 ghost use Rattle.text_buffer.specs.TextOfBytes.{most_lines};
 ghost use Rattle.edit_script.specs.Edits.{replaced, replacement as replacement_of};
+ghost use Rattle.edit_session.specs.Ends.{sink_change};
 ghost use Rattle.edit_session.specs.Painter.{Painted, Painter};
 ghost use Rattle.edit_session.specs.Session.{answers, carries_out, change_costs, edits, entry_costs, lines_text, obeys, prints, refuses, session, session_costs, what_costs};
 ghost use Rattle.edit_session.specs.Steps.{Answers, FitsText, GivesAnswer, standing};
@@ -39,17 +40,12 @@ impl<D: Document + Drop> Commands<D> {
     ) -> Result<(), End>
         ensures painter { D.painter self.new.document ≡ D.painter self.old.document }
         ensures answers { Answers
-            (session (D.painter self.old.document)
-            (standing D.lines D.shown self.old.document self.old.number self.old.refused) entries)
-            (standing D.lines D.shown self.new.document self.new.number self.new.refused)
-            (record {
-              before = O.written out.old;
-              after = O.written out.new;
-              faults = O.faults out.old;
-              faults_after = O.faults out.new;
-            }) result }
+            (session (D.painter self.old.document) (standing D.lines D.shown self.old) entries)
+            (standing D.lines D.shown self.new)
+            (sink_change (O.written out.old) (O.written out.new)
+            (O.faults out.old) (O.faults out.new)) result }
         ensures steps { steps.new ≤ steps.old + session_costs (D.painter self.old.document)
-            (standing D.lines D.shown self.old.document self.old.number self.old.refused) entries }
+            (standing D.lines D.shown self.old) entries }
     {
         for entry in entries.into_vec() {
             self.answer_one(alloc, entry, out, steps)?;
@@ -67,18 +63,13 @@ impl<D: Document + Drop> Commands<D> {
     ) -> Result<(), End>
         ensures painter { D.painter self.new.document ≡ D.painter self.old.document }
         ensures answers { Answers
-            (answers (D.painter self.old.document)
-            (standing D.lines D.shown self.old.document self.old.number self.old.refused)
+            (answers (D.painter self.old.document) (standing D.lines D.shown self.old)
             entry.line entry.what)
-            (standing D.lines D.shown self.new.document self.new.number self.new.refused)
-            (record {
-              before = O.written out.old;
-              after = O.written out.new;
-              faults = O.faults out.old;
-              faults_after = O.faults out.new;
-            }) result }
+            (standing D.lines D.shown self.new)
+            (sink_change (O.written out.old) (O.written out.new)
+            (O.faults out.old) (O.faults out.new)) result }
         ensures steps { steps.new ≤ steps.old + entry_costs (D.painter self.old.document)
-            (standing D.lines D.shown self.old.document self.old.number self.old.refused) entry }
+            (standing D.lines D.shown self.old) entry }
     {
         let text = self.answer(alloc, entry, steps)?;
         if put_all(out, text.as_slice()) {
@@ -96,10 +87,8 @@ impl<D: Document + Drop> Commands<D> {
         steps: &mut Steps<L>,
     ) -> Result<List<u8>, Memory>
         ensures painter { D.painter self.new.document ≡ D.painter self.old.document }
-        ensures answer { GivesAnswer result
-            (standing D.lines D.shown self.new.document self.new.number self.new.refused)
-            (answers (D.painter self.old.document)
-            (standing D.lines D.shown self.old.document self.old.number self.old.refused)
+        ensures answer { GivesAnswer result (standing D.lines D.shown self.new)
+            (answers (D.painter self.old.document) (standing D.lines D.shown self.old)
             entry.line entry.what) }
         ensures steps { steps.new ≤ steps.old
             + what_costs (D.painter self.old.document) (D.lines self.old.document) entry.what }
@@ -120,10 +109,8 @@ impl<D: Document + Drop> Commands<D> {
         steps: &mut Steps<L>,
     ) -> Result<List<u8>, Memory>
         ensures painter { D.painter self.new.document ≡ D.painter self.old.document }
-        ensures answer { GivesAnswer result
-            (standing D.lines D.shown self.new.document self.new.number self.new.refused)
-            (answers (D.painter self.old.document)
-            (standing D.lines D.shown self.old.document self.old.number self.old.refused)
+        ensures answer { GivesAnswer result (standing D.lines D.shown self.new)
+            (answers (D.painter self.old.document) (standing D.lines D.shown self.old)
             line (Ok command)) }
         ensures steps { steps.new ≤ steps.old
             + what_costs (D.painter self.old.document) (D.lines self.old.document) (Ok command) }
@@ -149,10 +136,8 @@ impl<D: Document + Drop> Commands<D> {
         requires some { 0 < length (D.lines self.old.document) }
         requires fits { FitsText (length (D.lines self.old.document)) (length lines) resolved }
         ensures painter { D.painter self.new.document ≡ D.painter self.old.document }
-        ensures answer { GivesAnswer result
-            (standing D.lines D.shown self.new.document self.new.number self.new.refused)
-            (carries_out (D.painter self.old.document)
-            (standing D.lines D.shown self.old.document self.old.number self.old.refused)
+        ensures answer { GivesAnswer result (standing D.lines D.shown self.new)
+            (carries_out (D.painter self.old.document) (standing D.lines D.shown self.old)
             line lines resolved) }
         ensures steps { steps.new ≤ steps.old
             + change_costs (D.painter self.old.document) (D.lines self.old.document)
@@ -189,10 +174,8 @@ impl<D: Document + Drop> Commands<D> {
         requires some { 0 < length (replaced (D.lines self.old.document) replacement) }
         requires few { length (replaced (D.lines self.old.document) replacement) ≤ most_lines }
         ensures painter { D.painter self.new.document ≡ D.painter self.old.document }
-        ensures answer { GivesAnswer result
-            (standing D.lines D.shown self.new.document self.new.number self.new.refused)
-            (edits (D.painter self.old.document)
-            (standing D.lines D.shown self.old.document self.old.number self.old.refused)
+        ensures answer { GivesAnswer result (standing D.lines D.shown self.new)
+            (edits (D.painter self.old.document) (standing D.lines D.shown self.old)
             line replacement) }
         ensures steps { steps.new ≤ steps.old
             + (D.painter self.old.document).costs (D.lines self.old.document) replacement }
@@ -207,10 +190,8 @@ impl<D: Document + Drop> Commands<D> {
     /// The refusal of a command.
     fn refuse(&mut self, alloc: Global, line: usize, cause: &[u8]) -> Result<List<u8>, Memory>
         ensures document { self.new.document ≡ self.old.document }
-        ensures answer { GivesAnswer result
-            (standing D.lines D.shown self.new.document self.new.number self.new.refused)
-            (refuses (standing D.lines D.shown self.old.document self.old.number self.old.refused)
-            line cause.now) }
+        ensures answer { GivesAnswer result (standing D.lines D.shown self.new)
+            (refuses (standing D.lines D.shown self.old) line cause.now) }
     {
         let number = one_more(self.number)?;
         if line == usize::MAX {
@@ -225,10 +206,8 @@ impl<D: Document + Drop> Commands<D> {
     fn print_lines(&mut self, alloc: Global, numbers: &[usize]) -> Result<List<u8>, Memory>
         requires { All (λ number. number < length (D.lines self.old.document)) numbers.now }
         ensures document { self.new.document ≡ self.old.document }
-        ensures answer { GivesAnswer result
-            (standing D.lines D.shown self.new.document self.new.number self.new.refused)
-            (prints (standing D.lines D.shown self.old.document self.old.number self.old.refused)
-            (standing D.lines D.shown self.old.document self.old.number self.old.refused).painted
+        ensures answer { GivesAnswer result (standing D.lines D.shown self.new)
+            (prints (standing D.lines D.shown self.old) (standing D.lines D.shown self.old).painted
             (lines_text (D.painter self.old.document) (D.shown self.old.document) numbers.now)) }
     {
         let mut out = self.head(alloc)?;
@@ -241,10 +220,8 @@ impl<D: Document + Drop> Commands<D> {
         requires ordered { a ≤ b }
         requires within { b ≤ length (D.lines self.old.document) }
         ensures document { self.new.document ≡ self.old.document }
-        ensures answer { GivesAnswer result
-            (standing D.lines D.shown self.new.document self.new.number self.new.refused)
-            (prints (standing D.lines D.shown self.old.document self.old.number self.old.refused)
-            (standing D.lines D.shown self.old.document self.old.number self.old.refused).painted
+        ensures answer { GivesAnswer result (standing D.lines D.shown self.new)
+            (prints (standing D.lines D.shown self.old) (standing D.lines D.shown self.old).painted
             (lines_text (D.painter self.old.document) (D.shown self.old.document)
             (range_with_len a (b - a)))) }
     {
@@ -256,10 +233,8 @@ impl<D: Document + Drop> Commands<D> {
     /// The head of a command, and the page.
     fn print_page(&mut self, alloc: Global) -> Result<List<u8>, Memory>
         ensures document { self.new.document ≡ self.old.document }
-        ensures answer { GivesAnswer result
-            (standing D.lines D.shown self.new.document self.new.number self.new.refused)
-            (prints (standing D.lines D.shown self.old.document self.old.number self.old.refused)
-            (standing D.lines D.shown self.old.document self.old.number self.old.refused).painted
+        ensures answer { GivesAnswer result (standing D.lines D.shown self.new)
+            (prints (standing D.lines D.shown self.old) (standing D.lines D.shown self.old).painted
             ((D.painter self.old.document).page (D.lines self.old.document)
             (D.shown self.old.document))) }
     {

@@ -2,9 +2,9 @@
 ghost use Rattle.std.specs.Prelude.{◌≡◌, ◌+◌, ◌<◌, ◌≤◌, ◌++◌, [], length, IfSome, OnOk};
 ghost use Rattle.syn_base.specs.Outside.{AppendsPrefix};
 ghost use Rattle.edit_script.specs.Entries.{entries_at_end, entries_of, kept_of};
-ghost use Rattle.edit_session.specs.Ends.{EndsSo, TakesFew};
+ghost use Rattle.edit_session.specs.Ends.{EndsSo, TakesFew, sink_change, source_change};
 ghost use Rattle.edit_session.specs.Session.{script_costs, script_session, session, session_costs};
-ghost use Rattle.edit_session.specs.Steps.{Answers, EndsReading, ReachesEnd, ReadsPiece, ReadsPieces, StaysWithin, TakesBytes, end_of, standing};
+ghost use Rattle.edit_session.specs.Steps.{Answers, EndsReading, ReachesEnd, ReadsPiece, ReadsPieces, StaysWithin, TakesBytes, end_of, standing, steps_change};
 
 use crate::commands::Commands;
 use crate::document::Document;
@@ -65,18 +65,10 @@ pub fn carry_out_script<D: Document + Drop, I: Source, O: Sink, L: Ledger>(
 ) -> End
     ensures ends { EndsSo (D.painter document)
         (record { text = D.lines document; spans = D.shown document })
-        (record {
-          before = I.left script.old;
-          after = I.left script.new;
-          faults = I.faults script.old;
-          faults_after = I.faults script.new;
-        })
-        (record {
-          before = O.written out.old;
-          after = O.written out.new;
-          faults = O.faults out.old;
-          faults_after = O.faults out.new;
-        }) result }
+        (source_change (I.left script.old) (I.left script.new)
+        (I.faults script.old) (I.faults script.new))
+        (sink_change (O.written out.old) (O.written out.new)
+        (O.faults out.old) (O.faults out.new)) result }
     ensures part { IfSome (I.left script.old) (λ bytes.
         AppendsPrefix (O.written out.old) (O.written out.new)
         (script_session (D.painter document)
@@ -84,12 +76,9 @@ pub fn carry_out_script<D: Document + Drop, I: Source, O: Sink, L: Ledger>(
     ensures steps { IfSome (I.left script.old) (λ bytes.
         steps.new ≤ steps.old + script_costs (D.painter document)
         (record { text = D.lines document; spans = D.shown document }) bytes) }
-    ensures taken { TakesFew (record {
-      before = I.left script.old;
-      after = I.left script.new;
-      faults = I.faults script.old;
-      faults_after = I.faults script.new;
-    }) }
+    ensures taken { TakesFew
+        (source_change (I.left script.old) (I.left script.new)
+        (I.faults script.old) (I.faults script.new)) }
 {
     let mut commands = Commands {
         document,
@@ -118,35 +107,17 @@ fn read_script<D: Document + Drop, I: Source, O: Sink, L: Ledger>(
     steps: &mut Steps<L>,
 ) -> Result<(), End>
     ensures ends { EndsReading (D.painter commands.old.document)
-        (standing D.lines D.shown commands.old.document commands.old.number commands.old.refused)
-        commands.new.refused
-        (record {
-          before = I.left script.old;
-          after = I.left script.new;
-          faults = I.faults script.old;
-          faults_after = I.faults script.new;
-        })
-        (record {
-          before = O.written out.old;
-          after = O.written out.new;
-          faults = O.faults out.old;
-          faults_after = O.faults out.new;
-        }) result }
+        (standing D.lines D.shown commands.old) commands.new.refused
+        (source_change (I.left script.old) (I.left script.new)
+        (I.faults script.old) (I.faults script.new))
+        (sink_change (O.written out.old) (O.written out.new)
+        (O.faults out.old) (O.faults out.new)) result }
     ensures within { StaysWithin (D.painter commands.old.document)
-        (standing D.lines D.shown commands.old.document commands.old.number commands.old.refused)
-        (record {
-          before = I.left script.old;
-          after = I.left script.new;
-          faults = I.faults script.old;
-          faults_after = I.faults script.new;
-        })
-        (record {
-          before = O.written out.old;
-          after = O.written out.new;
-          faults = O.faults out.old;
-          faults_after = O.faults out.new;
-        })
-        (record { before = steps.old; after = steps.new }) }
+        (standing D.lines D.shown commands.old)
+        (source_change (I.left script.old) (I.left script.new)
+        (I.faults script.old) (I.faults script.new))
+        (sink_change (O.written out.old) (O.written out.new) (O.faults out.old) (O.faults out.new))
+        (steps_change steps.old steps.new) }
 {
     let mut buffer = vec![in alloc; 0u8; PIECE]?;
     read_with(alloc, commands, buffer.as_mut_slice(), script, out, steps)
@@ -163,35 +134,17 @@ fn read_with<D: Document + Drop, I: Source, O: Sink, L: Ledger>(
 ) -> Result<(), End>
     requires { length buffer.old ≡ 65536 }
     ensures ends { EndsReading (D.painter commands.old.document)
-        (standing D.lines D.shown commands.old.document commands.old.number commands.old.refused)
-        commands.new.refused
-        (record {
-          before = I.left script.old;
-          after = I.left script.new;
-          faults = I.faults script.old;
-          faults_after = I.faults script.new;
-        })
-        (record {
-          before = O.written out.old;
-          after = O.written out.new;
-          faults = O.faults out.old;
-          faults_after = O.faults out.new;
-        }) result }
+        (standing D.lines D.shown commands.old) commands.new.refused
+        (source_change (I.left script.old) (I.left script.new)
+        (I.faults script.old) (I.faults script.new))
+        (sink_change (O.written out.old) (O.written out.new)
+        (O.faults out.old) (O.faults out.new)) result }
     ensures within { StaysWithin (D.painter commands.old.document)
-        (standing D.lines D.shown commands.old.document commands.old.number commands.old.refused)
-        (record {
-          before = I.left script.old;
-          after = I.left script.new;
-          faults = I.faults script.old;
-          faults_after = I.faults script.new;
-        })
-        (record {
-          before = O.written out.old;
-          after = O.written out.new;
-          faults = O.faults out.old;
-          faults_after = O.faults out.new;
-        })
-        (record { before = steps.old; after = steps.new }) }
+        (standing D.lines D.shown commands.old)
+        (source_change (I.left script.old) (I.left script.new)
+        (I.faults script.old) (I.faults script.new))
+        (sink_change (O.written out.old) (O.written out.new) (O.faults out.old) (O.faults out.new))
+        (steps_change steps.old steps.new) }
 {
     let mut kept = Script::new(alloc);
     match read_pieces(alloc, commands, &mut kept, buffer, script, out, steps) {
@@ -217,22 +170,11 @@ fn read_pieces<D: Document + Drop, I: Source, O: Sink, L: Ledger>(
     requires fresh { kept.old ≡ record { lines = 0; bytes = [] } }
     ensures painter { D.painter commands.new.document ≡ D.painter commands.old.document }
     ensures read { ReadsPieces (D.painter commands.old.document)
-        (standing D.lines D.shown commands.old.document commands.old.number commands.old.refused)
-        (standing D.lines D.shown commands.new.document commands.new.number commands.new.refused)
-        kept.new
-        (record {
-          before = I.left script.old;
-          after = I.left script.new;
-          faults = I.faults script.old;
-          faults_after = I.faults script.new;
-        })
-        (record {
-          before = O.written out.old;
-          after = O.written out.new;
-          faults = O.faults out.old;
-          faults_after = O.faults out.new;
-        })
-        (record { before = steps.old; after = steps.new }) result }
+        (standing D.lines D.shown commands.old) (standing D.lines D.shown commands.new) kept.new
+        (source_change (I.left script.old) (I.left script.new)
+        (I.faults script.old) (I.faults script.new))
+        (sink_change (O.written out.old) (O.written out.new) (O.faults out.old) (O.faults out.new))
+        (steps_change steps.old steps.new) result }
 {
     let mut taken = 0;
     while taken < MOST_BYTES {
@@ -268,22 +210,12 @@ fn read_piece<D: Document + Drop, I: Source, O: Sink, L: Ledger>(
     requires { 0 < length buffer.old }
     ensures painter { D.painter commands.new.document ≡ D.painter commands.old.document }
     ensures piece { ReadsPiece (D.painter commands.old.document)
-        (standing D.lines D.shown commands.old.document commands.old.number commands.old.refused)
-        (standing D.lines D.shown commands.new.document commands.new.number commands.new.refused)
+        (standing D.lines D.shown commands.old) (standing D.lines D.shown commands.new)
         kept.old kept.new (length buffer.old)
-        (record {
-          before = I.left script.old;
-          after = I.left script.new;
-          faults = I.faults script.old;
-          faults_after = I.faults script.new;
-        })
-        (record {
-          before = O.written out.old;
-          after = O.written out.new;
-          faults = O.faults out.old;
-          faults_after = O.faults out.new;
-        })
-        (record { before = steps.old; after = steps.new }) result }
+        (source_change (I.left script.old) (I.left script.new)
+        (I.faults script.old) (I.faults script.new))
+        (sink_change (O.written out.old) (O.written out.new) (O.faults out.old) (O.faults out.new))
+        (steps_change steps.old steps.new) result }
 {
     match take_bytes(script, buffer) {
         Err(end) => Err(end),
@@ -334,18 +266,13 @@ fn feed<D: Document + Drop, O: Sink, L: Ledger>(
     ensures painter { D.painter commands.new.document ≡ D.painter commands.old.document }
     ensures kept { OnOk result (kept.new ≡ kept_of kept.old.lines (kept.old.bytes ++ piece.now)) }
     ensures answers { Answers
-        (session (D.painter commands.old.document)
-        (standing D.lines D.shown commands.old.document commands.old.number commands.old.refused)
+        (session (D.painter commands.old.document) (standing D.lines D.shown commands.old)
         (entries_of kept.old.lines (kept.old.bytes ++ piece.now)))
-        (standing D.lines D.shown commands.new.document commands.new.number commands.new.refused)
-        (record {
-          before = O.written out.old;
-          after = O.written out.new;
-          faults = O.faults out.old;
-          faults_after = O.faults out.new;
-        }) result }
+        (standing D.lines D.shown commands.new)
+        (sink_change (O.written out.old) (O.written out.new)
+        (O.faults out.old) (O.faults out.new)) result }
     ensures steps { steps.new ≤ steps.old + session_costs (D.painter commands.old.document)
-        (standing D.lines D.shown commands.old.document commands.old.number commands.old.refused)
+        (standing D.lines D.shown commands.old)
         (entries_of kept.old.lines (kept.old.bytes ++ piece.now)) }
 {
     let entries = kept.feed(piece)?;
@@ -362,18 +289,13 @@ fn finish<D: Document + Drop, O: Sink, L: Ledger>(
 ) -> Result<(), End>
     ensures painter { D.painter commands.new.document ≡ D.painter commands.old.document }
     ensures answers { Answers
-        (session (D.painter commands.old.document)
-        (standing D.lines D.shown commands.old.document commands.old.number commands.old.refused)
+        (session (D.painter commands.old.document) (standing D.lines D.shown commands.old)
         (entries_at_end kept.lines kept.bytes))
-        (standing D.lines D.shown commands.new.document commands.new.number commands.new.refused)
-        (record {
-          before = O.written out.old;
-          after = O.written out.new;
-          faults = O.faults out.old;
-          faults_after = O.faults out.new;
-        }) result }
+        (standing D.lines D.shown commands.new)
+        (sink_change (O.written out.old) (O.written out.new)
+        (O.faults out.old) (O.faults out.new)) result }
     ensures steps { steps.new ≤ steps.old + session_costs (D.painter commands.old.document)
-        (standing D.lines D.shown commands.old.document commands.old.number commands.old.refused)
+        (standing D.lines D.shown commands.old)
         (entries_at_end kept.lines kept.bytes) }
 {
     let entries = kept.finish()?;

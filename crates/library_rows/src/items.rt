@@ -4,9 +4,17 @@
 //!
 //!     cluster A       the number of a cluster, which is made if it is new
 //!     find A          the number of a cluster, if there is one
+//!     name 0          the name of a cluster
 //!     set 0 1         the cluster has the group of this number from now on
+//!     add 0 @1        it has the cluster of this number besides, or a group
+//!     remove 0 1      it has it no longer
+//!     list 0          what a cluster has
 //!     free 0 0        an item of a group, which contains what the cluster of this number has
 //!     contained 1 0   so a contained item
+//!     dead 1 0        so an item that isn't live
+//!     start 1 a\|b    a region of a group with this start pattern
+//!     copy 0          a copy of an item, live if that is
+//!     tree 0          what is told of the tree of the first start pattern of an item
 //!     group 1         the group of an item
 //!     allowed 1 0     whether an item may start in another one
 //!     next 1 1        whether an item is one of the group
@@ -17,11 +25,13 @@
 
 ghost use Rattle.std.specs.Prelude.{◌<◌, IfOk, length};
 
-use crate::answer::{add_found, add_number, add_whether, begin_answer};
+use crate::answer::{add_found, add_number, add_whether, add_word, begin_answer};
 use crate::fault::{Fault, short_number_of, two_of};
+use crate::patterns::{tree_of, write_tree};
 use std::alloc::Global;
-use syn_base::{GroupId, ItemId, List, Memory};
-use syntax_set::{Change, Clusters, Entry, GroupList, Item, ItemKind, ItemSet, Special};
+use syn_base::{GroupId, ItemId, List, Memory, PatternId};
+use syntax_set::{Change, Clusters, Entry, GroupList, Item, ItemKind, ItemSet, Pattern, Special};
+use vim_pattern::Tree;
 
 /// Clusters and items.
 #[derive(Drop)]
@@ -35,26 +45,38 @@ impl Sets {
     fn carry_out(&mut self, alloc: Global, call: &str, answers: &mut String) -> Result<(), Fault> {
         let (name, rest) = two_of(call)?;
         match name {
-            "set" => self.set(alloc, rest),
-            "free" => self.add(alloc, rest, false, answers),
-            "contained" => self.add(alloc, rest, true, answers),
+            "set" => self.change(alloc, Change::Set, rest),
+            "add" => self.change(alloc, Change::Add, rest),
+            "remove" => self.change(alloc, Change::Remove, rest),
             "clear" => self.clear(rest),
             "settle" => Ok(self.clusters.settle()?),
             "cluster" => add_number(answers, self.clusters.number(rest)? as usize),
             "next" => self.is_next(alloc, rest, answers),
+            "free" | "contained" | "dead" | "start" | "copy" => {
+                let id = self.add(alloc, name, rest)?;
+                add_number(answers, id.0 as usize)
+            }
             _ => self.ask(name, rest, answers),
         }
     }
 
-    fn set(&mut self, alloc: Global, rest: &str) -> Result<(), Fault> {
-        let (cluster, group) = two_of(rest)?;
-        let (cluster, group) = (short_number_of(cluster)?, short_number_of(group)?);
-        if cluster as usize >= self.clusters.len() {
+    fn change(&mut self, alloc: Global, how: Change, rest: &str) -> Result<(), Fault> {
+        let (cluster, entry) = two_of(rest)?;
+        let cluster = self.cluster_of(cluster)?;
+        let list = list_of(alloc, entry_of(entry)?)?;
+        self.clusters.cluster_change(cluster, how, list)?;
+        Ok(())
+    }
+
+    /// The cluster of a number.
+    fn cluster_of(&self, text: &str) -> Result<u32, Fault>
+        ensures { IfOk result (λ cluster. cluster < length self.now.clusters.lists) }
+    {
+        let number = short_number_of(text)?;
+        if number as usize >= self.clusters.len() {
             return Err(Fault::BadCase);
         }
-        let list = list_of(alloc, Entry::Group(GroupId(group)))?;
-        self.clusters.cluster_change(cluster, Change::Set, list)?;
-        Ok(())
+        Ok(number)
     }
 
     fn clear(&mut self, rest: &str) -> Result<(), Fault> {
@@ -62,30 +84,42 @@ impl Sets {
         Ok(())
     }
 
-    fn add(
-        &mut self,
-        alloc: Global,
-        rest: &str,
-        contained: bool,
-        answers: &mut String,
-    ) -> Result<(), Fault> {
-        let (group, cluster) = two_of(rest)?;
-        let (group, cluster) = (short_number_of(group)?, short_number_of(cluster)?);
-        let contains = list_of(alloc, Entry::Cluster(cluster))?;
-        let id = self.items.add_item(item(group, contained, contains))?;
-        add_number(answers, id.0 as usize)
+    /// Adds an item.
+    fn add(&mut self, alloc: Global, name: &str, rest: &str) -> Result<ItemId, Fault> {
+        let id = match name {
+            "free" => self.items.add_item(item(alloc, rest, false)?)?,
+            "contained" => self.items.add_item(item(alloc, rest, true)?)?,
+            "dead" => self.items.add_dead(item(alloc, rest, false)?)?,
+            "start" => self.items.add_item(region(alloc, rest)?)?,
+            _ => self.add_copy(alloc, self.item_of(rest)?)?,
+        };
+        Ok(id)
+    }
+
+    fn add_copy(&mut self, alloc: Global, id: ItemId) -> Result<ItemId, Fault>
+        requires { id.0 < length self.old.items }
+    {
+        let copy = self.items.item(id).copy(alloc)?;
+        if self.items.live(id) {
+            Ok(self.items.add_item(copy)?)
+        } else {
+            Ok(self.items.add_dead(copy)?)
+        }
     }
 
     /// Makes a call that changes nothing.
     fn ask(&self, name: &str, rest: &str, answers: &mut String) -> Result<(), Fault> {
         match name {
             "find" => self.find(rest, answers),
+            "name" => add_word(answers, self.clusters.name(self.cluster_of(rest)?)),
+            "list" => add_list(answers, self.clusters.list(self.cluster_of(rest)?)),
             "group" => add_number(
                 answers,
                 self.items.item(self.item_of(rest)?).group.0 as usize,
             ),
             "allowed" => self.is_allowed(rest, answers),
             "live" => add_whether(answers, self.items.live(self.item_of(rest)?)),
+            "tree" => add_tree(answers, &self.items.item(self.item_of(rest)?).kind),
             "count" => self.count(answers),
             _ => Err(Fault::BadCase),
         }
@@ -145,28 +179,84 @@ fn list_of(alloc: Global, entry: Entry) -> Result<GroupList, Memory> {
     })
 }
 
-/// A keyword item of a group, with what it contains.
-fn item(group: u32, contained: bool, contains: GroupList) -> Item {
-    Item {
-        group: GroupId(group),
-        kind: ItemKind::Keyword,
-        contained,
-        include: 0,
-        ignore: false,
-        contains: Some(contains),
-        containedin: None,
-        nextgroup: None,
-        skipwhite: false,
-        skipnl: false,
-        skipempty: false,
-        transparent: false,
-        oneline: false,
-        keepend: false,
-        extend: false,
-        fold: false,
-        conceal: false,
-        concealends: false,
-        cchar: None,
+/// A group by its number, or a cluster by its number behind `@`.
+fn entry_of(text: &str) -> Result<Entry, Fault> {
+    match text.strip_prefix('@') {
+        Some(cluster) => Ok(Entry::Cluster(short_number_of(cluster)?)),
+        None => Ok(Entry::Group(GroupId(short_number_of(text)?))),
+    }
+}
+
+/// Adds what a list names, or a dash for nothing.
+fn add_list(answers: &mut String, list: &GroupList) -> Result<(), Fault> {
+    if list.entries.is_empty() {
+        return add_word(answers, "");
+    }
+    for entry in list.entries.as_slice() {
+        begin_answer(answers)?;
+        match entry {
+            Entry::Group(group) => write!(answers, "{}", group.0)?,
+            Entry::Cluster(cluster) => write!(answers, "@{cluster}")?,
+        }
+    }
+    Ok(())
+}
+
+/// Adds what is told of the tree of the first start pattern.
+fn add_tree(answers: &mut String, kind: &ItemKind) -> Result<(), Fault> {
+    let ItemKind::Region { starts, .. } = kind else {
+        return Err(Fault::BadCase);
+    };
+    match starts.as_slice().first() {
+        Some(start) => {
+            begin_answer(answers)?;
+            write_tree(answers, &start.tree)
+        }
+        None => Err(Fault::BadCase),
+    }
+}
+
+/// A keyword item of a group, which contains what a cluster has.
+fn item(alloc: Global, rest: &str, contained: bool) -> Result<Item, Fault> {
+    let (group, cluster) = two_of(rest)?;
+    let (group, cluster) = (short_number_of(group)?, short_number_of(cluster)?);
+    let contains = list_of(alloc, Entry::Cluster(cluster))?;
+    let mut item = Item::plain(GroupId(group));
+    item.contained = contained;
+    item.contains = Some(contains);
+    Ok(item)
+}
+
+/// A region of a group with one start pattern, and no end.
+fn region(alloc: Global, rest: &str) -> Result<Item, Fault> {
+    let (group, pattern) = two_of(rest)?;
+    let group = short_number_of(group)?;
+    let tree = tree_of(alloc, pattern)?;
+    let mut starts = List::new(alloc);
+    starts.push(pattern_of(tree))?;
+    let mut item = Item::plain(GroupId(group));
+    item.kind = ItemKind::Region {
+        starts,
+        skip: None,
+        ends: List::new(alloc),
+    };
+    Ok(item)
+}
+
+/// A pattern of which nothing is said but its tree.
+fn pattern_of(tree: Tree) -> Pattern {
+    Pattern {
+        id: PatternId(0),
+        tree,
+        ms: None,
+        me: None,
+        hs: None,
+        he: None,
+        rs: None,
+        re: None,
+        lc: 0,
+        matchgroup: None,
+        excludenl: false,
     }
 }
 

@@ -32,12 +32,13 @@ pub(crate) fn copied(alloc: Global, arguments: &[&str], answer: &mut String) -> 
 }
 
 /// The tree of a start pattern.
-fn tree_of(alloc: Global, pattern: &str) -> Result<Tree, Fault> {
+pub(crate) fn tree_of(alloc: Global, pattern: &str) -> Result<Tree, Fault> {
     let pattern = List::from_chars(alloc, pattern)?;
     Ok(read_pattern(alloc, pattern.as_slice(), PatternUse::Start)?)
 }
 
-fn write_tree(answer: &mut String, tree: &Tree) -> Result<(), Fault> {
+/// Writes what is told of a tree.
+pub(crate) fn write_tree(answer: &mut String, tree: &Tree) -> Result<(), Fault> {
     let groups = tree.groups;
     let externals = tree.externals;
     let case = match tree.case {

@@ -1,8 +1,8 @@
 -- A search in vain tells how later searches end.
-use Rattle.std.proofs.Common.{◌≡◌, ℕ, zero, suc, ◌+◌, List, [], ◌∷◌, ◌++◌, drop, length, refl, ap, sym, ◌∙◌, Bool, true, false, subst}
+use Rattle.std.proofs.Common.{◌≡◌, ℕ, zero, suc, ◌+◌, List, [], ◌∷◌, ◌++◌, drop, length, refl, ap, sym, ◌∙◌, Bool, true, false, subst, zero-add}
 use Rattle.std.specs.Prelude.{Option, Some, None, nat_eq, ◌||◌, if◌then◌else◌}
 use Rattle.std.proofs.lemmas.Bool.{eqb-true}
-use Rattle.pattern_items.specs.Collection.{closing, past_bracket, collection_len, taken_along, name_len, one_if_any}
+use Rattle.pattern_items.specs.Collection.{closing, past_bracket, collection_len, collection_end, end_from, taken_along, name_len, one_if_any}
 use Rattle.pattern_items.specs.ClassNames.{name_at, word}
 use Rattle.pattern_items.specs.declared.class_names.ClassName.{ClassName}
 use Rattle.pattern_items.specs.declared.class_names.ClassName.TheVariants.{Alnum, Alpha, Blank, Cntrl, Digit, Graph, Lower, Print, Punct, Space, Upper, Xdigit, Return, Tab, Escape, Backspace, Ident, Keyword, Fname}
@@ -236,14 +236,28 @@ known_behind false c cs k = tt
 pub known_found : (cs : List ℕ) → collection_len cs ≡ None → Known true cs
 known_found cs e = vain_len cs e
 
-vain_drop : (n : ℕ) (text : List ℕ) → IsVain text → IsVain (drop n text)
+pub vain_drop : (n : ℕ) (text : List ℕ) → IsVain text → IsVain (drop n text)
 vain_drop zero text v = v
 vain_drop (suc n) [] v = v
 vain_drop (suc n) (c ∷ cs) v = vain_drop n cs v.1
 
-known_in_drop : (v : Bool) (n : ℕ) (text : List ℕ) → Known v text → Known v (drop n text)
+pub known_in_drop : (v : Bool) (n : ℕ) (text : List ℕ) → Known v text → Known v (drop n text)
 known_in_drop true n text k = vain_drop n text k
 known_in_drop false n text k = tt
 
 pub known_drop : (v : Bool) (n : ℕ) (text rest : List ℕ) → rest ≡ drop n text → Known v text → Known v rest
 known_drop v n text rest e k = subst (λ t. Known v t) (sym e) (known_in_drop v n text k)
+
+-- of the bracket that begins a text
+
+from_none : (found : Option ℕ) → found ≡ end_from 0 found
+from_none None = refl
+from_none (Some n) = ap Some (sym (zero-add n))
+
+pub end_here : (c : ℕ) (text more : List ℕ) (found : Option ℕ) → text ≡ c ∷ more → c ≡ 91 → found ≡ collection_len more → found ≡ collection_end text 0
+end_here c text more found front bracket e =
+    let begins : text ≡ 91 ∷ more = front ∙ ap (λ d. d ∷ more) bracket in
+    from_none found ∙ ap (end_from 0) e ∙ sym (ap (λ t. collection_end t 0) begins)
+
+pub vain_behind_first : (c : ℕ) (text more : List ℕ) → text ≡ c ∷ more → collection_len more ≡ None → IsVain (drop 1 text)
+vain_behind_first c text more front e = subst (λ t. IsVain (drop 1 t)) (sym front) (vain_len more e)

@@ -28,3 +28,4 @@ pub use item::{Before, Behind, Kind, Level, Multi, PatternUse, Placed, Sign, Sur
 pub use laws::{counts_are_read, levels_of_magic, line_numbers_are_read};
 pub use place::next_item;
 pub use scan::behind;
+pub use vain::first_collection_end;

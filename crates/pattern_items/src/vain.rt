@@ -1,6 +1,6 @@
 //! Searches for a closing bracket that were in vain.
-ghost use Rattle.std.specs.Prelude.{◌≡◌, ◌^◌, ◌∷◌, ◌<◌, ◌≤◌, ◌+◌, length, IfSome};
-ghost use Rattle.pattern_items.specs.Collection.{collection_len};
+ghost use Rattle.std.specs.Prelude.{◌≡◌, ◌^◌, ◌∷◌, ◌<◌, ◌≤◌, ◌+◌, drop, length, IfSome};
+ghost use Rattle.pattern_items.specs.Collection.{collection_end, collection_len};
 ghost use Rattle.pattern_items.specs.Vain as spec;
 ghost use Rattle.pattern_items.specs.Vain.{Known};
 
@@ -54,4 +54,24 @@ pub fn vain_behind(in_vain: bool, raw: &Raw, more: &[char]) -> bool
     ensures { Known result more.now }
 {
     in_vain || (matches!(raw, Raw::LoneBracket) && collection_len(more).is_none())
+}
+
+/// The place of the bracket that closes the collection whose bracket is a text's first character.
+/// `in_vain` remembers whether a search for it was in vain, as for `next_item`.
+#[tactic(auto, using(crate::proofs::VainLaws::end_here, crate::proofs::VainLaws::known_in_drop))]
+pub fn first_collection_end(in_vain: &mut bool, text: &[char]) -> Option<usize>
+    requires known { Known in_vain.old text.now }
+    ensures value { result ≡ collection_end text.now 0 }
+    ensures known { Known in_vain.new (drop 1 text.now) }
+{
+    match front(text) {
+        Some(('[', more)) => match known_len(*in_vain, more) {
+            None => {
+                *in_vain = true;
+                None
+            }
+            Some(len) => Some(len),
+        },
+        _ => None,
+    }
 }

@@ -1,10 +1,11 @@
 -- What a memo of a line remembers: columns at which the screen of a pattern fails.
 use Rattle.std.specs.Prelude.{◌≡◌, ℕ, ◌≤◌, ◌<◌, Bool, true, false, List, Option, Some, None, slice_get, length}
-use Rattle.std.specs.List.{All}
 use Rattle.char_class.specs.declared.sets.Sets.{Sets}
 use Rattle.vim_pattern.specs.Tree.{PatternTree}
 use Rattle.pattern_match.specs.Screens.{passes_at}
 use Rattle.pattern_match.specs.declared.memo.Entry.{Entry}
+use Rattle.pattern_match.specs.declared.memo.LineMemo.{LineMemo}
+use Rattle.slots.specs.Entries.{IsAt}
 
 -- it fails from a column up to, and without, another
 abbrev pub FailsFrom : PatternTree → Sets → Bool → List ℕ → ℕ → ℕ → Type 0
@@ -17,8 +18,8 @@ EntryStands trees sets line e =
     (tree : PatternTree) → slice_get trees e.id.0 ≡ Some tree →
     FailsFrom tree sets e.ignore line e.from e.to
 
-abbrev pub MemoStands : List PatternTree → Sets → List ℕ → List Entry → Type 0
-MemoStands trees sets line entries = All (EntryStands trees sets line) entries
+abbrev pub MemoStands : List PatternTree → Sets → List ℕ → LineMemo → Type 0
+MemoStands trees sets line memo = (k : ℕ) (e : Entry) → IsAt memo.entries k e → EntryStands trees sets line e
 
 -- the least column from one on at which the screen passes; none where there is none up to the
 -- length

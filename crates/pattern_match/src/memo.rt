@@ -1,5 +1,5 @@
 //! What is remembered of a line: columns at which a pattern's screen fails.
-ghost use Rattle.std.specs.Prelude.{◌≡◌, ◌≤◌, ◌<◌, ℕ, List, [], ◌∷◌, ◌++◌, length, true, slice_get, Some, IfOk, OnOk, OnErr};
+ghost use Rattle.std.specs.Prelude.{◌≡◌, ◌≤◌, ◌<◌, ℕ, List, length, true, slice_get, Some, IfOk};
 ghost use Rattle.char_class.specs.declared.sets.Sets.{Sets as SetsOf};
 ghost use Rattle.vim_pattern.specs.Tree.{PatternTree};
 ghost use Rattle.pattern_match.specs.Memo.{EntryStands, FailsFrom, IsNext, MemoStands};
@@ -7,8 +7,8 @@ ghost use Rattle.pattern_match.specs.Screens.{passes_at};
 
 use crate::context::Context;
 use crate::programs::Programs;
+use slots::Table;
 use std::alloc::Global;
-use std::marker::Model;
 use syn_base::{Memory, PatternId};
 
 /// A pattern's screen fails from a column up to, and without, another.
@@ -20,29 +20,20 @@ pub struct Entry {
     pub to: usize,
 }
 
-/// What is remembered of a line. A pattern has two places, one for each case, so an entry is found
-/// at once; an entry says itself of which pattern it is.
+/// What is remembered of a line. A pattern has two entries, one for each case.
 #[derive(Drop)]
 pub struct LineMemo {
-    entries: Vec<Entry>,
-}
-
-impl Model for LineMemo {
-    ghost use Rattle.std.specs.Prelude.{List};
-    ghost use Rattle.pattern_match.specs.declared.memo.Entry.{Entry};
-
-    ghost Value = { List Entry };
-
-    ghost view = { λ m. m.entries.items };
+    entries: Table<Entry>,
 }
 
 impl LineMemo {
     /// Nothing is remembered. It takes no memory.
     pub fn new(alloc: Global) -> LineMemo
-        ensures { result ≡ [] }
+        ensures { (trees : List PatternTree) (sets : SetsOf) (line : List ℕ) →
+            MemoStands trees sets line result }
     {
         LineMemo {
-            entries: Vec::new(alloc),
+            entries: Table::new(alloc),
         }
     }
 
@@ -79,10 +70,10 @@ impl LineMemo {
         ensures stands { (trees : List PatternTree) (sets : SetsOf) (line : List ℕ) →
             MemoStands trees sets line self.now → EntryStands trees sets line result }
     {
-        if let Some(entry) = self.entries.get(place_of(id, ignore)) {
+        if let Some(entry) = self.entries.get(number_of(id, ignore)) {
             let is_it = entry.id == id && entry.ignore == ignore;
             if is_it && entry.from <= col && col <= entry.to {
-                return *entry;
+                return entry;
             }
         }
         Entry {
@@ -93,57 +84,18 @@ impl LineMemo {
         }
     }
 
-    /// Keeps an entry at its place.
+    /// Keeps an entry.
     fn keep(&mut self, entry: Entry) -> Result<(), Memory>
         ensures { (trees : List PatternTree) (sets : SetsOf) (line : List ℕ) →
             MemoStands trees sets line self.old → EntryStands trees sets line entry →
             MemoStands trees sets line self.new }
     {
-        let place = place_of(entry.id, entry.ignore);
-        if place < self.entries.len() {
-            self.entries[place] = entry;
-            return Ok(());
-        }
-        self.fill(place)?;
-        self.put(entry)
-    }
-
-    /// Puts empty entries before a place.
-    fn fill(&mut self, place: usize) -> Result<(), Memory>
-        ensures { (trees : List PatternTree) (sets : SetsOf) (line : List ℕ) →
-            MemoStands trees sets line self.old → MemoStands trees sets line self.new }
-    {
-        for _ in self.entries.len()..place {
-            self.put_empty()?;
-        }
-        Ok(())
-    }
-
-    /// Puts an entry at the end that says nothing.
-    fn put_empty(&mut self) -> Result<(), Memory>
-        ensures { (trees : List PatternTree) (sets : SetsOf) (line : List ℕ) →
-            MemoStands trees sets line self.old → MemoStands trees sets line self.new }
-    {
-        self.put(Entry {
-            id: PatternId(0),
-            ignore: false,
-            from: 0,
-            to: 0,
-        })
-    }
-
-    /// Puts an entry at the end.
-    fn put(&mut self, entry: Entry) -> Result<(), Memory>
-        ensures ok { OnOk result (self.new ≡ self.old ++ entry ∷ []) }
-        ensures err { OnErr result (self.new ≡ self.old) }
-    {
-        self.entries.push(entry)?;
-        Ok(())
+        self.entries.put(number_of(entry.id, entry.ignore), entry)
     }
 }
 
-/// Where the entry of a pattern stands.
-fn place_of(id: PatternId, ignore: bool) -> usize {
+/// The number of the entry of a pattern.
+fn number_of(id: PatternId, ignore: bool) -> usize {
     2 * id.0 as usize + usize::from(ignore)
 }
 

@@ -48,9 +48,14 @@ pub(crate) fn write_attempt<W: Write>(
     }
 }
 
+/// Writes the lines that were looked at, and whether a line's number was.
 fn write_looked<W: Write>(out: &mut W, looked: Looked) -> io::Result<()> {
     let (low, high) = (looked.low, looked.high);
-    writeln!(out, " looked={low}..{high}")
+    if looked.numbered {
+        writeln!(out, " looked={low}..{high} numbered")
+    } else {
+        writeln!(out, " looked={low}..{high}")
+    }
 }
 
 /// Writes a match: where it runs, and what its groups hold.

@@ -8,6 +8,7 @@ use Rattle.syntax_set.specs.declared.item.ItemKind.TheVariants as item_kind
 use Rattle.syntax_set.specs.declared.item.GroupList.{GroupList}
 use Rattle.syntax_set.specs.declared.item.Pattern.{Pattern}
 use Rattle.syntax_set.specs.declared.added_item.AddedItem.{AddedItem}
+use Rattle.syntax_set.specs.Items.{plain_item}
 use Rattle.keyword_table.specs.declared.table.Definition.{Definition}
 use Rattle.vim_pattern.specs.Tree.{PatternTree}
 use Rattle.word_values.specs.GroupNames.{is_none}
@@ -34,27 +35,7 @@ use Rattle.syn_reader.specs.Contents.{contents_of}
 
 -- an item of which nothing is said yet but its group, the case and the include that hold
 abbrev pub new_item : GroupId → Bool → ℕ → Item
-new_item group ignore include = record {
-  group = group;
-  kind = item_kind.Keyword;
-  contained = false;
-  include = include;
-  ignore = ignore;
-  contains = None;
-  containedin = None;
-  nextgroup = None;
-  skipwhite = false;
-  skipnl = false;
-  skipempty = false;
-  transparent = false;
-  oneline = false;
-  keepend = false;
-  extend = false;
-  fold = false;
-  conceal = false;
-  concealends = false;
-  cchar = None;
-}
+new_item group ignore include = record (plain_item group) { ignore = ignore; include = include }
 
 abbrev pub new_draft : GroupId → Bool → ℕ → Draft
 new_draft group ignore include = record {

@@ -2,6 +2,7 @@
 -- before the command. Only then the list's new names are made. A list has each group and each cluster once, at its first place.
 use Rattle.std.specs.Prelude.{ℕ, Bool, List, [], ◌∷◌, ◌++◌, fold, if◌then◌else◌, Result, Ok}
 use Rattle.syn_base.specs.declared.places.GroupId.{GroupId}
+pub use Rattle.syntax_set.specs.ClusterLists.{groups_in, clusters_in}
 use Rattle.syntax_set.specs.Numbers.{has_number}
 use Rattle.syntax_set.specs.declared.item.Entry.{Entry}
 use Rattle.syntax_set.specs.declared.item.Entry.TheVariants as entry
@@ -42,17 +43,6 @@ abbrev pub list_read : List (List ℕ) → NamedList → Result ReadList Cause
 list_read groups list = do
   names ← each (with_name_read groups) [] list.names
   Ok (record { special = list.special; names = names })
-
--- the groups that entries name, and the clusters
-abbrev pub groups_in : List Entry → List ℕ
-groups_in [] = []
-groups_in (entry.Group group ∷ entries) = group.0 ∷ groups_in entries
-groups_in (entry.Cluster cluster ∷ entries) = groups_in entries
-
-abbrev pub clusters_in : List Entry → List ℕ
-clusters_in [] = []
-clusters_in (entry.Group group ∷ entries) = clusters_in entries
-clusters_in (entry.Cluster cluster ∷ entries) = cluster ∷ clusters_in entries
 
 abbrev pub has_entry : List Entry → Entry → Bool
 has_entry entries (entry.Group group) = has_number (groups_in entries) group.0

@@ -32,27 +32,10 @@ pub(crate) struct Draft {
 fn new_item(group: GroupId, ignore: bool, include: u32) -> Item
     ensures { result ≡ spec.new_item group ignore include }
 {
-    Item {
-        group,
-        kind: ItemKind::Keyword,
-        contained: false,
-        include,
-        ignore,
-        contains: None,
-        containedin: None,
-        nextgroup: None,
-        skipwhite: false,
-        skipnl: false,
-        skipempty: false,
-        transparent: false,
-        oneline: false,
-        keepend: false,
-        extend: false,
-        fold: false,
-        conceal: false,
-        concealends: false,
-        cchar: None,
-    }
+    let mut item = Item::plain(group);
+    item.ignore = ignore;
+    item.include = include;
+    item
 }
 
 fn with_kind(item: Item, kind: ItemKind) -> Item

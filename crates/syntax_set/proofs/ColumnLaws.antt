@@ -13,7 +13,6 @@ use Rattle.std.specs.List.{list_any}
 use Rattle.std.specs.Prelude.{◌&&◌, nat_eq, nat_lt, fold, if◌then◌else◌}
 use Rattle.syntax_set.specs.Numbers.{has_number}
 use Rattle.syntax_set.specs.ClusterTable.{ClusterList}
-use Rattle.syntax_set.specs.ClusterLists.{list_at}
 use Rattle.syntax_set.specs.Membership.{cluster_has}
 use Rattle.syntax_set.specs.Reached.{leads_to, names_group, has_bit, word_at, own_word, with_word, named_words, next_word, IsColumn, AreColumns, NamesAt, NamesNone}
 use Rattle.syntax_set.proofs.Passing.{or_assoc, or_false, list_any-same, is_itself}

@@ -8,37 +8,17 @@ use Rattle.syntax_set.specs.declared.item.Entry.{Entry}
 use Rattle.syntax_set.specs.declared.item.Entry.TheVariants.{Group, Cluster}
 use Rattle.syntax_set.specs.declared.item.GroupList.{GroupList}
 use Rattle.syntax_set.specs.declared.item.Item.{Item}
-use Rattle.syntax_set.specs.declared.item.ItemKind.TheVariants.{Keyword}
 use Rattle.syntax_set.specs.declared.item.Special.{Special}
 use Rattle.syntax_set.specs.declared.item.Special.TheVariants.{Plain, All, AllBut, Top, Contained, Nothing}
 use Rattle.syntax_set.specs.ClusterTable.{ClusterList, no_list, no_clusters}
-use Rattle.syntax_set.specs.ClusterLists.{changed, with_cluster}
+use Rattle.syntax_set.specs.ClusterLists.{changed, with_cluster, IsListOf}
+use Rattle.syntax_set.specs.Items.{plain_item, with_item}
 use Rattle.syntax_set.specs.Membership.{cluster_has, entries_have, is_member}
 use Rattle.syntax_set.specs.Allowed.{is_allowed, is_in_next, cleared}
 
 -- an item of a group, with what decides where it may start
 abbrev pub item_of : ℕ → Bool → ℕ → Item
-item_of group contained include = record {
-  group = record { 0 = group };
-  kind = Keyword;
-  contained = contained;
-  include = include;
-  ignore = false;
-  contains = None;
-  containedin = None;
-  nextgroup = None;
-  skipwhite = false;
-  skipnl = false;
-  skipempty = false;
-  transparent = false;
-  oneline = false;
-  keepend = false;
-  extend = false;
-  fold = false;
-  conceal = false;
-  concealends = false;
-  cchar = None;
-}
+item_of group contained include = record (plain_item (record { 0 = group })) { contained = contained; include = include }
 
 abbrev pub live_item : ℕ → Bool → ℕ → AddedItem
 live_item group contained include = record { item = item_of group contained include; live = true }
@@ -162,3 +142,14 @@ removed = refl
 -- a cluster keeps the name that it was first given
 first_name : with_cluster (with_cluster no_clusters (codes "Sub")) (codes "sUB") ≡ record { names = codes "Sub" ∷ []; lists = no_list ∷ [] }
 first_name = refl
+
+-- a list shows what was named first in front; where clusters stand among groups is free
+shown_list : IsListOf (record { groups = 1 ∷ 3 ∷ []; clusters = 0 ∷ [] }) (list_of Plain (group 1 ∷ Cluster 0 ∷ group 3 ∷ []))
+shown_list = record { plain = refl; groups = refl; clusters = refl }
+
+-- an item that is added dead stands behind the others, and starts nowhere
+added_dead : is_allowed (with_item false [] (item_of 5 false 0)) [] (numbered 0) None ≡ false
+added_dead = refl
+
+added_live : is_allowed (with_item true [] (item_of 5 false 0)) [] (numbered 0) None ≡ true
+added_live = refl

@@ -9,4 +9,5 @@ pub mod PlaceLaws
 pub mod KeptLaws
 mod KnownLists
 pub mod EntryLaws
+pub mod ListedLaws
 pub mod SoundLaws

@@ -1,12 +1,14 @@
 -- What a cluster has (Vim's help, :syn-cluster): groups and other clusters, each once, in the order in
 -- which they were first named. `contains` of a cluster command gives it a new list, `add` adds to what it
 -- has, and `remove` takes from it.
-use Rattle.std.specs.Prelude.{◌≡◌, ℕ, List, [], ◌∷◌, ◌++◌, length, take, fold, Option, if◌then◌else◌, position, is_some, slice_get, slice_set, unwrap_or}
+use Rattle.std.specs.Prelude.{◌≡◌, ℕ, List, [], ◌∷◌, ◌++◌, length, map, take, fold, Option, if◌then◌else◌, position, is_some, slice_get, slice_set, unwrap_or}
 use Rattle.syntax_set.specs.declared.clusters.Change.{Change}
 use Rattle.syntax_set.specs.declared.clusters.Change.TheVariants.{Set, Add, Remove}
 use Rattle.syntax_set.specs.declared.item.Entry.{Entry}
 use Rattle.syntax_set.specs.declared.item.Entry.TheVariants.{Group, Cluster}
-use Rattle.syntax_set.specs.Groups.{is_same_name}
+use Rattle.syntax_set.specs.declared.item.GroupList.{GroupList}
+use Rattle.syntax_set.specs.declared.item.Special.TheVariants.{Plain}
+use Rattle.syntax_set.specs.Groups.{is_same_name, group_numbered}
 use Rattle.syntax_set.specs.Numbers.{with_number, without}
 use Rattle.syntax_set.specs.ClusterTable.{ClusterList, ClusterTable, no_list}
 
@@ -32,6 +34,32 @@ abbrev pub changed : Change → ClusterList → List Entry → ClusterList
 changed Set list entries = with_entries no_list entries
 changed Add list entries = with_entries list entries
 changed Remove list entries = less list (with_entries no_list entries)
+
+-- the groups that entries name, and the clusters
+abbrev pub groups_in : List Entry → List ℕ
+groups_in [] = []
+groups_in (Group group ∷ entries) = group.0 ∷ groups_in entries
+groups_in (Cluster cluster ∷ entries) = groups_in entries
+
+abbrev pub clusters_in : List Entry → List ℕ
+clusters_in [] = []
+clusters_in (Group group ∷ entries) = clusters_in entries
+clusters_in (Cluster cluster ∷ entries) = cluster ∷ clusters_in entries
+
+-- What a cluster has, as a list of an item's option: it says no more than names, which are these groups
+-- and these clusters, each of the two in their order.
+pub record IsListOf (list : ClusterList) (option : GroupList) : Type 0 where
+  pub plain : option.special ≡ Plain
+  pub groups : groups_in option.entries ≡ list.groups
+  pub clusters : clusters_in option.entries ≡ list.clusters
+
+-- the entry of a group
+abbrev pub group_entry : ℕ → Entry
+group_entry number = Group (group_numbered number)
+
+-- the entries of groups, and of clusters behind them
+abbrev pub entries_of : List ℕ → List ℕ → List Entry
+entries_of groups clusters = map group_entry groups ++ map Cluster clusters
 
 -- the list of a cluster, empty where no cluster has that number
 abbrev pub list_at : List ClusterList → ℕ → ClusterList

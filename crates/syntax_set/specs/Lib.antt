@@ -3,6 +3,7 @@ pub mod Groups
 pub mod Numbers
 pub mod ClusterTable
 pub mod ClusterLists
+pub mod Items
 pub mod Membership
 pub mod Allowed
 pub mod Soundness

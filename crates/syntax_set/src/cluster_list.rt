@@ -1,19 +1,20 @@
 //! What one cluster has.
-ghost use Rattle.std.specs.Prelude.{◌≡◌, IfOk, OnOk, OnErr};
-ghost use Rattle.syntax_set.specs.ClusterLists.{changed, less, with_entries, with_entry, BeginsWith};
+ghost use Rattle.std.specs.Prelude.{◌≡◌, ◌≤◌, ◌++◌, IfOk, OnOk, OnErr, drop, length, map};
+ghost use Rattle.syntax_set.specs.ClusterLists.{changed, entries_of, group_entry, less, with_entries, BeginsWith, IsListOf};
 ghost use Rattle.syntax_set.specs.ClusterTable.{no_list};
 
+use crate::named::Named;
 use crate::number_set::NumberSet;
-use crate::{Change, Entry};
+use crate::{Change, Entry, GroupList, Special};
 use std::alloc::Global;
 use std::marker::Model;
-use syn_base::{List, Memory};
+use syn_base::{GroupId, List, Memory};
 
-/// The groups and clusters that a cluster names, each once.
+/// The groups and clusters that a cluster names, each once: by kind, and as one list.
 #[derive(Drop)]
 pub(crate) struct ClusterList {
-    groups: NumberSet,
-    clusters: NumberSet,
+    named: Named,
+    list: GroupList,
 }
 
 impl Model for ClusterList {
@@ -21,7 +22,11 @@ impl Model for ClusterList {
 
     ghost Value = { table.ClusterList };
 
-    ghost view = { λ a. record { groups = a.groups; clusters = a.clusters } };
+    ghost use Rattle.syntax_set.specs.ClusterLists.{IsListOf};
+
+    ghost view = { λ a. a.named };
+
+    ghost invariant = { λ a. IsListOf a.named a.list };
 }
 
 impl ClusterList {
@@ -30,21 +35,30 @@ impl ClusterList {
         ensures { result ≡ no_list }
     {
         ClusterList {
-            groups: NumberSet::new(alloc),
-            clusters: NumberSet::new(alloc),
+            named: Named::new(alloc),
+            list: GroupList {
+                special: Special::Plain,
+                entries: List::new(alloc),
+            },
         }
     }
 
     pub(crate) fn groups(&self) -> &NumberSet
         ensures { result.now ≡ self.now.groups }
     {
-        &self.groups
+        self.named.groups()
     }
 
     pub(crate) fn clusters(&self) -> &[u32]
         ensures { result.now ≡ self.now.clusters }
     {
-        self.clusters.as_slice()
+        self.named.clusters()
+    }
+
+    pub(crate) fn list(&self) -> &GroupList
+        ensures { IsListOf self.now result.now }
+    {
+        &self.list
     }
 
     /// Carries out one part of a cluster command.
@@ -59,7 +73,7 @@ impl ClusterList {
     {
         match how {
             Change::Set => self.set(alloc, entries),
-            Change::Add => self.add(entries),
+            Change::Add => self.add(alloc, entries),
             Change::Remove => self.remove(alloc, entries),
         }
     }
@@ -68,7 +82,7 @@ impl ClusterList {
         ensures ok { OnOk result (self.new ≡ with_entries no_list entries.now) }
         ensures err { OnErr result (self.new ≡ self.old) }
     {
-        *self = ClusterList::of(alloc, entries)?;
+        *self = listed(alloc, Named::of(alloc, entries)?)?;
         Ok(())
     }
 
@@ -77,69 +91,101 @@ impl ClusterList {
         ensures ok { OnOk result (self.new ≡ less self.old (with_entries no_list entries.now)) }
         ensures err { OnErr result (self.new ≡ self.old) }
     {
-        *self = self.without(alloc, entries)?;
+        *self = listed(alloc, self.named.without(alloc, entries)?)?;
         Ok(())
-    }
-
-    /// The list without the entries.
-    fn without(&self, alloc: Global, entries: &List<Entry>) -> Result<ClusterList, Memory>
-        ensures { IfOk result (λ list. list ≡ less self.now (with_entries no_list entries.now)) }
-    {
-        let other = ClusterList::of(alloc, entries)?;
-        self.less(alloc, &other)
-    }
-
-    /// The list of these entries.
-    fn of(alloc: Global, entries: &List<Entry>) -> Result<ClusterList, Memory>
-        ensures { IfOk result (λ list. list ≡ with_entries no_list entries.now) }
-    {
-        let mut list = ClusterList::new(alloc);
-        list.insert_all(entries)?;
-        Ok(list)
     }
 
     /// Puts the entries at the end, or none of them.
-    fn add(&mut self, entries: &List<Entry>) -> Result<(), Memory>
+    fn add(&mut self, alloc: Global, entries: &List<Entry>) -> Result<(), Memory>
         ensures ok { OnOk result (self.new ≡ with_entries self.old entries.now) }
         ensures err { OnErr result (self.new ≡ self.old) }
     {
-        let groups = self.groups.len();
-        let clusters = self.clusters.len();
-        let added = self.insert_all(entries);
-        if added.is_err() {
-            self.groups.truncate(groups);
-            self.clusters.truncate(clusters);
-        }
-        added
-    }
-
-    /// Puts the entries at the end, perhaps not all of them where memory is wanting.
-    fn insert_all(&mut self, entries: &List<Entry>) -> Result<(), Memory>
-        ensures ok { OnOk result (self.new ≡ with_entries self.old entries.now) }
-        ensures err { OnErr result (BeginsWith self.new self.old) }
-    {
-        for entry in entries.as_slice() {
-            self.insert(*entry)?;
-        }
-        Ok(())
-    }
-
-    fn insert(&mut self, entry: Entry) -> Result<(), Memory>
-        ensures ok { OnOk result (self.new ≡ with_entry self.old entry) }
-        ensures err { OnErr result (self.new ≡ self.old) }
-    {
-        match entry {
-            Entry::Group(group) => self.groups.insert(group.0),
-            Entry::Cluster(cluster) => self.clusters.insert(cluster),
+        let groups = self.named.groups().len();
+        let clusters = self.named.clusters().len();
+        match insert_all(alloc, &mut self.named, &mut self.list.entries, entries) {
+            Ok(()) => Ok(()),
+            Err(memory) => {
+                self.named.truncate(groups, clusters);
+                Err(memory)
+            }
         }
     }
+}
 
-    /// The list without what another has.
-    fn less(&self, alloc: Global, other: &ClusterList) -> Result<ClusterList, Memory>
-        ensures { IfOk result (λ list. list ≡ less self.now other.now) }
-    {
-        let groups = self.groups.without(alloc, &other.groups)?;
-        let clusters = self.clusters.without(alloc, &other.clusters)?;
-        Ok(ClusterList { groups, clusters })
-    }
+/// What a cluster has that names these.
+fn listed(alloc: Global, named: Named) -> Result<ClusterList, Memory>
+    ensures { IfOk result (λ list. list ≡ named) }
+{
+    let entries = entries_of(alloc, named.groups().as_slice(), named.clusters())?;
+    let list = GroupList {
+        special: Special::Plain,
+        entries,
+    };
+    Ok(ClusterList { named, list })
+}
+
+/// Names these entries too, and puts those that are new behind the list. Where memory is wanting,
+/// perhaps some of them are named, and none is put.
+fn insert_all(
+    alloc: Global,
+    named: &mut Named,
+    list: &mut List<Entry>,
+    more: &List<Entry>,
+) -> Result<(), Memory>
+    ensures begins { BeginsWith named.new named.old }
+    ensures named { OnOk result (named.new ≡ with_entries named.old more.now) }
+    ensures listed { OnOk result (list.new ≡ list.old
+        ++ entries_of (drop (length named.old.groups) named.new.groups)
+        (drop (length named.old.clusters) named.new.clusters)) }
+    ensures unlisted { OnErr result (list.new ≡ list.old) }
+{
+    let groups = named.groups().len();
+    let clusters = named.clusters().len();
+    named.insert_all(more)?;
+    let new = entries_from(alloc, named, groups, clusters)?;
+    list.extend_from_slice(new.as_slice())
+}
+
+/// What is named from these places on.
+fn entries_from(
+    alloc: Global,
+    named: &Named,
+    groups: usize,
+    clusters: usize,
+) -> Result<List<Entry>, Memory>
+    requires groups { groups ≤ length named.now.groups }
+    requires clusters { clusters ≤ length named.now.clusters }
+    ensures { IfOk result (λ entries. entries ≡ entries_of
+        (drop groups named.now.groups) (drop clusters named.now.clusters)) }
+{
+    entries_of(
+        alloc,
+        &named.groups().as_slice()[groups..],
+        &named.clusters()[clusters..],
+    )
+}
+
+/// The entries of these groups, and of these clusters behind them.
+fn entries_of(alloc: Global, groups: &[u32], clusters: &[u32]) -> Result<List<Entry>, Memory>
+    ensures { IfOk result (λ entries. entries ≡ entries_of groups.now clusters.now) }
+{
+    let mut entries = List::from_vec(groups_of(alloc, groups)?);
+    entries.extend_from_slice(&clusters_of(alloc, clusters)?)?;
+    Ok(entries)
+}
+
+/// The entries of groups.
+fn groups_of(alloc: Global, groups: &[u32]) -> Result<Vec<Entry>, Memory>
+    ensures { IfOk result (λ entries. entries.items ≡ map group_entry groups.now) }
+{
+    let named = groups.iter().map(|group| Entry::Group(GroupId(*group)));
+    Ok(named.collect(alloc)?)
+}
+
+/// The entries of clusters.
+fn clusters_of(alloc: Global, clusters: &[u32]) -> Result<Vec<Entry>, Memory>
+    ensures { IfOk result (λ entries. entries.items ≡ map Entry.Cluster clusters.now) }
+{
+    let named = clusters.iter().map(|cluster| Entry::Cluster(*cluster));
+    Ok(named.collect(alloc)?)
 }

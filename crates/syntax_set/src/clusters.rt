@@ -1,6 +1,6 @@
 //! Clusters by name.
-ghost use Rattle.std.specs.Prelude.{◌≡◌, ◌≤◌, ◌<◌, ◌==◌, [], length, Some, IfOk, IfErr, OnOk, OnErr};
-ghost use Rattle.syntax_set.specs.ClusterLists.{cluster_of, with_change, with_cluster};
+ghost use Rattle.std.specs.Prelude.{◌≡◌, ◌≤◌, ◌<◌, ◌==◌, [], length, slice_get, Some, IfOk, IfErr, OnOk, OnErr};
+ghost use Rattle.syntax_set.specs.ClusterLists.{cluster_of, list_at, with_change, with_cluster, IsListOf};
 ghost use Rattle.syntax_set.specs.ClusterTable.{no_clusters};
 ghost use Rattle.syntax_set.specs.Groups.{IsRefusedGroup};
 ghost use Rattle.syntax_set.specs.Membership.{cluster_has, entry_has};
@@ -105,6 +105,23 @@ impl Clusters {
         self.lists.push(ClusterList::new(self.alloc)).unwrap();
         self.reached = None;
         Ok(cluster)
+    }
+
+    /// The name of a cluster as it was first written.
+    pub fn name(&self, cluster: u32) -> &str
+        requires { cluster < length self.now.lists }
+        ensures { Some result.now ≡ slice_get self.now.names cluster }
+    {
+        self.names.name(GroupId(cluster))
+    }
+
+    /// What a cluster has: groups and clusters, each once. Each of the two kinds stands in the order in
+    /// which it was first named; how the kinds are mixed says nothing.
+    pub fn list(&self, cluster: u32) -> &GroupList
+        requires { cluster < length self.now.lists }
+        ensures { IsListOf (list_at self.now.lists cluster) result.now }
+    {
+        self.lists[cluster as usize].list()
     }
 
     /// Carries out one part of a cluster command (`:syn-cluster`). Of the list its entries alone

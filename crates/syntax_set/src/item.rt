@@ -1,4 +1,6 @@
 //! Syntax items and what they consist of.
+ghost use Rattle.std.specs.Prelude.{◌≡◌};
+ghost use Rattle.syntax_set.specs.Items.{plain_item};
 
 use syn_base::{GroupId, List, PatternId};
 use vim_pattern::Tree;
@@ -106,4 +108,34 @@ pub struct Item {
     pub conceal: bool,
     pub concealends: bool,
     pub cchar: Option<char>,
+}
+
+impl Item {
+    /// A keyword item of which nothing is said but its group: no option holds, case matters, and it
+    /// was read outside all includes.
+    pub fn plain(group: GroupId) -> Item
+        ensures { result ≡ plain_item group }
+    {
+        Item {
+            group,
+            kind: ItemKind::Keyword,
+            contained: false,
+            include: 0,
+            ignore: false,
+            contains: None,
+            containedin: None,
+            nextgroup: None,
+            skipwhite: false,
+            skipnl: false,
+            skipempty: false,
+            transparent: false,
+            oneline: false,
+            keepend: false,
+            extend: false,
+            fold: false,
+            conceal: false,
+            concealends: false,
+            cchar: None,
+        }
+    }
 }

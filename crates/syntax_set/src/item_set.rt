@@ -1,7 +1,8 @@
 //! The items of a syntax by number.
-ghost use Rattle.std.specs.Prelude.{◌≡◌, ◌≤◌, ◌<◌, ◌==◌, [], ◌∷◌, ◌++◌, length, map, count_by, slice_get, Some, option_map, IsErrOf, IfOk, OnOk, OnErr, ◌↔◌, true};
+ghost use Rattle.std.specs.Prelude.{◌≡◌, ◌≤◌, ◌<◌, ◌==◌, [], ◌∷◌, ◌++◌, length, map, count_by, slice_get, Some, option_map, IsErrOf, IfOk, OnOk, OnErr, ◌↔◌, true, false};
 ghost use Rattle.std.specs.Option.{ForSome};
 ghost use Rattle.syntax_set.specs.Allowed.{cleared, is_allowed, is_in_next};
+ghost use Rattle.syntax_set.specs.Items.{with_item};
 
 use crate::{AddedItem, Clusters, GroupList, Item, SetError};
 use std::alloc::Global;
@@ -44,8 +45,28 @@ impl ItemSet {
 
     /// Adds a live item (`:syn-define`). An item that is refused is dropped.
     pub fn add_item(&mut self, item: Item) -> Result<ItemId, SetError>
-        ensures added { OnOk result (self.new ≡ self.old
-            ++ record { item = item; live = true } ∷ []) }
+        ensures added { OnOk result (self.new ≡ with_item true self.old item) }
+        ensures number { IfOk result (λ id. id.0 ≡ length self.old) }
+        ensures too_many { IsErrOf result SetError.TooManyItems ↔ (length self.old ≡ 32000) }
+        ensures no_groups { ¬ (IsErrOf result SetError.TooManyGroups) }
+        ensures unchanged { OnErr result (self.new ≡ self.old) }
+    {
+        self.add(AddedItem { item, live: true })
+    }
+
+    /// Adds an item that isn't live. An item that is refused is dropped.
+    pub fn add_dead(&mut self, item: Item) -> Result<ItemId, SetError>
+        ensures added { OnOk result (self.new ≡ with_item false self.old item) }
+        ensures number { IfOk result (λ id. id.0 ≡ length self.old) }
+        ensures too_many { IsErrOf result SetError.TooManyItems ↔ (length self.old ≡ 32000) }
+        ensures no_groups { ¬ (IsErrOf result SetError.TooManyGroups) }
+        ensures unchanged { OnErr result (self.new ≡ self.old) }
+    {
+        self.add(AddedItem { item, live: false })
+    }
+
+    fn add(&mut self, added: AddedItem) -> Result<ItemId, SetError>
+        ensures added { OnOk result (self.new ≡ self.old ++ added ∷ []) }
         ensures number { IfOk result (λ id. id.0 ≡ length self.old) }
         ensures too_many { IsErrOf result SetError.TooManyItems ↔ (length self.old ≡ 32000) }
         ensures no_groups { ¬ (IsErrOf result SetError.TooManyGroups) }
@@ -55,17 +76,16 @@ impl ItemSet {
         if number == MOST_ITEMS {
             return Err(SetError::TooManyItems);
         }
-        self.push_live(item)?;
+        self.push(added)?;
         Ok(ItemId(number as u32))
     }
 
-    fn push_live(&mut self, item: Item) -> Result<(), Memory>
+    fn push(&mut self, added: AddedItem) -> Result<(), Memory>
         requires { length self.old < 32000 }
-        ensures added { OnOk result (self.new ≡ self.old
-            ++ record { item = item; live = true } ∷ []) }
+        ensures added { OnOk result (self.new ≡ self.old ++ added ∷ []) }
         ensures unchanged { OnErr result (self.new ≡ self.old) }
     {
-        Ok(self.added.push(AddedItem { item, live: true })?)
+        Ok(self.added.push(added)?)
     }
 
     /// An item, live or not.

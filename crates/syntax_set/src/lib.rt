@@ -11,9 +11,11 @@ mod added_item;
 mod cluster_graph;
 mod cluster_list;
 mod clusters;
+mod copy;
 mod groups;
 mod item;
 mod item_set;
+mod named;
 mod number_set;
 mod set_error;
 

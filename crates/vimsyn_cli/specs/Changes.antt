@@ -1,7 +1,8 @@
 -- What a call is given, before and after it.
-use Rattle.std.specs.Prelude.{◌≡◌, ℕ, List, Option}
-use Rattle.edit_session.specs.Ends.{SinkChange, SourceChange}
+use Rattle.std.specs.Prelude.{◌≡◌, ℕ, Option}
 use Rattle.syn_base.specs.Outside.{FileMap}
+
+pub use Rattle.edit_session.specs.Ends.{sink_change, source_change}
 
 -- files before and after a call: what they hold, where told, and their counts
 pub record FilesChange : Type 0 where
@@ -32,11 +33,3 @@ files_change told told_after faults faults_after misses misses_after longs longs
   longs = longs;
   longs_after = longs_after;
 }
-
-abbrev pub source_change : Option (List ℕ) → Option (List ℕ) → ℕ → ℕ → SourceChange
-source_change before after faults faults_after =
-    record { before = before; after = after; faults = faults; faults_after = faults_after }
-
-abbrev pub sink_change : Option (List ℕ) → Option (List ℕ) → ℕ → ℕ → SinkChange
-sink_change before after faults faults_after =
-    record { before = before; after = after; faults = faults; faults_after = faults_after }

@@ -1,10 +1,9 @@
 //! Where a pattern ends.
 ghost use Rattle.std.specs.Prelude.{◌≡◌, ◌∷◌, [], ◌++◌, Some, None, IfOk, IfSome, MatchOption};
+ghost use Rattle.pattern_items.specs.Vain.{Known};
 ghost use Rattle.word_reader.specs.Delimited as spec;
-ghost use Rattle.word_reader.specs.Vain.{Known};
 
-use crate::vain::{collection_close, vain_behind};
-use pattern_items::Level;
+use pattern_items::{Level, first_collection_end};
 use std::alloc::Global;
 use syn_base::{List, Memory};
 use text_scan::{front, is_blank, is_digit, is_letter};
@@ -179,7 +178,7 @@ fn plain_next(scan: Scan, c: char) -> Scan
 }
 
 /// What one character more leaves; the text begins with it, and `more` follows it.
-#[tactic(auto, using(crate::proofs::VainLaws::known_behind))]
+#[tactic(auto, using(crate::proofs::VainLaws::known_behind, crate::proofs::VainLaws::known_more))]
 fn searched_next(search: Search, c: char, text: &[char], more: &[char]) -> Search
     requires front { text.now ≡ c ∷ more.now }
     requires known { Known search.in_vain text.now }
@@ -187,13 +186,14 @@ fn searched_next(search: Search, c: char, text: &[char], more: &[char]) -> Searc
     ensures known { Known result.in_vain more.now }
 {
     if opens(search.scan, c) {
-        let end = collection_close(search.in_vain, c, text, more);
+        let mut in_vain = search.in_vain;
+        let end = first_collection_end(&mut in_vain, text);
         return Search {
             scan: Scan {
                 level: search.scan.level,
                 next: inside(end),
             },
-            in_vain: vain_behind(search.in_vain, c, end, more),
+            in_vain,
         };
     }
     Search {

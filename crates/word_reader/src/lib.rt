@@ -8,7 +8,6 @@
 mod delimited;
 mod offsets;
 mod reader;
-mod vain;
 mod words;
 
 pub use delimited::can_delimit;

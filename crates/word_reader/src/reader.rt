@@ -1,9 +1,9 @@
 //! What is left of a line, and words taken from it.
 ghost use Rattle.std.specs.Prelude.{◌≡◌, [], false, IfOk, Some, None, MatchOption};
+ghost use Rattle.pattern_items.specs.Vain.{Known};
 ghost use Rattle.text_scan.specs.Characters as scan;
 ghost use Rattle.word_reader.specs.Delimited as delimited_spec;
 ghost use Rattle.word_reader.specs.Offsets as offsets_spec;
-ghost use Rattle.word_reader.specs.Vain.{Known};
 ghost use Rattle.word_reader.specs.Words as spec;
 
 use crate::Adjusts;
@@ -25,7 +25,7 @@ pub struct Reader<'a> {
 
 impl<'a> Model for Reader<'a> {
     ghost use Rattle.std.specs.Prelude.{List, ℕ};
-    ghost use Rattle.word_reader.specs.Vain.{Known};
+    ghost use Rattle.pattern_items.specs.Vain.{Known};
 
     ghost Value = { List ℕ };
 

@@ -8,7 +8,7 @@ use Rattle.edit_session.proofs.reading.read_pieces.Goals as goal
 
 pub loop-taken-init : goal.loop-taken-init
 loop-taken-init g c =
-    let s = standing g.D.Lines.lines g.D.Document.shown c.args.commands.now.document c.args.commands.now.number c.args.commands.now.refused in
+    let s = standing g.D.Lines.lines g.D.Document.shown c.args.commands.now in
     let failed = g.I.Source.faults c.args.script.now in
     record {
       same = refl;
@@ -23,7 +23,7 @@ returns-in_err-count-clause-read g c =
     let shown = g.D.Document.shown in
     let q = err_from_is_err_and c.from_residual.result c.from_residual.ensures.1 in
     pieces_stopped (g.D.Document.painter c.args.commands.now.document) (g.D.Document.painter c.loop-taken.commands.document) inv.same
-    (standing lines shown c.args.commands.now.document c.args.commands.now.number c.args.commands.now.refused) (standing lines shown c.loop-taken.commands.document c.loop-taken.commands.number c.loop-taken.commands.refused) (standing lines shown c.read_piece.new.commands.document c.read_piece.new.commands.number c.read_piece.new.commands.refused) c.loop-taken.kept c.read_piece.new.kept _ c.loop-taken.taken
+    (standing lines shown c.args.commands.now) (standing lines shown c.loop-taken.commands) (standing lines shown c.read_piece.new.commands) c.loop-taken.kept c.read_piece.new.kept _ c.loop-taken.taken
     (g.I.Source.left c.args.script.now) (g.I.Source.left c.loop-taken.script) (g.I.Source.left c.read_piece.new.script) (g.O.Sink.written c.args.out.now) (g.O.Sink.written c.loop-taken.out) (g.O.Sink.written c.read_piece.new.out) (g.I.Source.faults c.args.script.now) (g.I.Source.faults c.loop-taken.script) (g.I.Source.faults c.read_piece.new.script) (g.O.Sink.faults c.args.out.now) (g.O.Sink.faults c.loop-taken.out) (g.O.Sink.faults c.read_piece.new.out) c.args.steps.now c.loop-taken.steps c.read_piece.new.steps
     inv.read.0 c.in_err-count.field-0.0 c.from_residual.result inv.read.1 inv.read.2 inv.readable c.in_err-count.ensures.piece (omega (arith, c.min-room.ensures, c.requires.buffer, length-take-le {A = ℕ})) (q.1 ∙ ap Err q.2)
 
@@ -34,7 +34,7 @@ returns-then-count-eq0-clause-read g c =
     let shown = g.D.Document.shown in
     let piece = c.in_ok-count.ensures.piece in
     let more = pieces_further (g.D.Document.painter c.args.commands.now.document) (g.D.Document.painter c.loop-taken.commands.document) inv.same
-    (standing lines shown c.args.commands.now.document c.args.commands.now.number c.args.commands.now.refused) (standing lines shown c.loop-taken.commands.document c.loop-taken.commands.number c.loop-taken.commands.refused) (standing lines shown c.read_piece.new.commands.document c.read_piece.new.commands.number c.read_piece.new.commands.refused) c.loop-taken.kept c.read_piece.new.kept _ c.in_ok-count.count c.loop-taken.taken
+    (standing lines shown c.args.commands.now) (standing lines shown c.loop-taken.commands) (standing lines shown c.read_piece.new.commands) c.loop-taken.kept c.read_piece.new.kept _ c.in_ok-count.count c.loop-taken.taken
     (g.I.Source.left c.args.script.now) (g.I.Source.left c.loop-taken.script) (g.I.Source.left c.read_piece.new.script) (g.O.Sink.written c.args.out.now) (g.O.Sink.written c.loop-taken.out) (g.O.Sink.written c.read_piece.new.out) (g.I.Source.faults c.args.script.now) (g.I.Source.faults c.loop-taken.script) (g.I.Source.faults c.read_piece.new.script) (g.O.Sink.faults c.args.out.now) (g.O.Sink.faults c.loop-taken.out) (g.O.Sink.faults c.read_piece.new.out) c.args.steps.now c.loop-taken.steps c.read_piece.new.steps
     inv.read.0 inv.read.1 inv.read.2 piece (omega (arith, c.min-room.ensures, c.requires.buffer, length-take-le {A = ℕ})) in
     (more.0, more.1, piece.4 c.if-count-eq0.true, piece.8 ∙ inv.readable)
@@ -48,7 +48,7 @@ loop-taken-preserved g c =
     record {
       same = c.in_ok-count.ensures.painter ∙ inv.same;
       read = pieces_further (g.D.Document.painter c.args.commands.now.document) (g.D.Document.painter c.loop-taken.commands.document) inv.same
-          (standing lines shown c.args.commands.now.document c.args.commands.now.number c.args.commands.now.refused) (standing lines shown c.loop-taken.commands.document c.loop-taken.commands.number c.loop-taken.commands.refused) (standing lines shown c.read_piece.new.commands.document c.read_piece.new.commands.number c.read_piece.new.commands.refused) c.loop-taken.kept c.read_piece.new.kept _ c.in_ok-count.count c.loop-taken.taken
+          (standing lines shown c.args.commands.now) (standing lines shown c.loop-taken.commands) (standing lines shown c.read_piece.new.commands) c.loop-taken.kept c.read_piece.new.kept _ c.in_ok-count.count c.loop-taken.taken
           (g.I.Source.left c.args.script.now) (g.I.Source.left c.loop-taken.script) (g.I.Source.left c.read_piece.new.script) (g.O.Sink.written c.args.out.now) (g.O.Sink.written c.loop-taken.out) (g.O.Sink.written c.read_piece.new.out) (g.I.Source.faults c.args.script.now) (g.I.Source.faults c.loop-taken.script) (g.I.Source.faults c.read_piece.new.script) (g.O.Sink.faults c.args.out.now) (g.O.Sink.faults c.loop-taken.out) (g.O.Sink.faults c.read_piece.new.out) c.args.steps.now c.loop-taken.steps c.read_piece.new.steps
           inv.read.0 inv.read.1 inv.read.2 piece (omega (arith, c.min-room.ensures, c.requires.buffer, length-take-le {A = ℕ}));
       readable = piece.8 ∙ inv.readable;

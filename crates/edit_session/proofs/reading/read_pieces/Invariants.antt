@@ -1,6 +1,6 @@
 use Rattle.std.proofs.Common.{◌≡◌, ℕ, ◌-◌, List, length}
-use Rattle.edit_session.specs.Steps.{HasRead, standing}
-use Rattle.edit_session.proofs.ReadingLaws.{sink_of, source_of, steps_of}
+use Rattle.edit_session.specs.Ends.{sink_change, source_change}
+use Rattle.edit_session.specs.Steps.{HasRead, standing, steps_change}
 use Rattle.edit_session.proofs.reading.read_pieces.Given as goal
 
 -- so many bytes were taken, and the commands whose last line is whole in them were answered
@@ -16,7 +16,7 @@ invariant-loop-taken g l =
     record {
       same : g.D.Document.painter l.commands.document ≡ painter;
       read : (bytes : List ℕ)
-          × HasRead painter (standing lines shown l.fn.commands.document l.fn.commands.number l.fn.commands.refused) (standing lines shown l.commands.document l.commands.number l.commands.refused) l.kept (source_of (left l.fn.script) (left l.script) (failed l.fn.script) (failed l.script)) (sink_of (written l.fn.out) (written l.out) (refused l.fn.out) (refused l.out)) (steps_of l.fn.steps l.steps) bytes
+          × HasRead painter (standing lines shown l.fn.commands) (standing lines shown l.commands) l.kept (source_change (left l.fn.script) (left l.script) (failed l.fn.script) (failed l.script)) (sink_change (written l.fn.out) (written l.out) (refused l.fn.out) (refused l.out)) (steps_change l.fn.steps l.steps) bytes
           × (length bytes ≡ l.taken);
       readable : failed l.script ≡ failed l.fn.script;
     }

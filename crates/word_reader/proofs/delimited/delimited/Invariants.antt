@@ -1,6 +1,6 @@
 use Rattle.std.proofs.Common.{◌≡◌, length}
 use Rattle.word_reader.specs.Delimited.{delimited, delimited_after}
-use Rattle.word_reader.specs.Vain.{Known}
+use Rattle.pattern_items.specs.Vain.{Known}
 use Rattle.word_reader.proofs.delimited.delimited.Given as goal
 
 -- the characters so far, with those from here on, are the pattern

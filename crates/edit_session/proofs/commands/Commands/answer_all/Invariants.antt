@@ -18,9 +18,9 @@ invariant-loop-entry g l =
       same : g.D.Document.painter l.self.document ≡ painter;
       answered : (text : List ℕ)
           × (written l.out ≡ appended (written l.fn.out) text)
-          × (session painter (standing lines shown l.fn.self.document l.fn.self.number l.fn.self.refused) l.fn.entries
-          ≡ behind text (session painter (standing lines shown l.self.document l.self.number l.self.refused) (into_iter_items l.entry-iterator)));
+          × (session painter (standing lines shown l.fn.self) l.fn.entries
+          ≡ behind text (session painter (standing lines shown l.self) (into_iter_items l.entry-iterator)));
       writable : g.O.Sink.faults l.out ≡ g.O.Sink.faults l.fn.out;
-      painted : l.steps + session_costs painter (standing lines shown l.self.document l.self.number l.self.refused) (into_iter_items l.entry-iterator)
-          ≤ l.fn.steps + session_costs painter (standing lines shown l.fn.self.document l.fn.self.number l.fn.self.refused) l.fn.entries;
+      painted : l.steps + session_costs painter (standing lines shown l.self) (into_iter_items l.entry-iterator)
+          ≤ l.fn.steps + session_costs painter (standing lines shown l.fn.self) l.fn.entries;
     }
