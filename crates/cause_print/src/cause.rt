@@ -1,25 +1,15 @@
 //! The causes.
-ghost use Rattle.std.specs.Prelude.{◌≡◌, ◌+◌, ◌++◌, codes, decimal, IfOk, OnOk};
+ghost use Rattle.std.specs.Prelude.{◌≡◌, ◌+◌, ◌++◌, codes, decimal, OnOk};
 ghost use Rattle.pattern_items.specs.CauseText as pattern;
 ghost use Rattle.cause_print.specs.CauseText as spec;
 
 use byte_text::{push_bytes, push_chars, push_number_from_one};
 use std::alloc::{AllocError, Global};
-use syn_base::{List, Memory};
 use syn_words::Cause;
 use vim_pattern::PatternCause;
 
-/// What is told of a cause, without its file and line. The place of a pattern's fault is printed as the
-/// number of its character in the pattern, from 1.
-pub fn cause_text(alloc: Global, cause: &Cause) -> Result<List<u8>, Memory>
-    ensures { IfOk result (λ bytes. bytes ≡ spec.cause_bytes cause.now) }
-{
-    let mut out = Vec::new(alloc);
-    print_cause(alloc, &mut out, cause)?;
-    Ok(List::from_vec(out))
-}
-
-/// Appends what is told of a cause.
+/// Appends what is told of a cause, without its file and line. The place of a pattern's fault is
+/// printed as the number of its character in the pattern, from 1.
 pub(crate) fn print_cause(alloc: Global, out: &mut Vec<u8>, cause: &Cause) -> Result<(), AllocError>
     ensures { OnOk result (out.new.items ≡ out.old.items ++ spec.cause_bytes cause.now) }
 {

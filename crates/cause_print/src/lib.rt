@@ -10,6 +10,5 @@ mod cause;
 mod counts;
 mod lines;
 
-pub use cause::cause_text;
 pub use counts::counts_text;
 pub use lines::{FileFault, file_fault_text, refused_text};
