@@ -47,11 +47,13 @@ pub(crate) struct Search<'a> {
     pub(crate) tried: &'a Tried<'a>,
 }
 
-/// Whether some lines are among those looked at.
+/// Whether some lines are among those looked at, and a number where one was looked at there.
 pub(crate) fn holds(looked: Looked, lines: Looked) -> bool
     ensures { IsTrue result → HoldsLines looked lines }
 {
-    looked.join(lines) == looked
+    looked.low <= lines.low
+        && lines.high <= looked.high
+        && (looked.numbered || !lines.numbered)
 }
 
 /// What is known of a line.

@@ -1,5 +1,6 @@
 //! What an attempt has cost so far, and the lines that it looked at.
 ghost use Rattle.std.specs.Prelude.{◌≡◌, ◌<◌, ◌≤◌, ◌+◌, [], ◌∷◌, None, IsTrue, ◌↔◌};
+ghost use Rattle.syn_base.specs.Looked.{hull_of};
 ghost use Rattle.match_rules.specs.Marks.{Tick};
 ghost use Rattle.pattern_match.specs.Spending.{spent_on, spent_times, looking_at_too, looking_too};
 
@@ -55,12 +56,28 @@ impl Spent {
         }
     }
 
+    /// Mostly the lines were looked at before, and nothing is written.
+    #[inline(always)]
     fn look(&mut self, looked: Looked)
         ensures { self.new ≡ looking_at_too looked self.old }
     {
-        self.looked = Some(match self.looked {
-            None => looked,
-            Some(others) => others.join(looked),
-        });
+        match self.looked {
+            None => self.looked = Some(looked),
+            Some(before) => {
+                if !holds(before, looked) {
+                    self.looked = Some(before.join(looked));
+                }
+            }
+        }
     }
+}
+
+/// Whether these lines are among those looked at before, and a number where one was looked at now.
+#[inline(always)]
+pub(crate) fn holds(before: Looked, looked: Looked) -> bool
+    ensures { IsTrue result → hull_of before looked ≡ before }
+{
+    before.low <= looked.low
+        && looked.high <= before.high
+        && (before.numbered || !looked.numbered)
 }

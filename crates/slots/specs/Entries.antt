@@ -22,7 +22,8 @@ IsFound {E} slots number place = (entry : E) × Stands slots number entry place
 
 -- an entry of a grid
 abbrev pub IsIn : {E : Type 0} → Grid E → ℕ → ℕ → E → Type 0
-IsIn {E} grid row number entry = (table : Table E) × (Has grid.rows row table × IsAt table number entry)
+IsIn {E} grid row number entry =
+    (table : Table E) × ((slice_get grid.rows.items row ≡ Some table) × IsAt table number entry)
 
 -- each number has the entry that it had, or none, or the one that was put
 abbrev pub IsPut : {E : Type 0} → (ℕ → E → Type 0) → (ℕ → E → Type 0) → ℕ → E → Type 0

@@ -1,17 +1,17 @@
 //! Small entries by two numbers.
-ghost use Rattle.std.specs.Prelude.{◌≡◌, ℕ, None, IfSome, OnOk};
+ghost use Rattle.std.specs.Prelude.{◌≡◌, ◌≤◌, ℕ, length, IfSome, OnOk};
 ghost use Rattle.slots.specs.Entries.{IsIn, IsPutIn};
 
-use crate::slots::Slots;
 use crate::table::Table;
 use std::alloc::Global;
 use syn_base::Memory;
 
-/// Small entries by two numbers, which stay. A row that has none takes the room of a place.
+/// Small entries by two numbers, which stay. Each row up to the highest one that has an entry takes
+/// the room of a table.
 #[derive(Drop)]
 pub struct Grid<E> {
     alloc: Global,
-    rows: Slots<Table<E>>,
+    rows: Vec<Table<E>>,
 }
 
 impl<E: Copy> Grid<E> {
@@ -21,7 +21,7 @@ impl<E: Copy> Grid<E> {
     {
         Grid {
             alloc,
-            rows: Slots::new(alloc),
+            rows: Vec::new(alloc),
         }
     }
 
@@ -38,12 +38,34 @@ impl<E: Copy> Grid<E> {
         ensures here { OnOk result (IsIn self.new row number entry) }
         ensures kept { IsPutIn (IsIn self.old) (IsIn self.new) row number entry }
     {
-        match self.rows.place(row) {
-            Some(place) => return self.rows.list[place].entry.put(number, entry),
-            None => {}
+        self.fill(row)?;
+        if row < self.rows.len() {
+            self.rows[row].put(number, entry)
+        } else {
+            self.push(number, entry)
         }
+    }
+
+    /// Makes the rows below one.
+    fn fill(&mut self, row: usize) -> Result<(), Memory>
+        ensures many { OnOk result (row ≤ length self.new.rows.items) }
+        ensures kept { (j k : ℕ) (entry : E) → IsIn self.new j k entry → IsIn self.old j k entry }
+    {
+        for _ in self.rows.len()..row {
+            self.rows.push(Table::new(self.alloc))?;
+        }
+        Ok(())
+    }
+
+    /// Makes one row more, with an entry at a number.
+    fn push(&mut self, number: usize, entry: E) -> Result<(), Memory>
+        ensures here { OnOk result (IsIn self.new (length self.old.rows.items) number entry) }
+        ensures kept { IsPutIn (IsIn self.old) (IsIn self.new) (length self.old.rows.items) number
+            entry }
+    {
         let mut table = Table::new(self.alloc);
         table.put(number, entry)?;
-        self.rows.put(row, table)
+        self.rows.push(table)?;
+        Ok(())
     }
 }
