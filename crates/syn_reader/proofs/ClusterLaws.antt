@@ -3,6 +3,7 @@ use Rattle.std.proofs.Common.{◌≡◌, ◌≤◌, ◌<◌, ℕ, List, [], ◌�
 use Rattle.std.proofs.lemmas.List.Quantifiers.{position-Some}
 use Rattle.std.specs.Prelude.{Bool, Result, Ok, Err, is_some, if◌then◌else◌, encode_utf8_all}
 use Rattle.syn_base.specs.declared.places.GroupId.{GroupId}
+use Rattle.syntax_set.specs.declared.item.Entry.{Entry}
 use Rattle.syntax_set.specs.declared.item.GroupList.{GroupList}
 use Rattle.syntax_set.specs.Groups.{is_same_name}
 use Rattle.syntax_set.specs.ClusterTable.{ClusterTable, no_list}
@@ -15,7 +16,7 @@ use Rattle.syn_reader.specs.declared.read_list.ReadName.TheVariants.{Group, Clus
 use Rattle.syn_reader.specs.declared.read_list.ReadList.{ReadList}
 use Rattle.syn_reader.specs.Answers.{◌>>=◌, each}
 use Rattle.syn_reader.specs.Names.{is_full, group_made, cluster_made}
-use Rattle.syn_reader.specs.NamedLists.{Entries, with_entry_made, list_made}
+use Rattle.syn_reader.specs.NamedLists.{Entries, entry_made, with_entry_made, list_made}
 
 -- the cluster of a name is one of those that are there
 pub named_within : (table : ClusterTable) (name : List ℕ) (n count : ℕ) → cluster_of table name ≡ Some n → count ≡ length table.lists
@@ -58,24 +59,35 @@ cluster_keeps known more name n h =
     let further = longer (is_some (cluster_of known.clusters text)) known.clusters text in
     omega arith
 
+abbrev lists_in : {A : Type 0} → Result (A × Names) Cause → ℕ
+lists_in (Ok made) = length made.1.clusters.lists
+lists_in (Err e) = 0
+
+made_keeps : (known more : Names) (name : ReadName) (e : Entry) → entry_made known name ≡ Ok (e, more) → Keeps known more
+made_keeps known more (Group name) e h =
+    let made = joins (group_made known name) _ (e, more) h in
+    let kept = group_keeps known made.0.1 name made.0.0 made.1.0 in
+    let same = ap lists_in made.1.1 in
+    omega arith
+made_keeps known more (Cluster name) e h =
+    let made = joins (cluster_made known name) _ (e, more) h in
+    let kept = cluster_keeps known made.0.1 name made.0.0 made.1.0 in
+    let same = ap lists_in made.1.1 in
+    omega arith
+made_keeps known more (Found group) e h =
+    let same = ap lists_in h in
+    omega arith
+
 entry_keeps : (so_far more : Entries) (name : ReadName) → with_entry_made so_far name ≡ Ok more → Keeps so_far.1 more.1
-entry_keeps so_far more (Group name) h =
-    let made = joins (group_made so_far.1 name) _ more h in
-    let kept = group_keeps so_far.1 made.0.1 name made.0.0 made.1.0 in
-    let same = ap (λ (r : Result Entries Cause). elim r as (λ _. ℕ) [ Ok es ↦ length es.1.clusters.lists | Err e ↦ 0 ]) made.1.1 in
-    omega arith
-entry_keeps so_far more (Cluster name) h =
-    let made = joins (cluster_made so_far.1 name) _ more h in
-    let kept = cluster_keeps so_far.1 made.0.1 name made.0.0 made.1.0 in
-    let same = ap (λ (r : Result Entries Cause). elim r as (λ _. ℕ) [ Ok es ↦ length es.1.clusters.lists | Err e ↦ 0 ]) made.1.1 in
-    omega arith
-entry_keeps so_far more (Found group) h =
-    let same = ap (λ (r : Result Entries Cause). elim r as (λ _. ℕ) [ Ok es ↦ length es.1.clusters.lists | Err e ↦ 0 ]) h in
+entry_keeps so_far more name h =
+    let made = joins (entry_made so_far.1 name) _ more h in
+    let kept = made_keeps so_far.1 made.0.1 name made.0.0 made.1.0 in
+    let same = ap lists_in made.1.1 in
     omega arith
 
 entries_keep : (so_far more : Entries) (names : List ReadName) → each with_entry_made so_far names ≡ Ok more → Keeps so_far.1 more.1
 entries_keep so_far more [] h =
-    let same = ap (λ (r : Result Entries Cause). elim r as (λ _. ℕ) [ Ok es ↦ length es.1.clusters.lists | Err e ↦ 0 ]) h in
+    let same = ap lists_in h in
     omega arith
 entries_keep so_far more (name ∷ names) h =
     let made = joins (with_entry_made so_far name) (λ t. each with_entry_made t names) more h in
@@ -89,5 +101,5 @@ pub list_within : (known more : Names) (read : ReadList) (list : GroupList) (n :
 list_within known more read list n h within =
     let made = joins (each with_entry_made ([], known) read.names) _ (list, more) h in
     let kept = entries_keep ([], known) made.0 read.names made.1.0 in
-    let same = ap (λ (r : Result (GroupList × Names) Cause). elim r as (λ _. ℕ) [ Ok p ↦ length p.1.clusters.lists | Err e ↦ 0 ]) made.1.1 in
+    let same = ap lists_in made.1.1 in
     omega arith

@@ -13,10 +13,9 @@ use Rattle.syn_reader.specs.declared.syntax.ReadOptions.{ReadOptions}
 use Rattle.syn_reader.specs.declared.syntax.ReadError.{ReadError}
 use Rattle.syn_reader.specs.declared.syntax.ReadError.TheVariants as error
 use Rattle.syn_reader.specs.Answers.{◌>>=◌}
-use Rattle.syn_reader.specs.SyntaxOf.{Answer, Fetching, Opening, told_by, by_bytes, failing_at, in_line, by_fetched, fetched_by, with_commands, asked_within}
+use Rattle.syn_reader.specs.SyntaxOf.{Answer, Fetching, Opening, told_by, by_bytes, failing_at, by_fetched, fetched_by, with_commands, asked_within}
 use Rattle.syn_reader.specs.Follows.{Follows, Reads, Counts, Does, HasOtherCause, HasOtherCauses, IsOrMemory}
-use Rattle.syn_reader.specs.Includes.{cluster_named}
-use Rattle.syn_reader.proofs.Runs.{failing_agrees, ends_reads}
+use Rattle.syn_reader.proofs.Runs.{failing_agrees}
 
 -- an error of a command's own work
 pub does_follows : (files : FileMap) (first : ℕ) (rules : Answer) (left other : Progress) (e : ReadError) → Does {A = Unit {0}} (Err e) left rules → HasOtherCause e

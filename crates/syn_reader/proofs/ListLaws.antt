@@ -9,17 +9,11 @@ use Rattle.syn_reader.specs.declared.read_list.ReadName.{ReadName}
 use Rattle.syn_reader.specs.declared.read_list.ReadName.TheVariants.{Group, Cluster, Found}
 use Rattle.syn_reader.specs.NamedLists.{found_in, with_found, groups_in, clusters_in, with_entry}
 
-pub found_in-group : (names : List ReadName) (name : List ℕ) → found_in (names ++ Group name ∷ []) ≡ found_in names
-found_in-group [] name = refl
-found_in-group (Group other ∷ names) name = found_in-group names name
-found_in-group (Cluster other ∷ names) name = found_in-group names name
-found_in-group (Found group ∷ names) name = ap (λ l. group.0 ∷ l) (found_in-group names name)
-
-pub found_in-cluster : (names : List ReadName) (name : List ℕ) → found_in (names ++ Cluster name ∷ []) ≡ found_in names
-found_in-cluster [] name = refl
-found_in-cluster (Group other ∷ names) name = found_in-cluster names name
-found_in-cluster (Cluster other ∷ names) name = found_in-cluster names name
-found_in-cluster (Found group ∷ names) name = ap (λ l. group.0 ∷ l) (found_in-cluster names name)
+pub found_in-written : (names : List ReadName) (name : ReadName) → found_in (name ∷ []) ≡ [] → found_in (names ++ name ∷ []) ≡ found_in names
+found_in-written [] name e = e
+found_in-written (Group other ∷ names) name e = found_in-written names name e
+found_in-written (Cluster other ∷ names) name e = found_in-written names name e
+found_in-written (Found group ∷ names) name e = ap (λ l. group.0 ∷ l) (found_in-written names name e)
 
 found_in-push : (names : List ReadName) (g : GroupId) → found_in (names ++ Found g ∷ []) ≡ found_in names ++ g.0 ∷ []
 found_in-push [] g = refl

@@ -1,9 +1,8 @@
 -- What the pieces of a command hold is sound with the patterns that were added: each pattern of it is there.
-use Rattle.std.proofs.Common.{◌≡◌, ℕ, List, [], ◌∷◌, ◌++◌, length, refl, sym, ap, subst, ◌∙◌, append_assoc, Ok, Err, Some, None}
+use Rattle.std.proofs.Common.{◌≡◌, ℕ, List, [], ◌∷◌, ◌++◌, length, refl, sym, ap, subst, ◌∙◌, append_assoc, Ok}
 use Rattle.std.proofs.lemmas.List.{append-nil}
-use Rattle.std.specs.Prelude.{Option, Result, slice_get}
+use Rattle.std.specs.Prelude.{Result}
 use Rattle.std.specs.List.{All}
-use Rattle.std.specs.Option.{ForSome}
 use Rattle.std.proofs.lemmas.List.Elements.{All-nil, All-push, All-weaker}
 use Rattle.vim_pattern.specs.Tree.{PatternTree}
 use Rattle.syntax_set.specs.Soundness.{IsAdded}
@@ -15,7 +14,7 @@ use Rattle.syn_words.specs.declared.what.Role.{Role}
 use Rattle.syn_words.specs.declared.what.Quoted.{Quoted}
 use Rattle.syn_reader.specs.declared.contents.Content.{Content}
 use Rattle.syn_reader.specs.declared.contents.Content.TheVariants as content
-use Rattle.syn_reader.specs.Answers.{◌>>=◌, each}
+use Rattle.syn_reader.specs.Answers.{◌>>=◌}
 use Rattle.syn_reader.specs.Patterns.{tree_at, use_of, pattern_of, pattern_read}
 use Rattle.syn_reader.specs.NamedLists.{list_read}
 use Rattle.syn_reader.specs.Abbreviations.{words_of}

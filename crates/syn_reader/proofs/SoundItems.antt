@@ -1,5 +1,5 @@
 -- An item whose pieces are sound has patterns that were added.
-use Rattle.std.proofs.Common.{◌≡◌, ◌<◌, ◌≤◌, ℕ, suc, List, [], ◌∷◌, ◌++◌, length, refl, sym, ap, subst, ◌∙◌, arith, length-append, Ok, Err, Some, None, true, false}
+use Rattle.std.proofs.Common.{◌≡◌, ◌<◌, ℕ, suc, List, [], ◌∷◌, ◌++◌, length, refl, sym, subst, arith, length-append, Ok, Err, Some, None, true, false}
 use Rattle.std.specs.Prelude.{Bool, Option, Result, nat_eq, nat_lt, if◌then◌else◌}
 use Rattle.std.specs.List.{All}
 use Rattle.std.specs.Option.{ForSome}
@@ -36,12 +36,12 @@ use Rattle.syn_reader.specs.declared.contents.Content.TheVariants as content
 use Rattle.syn_reader.specs.declared.draft.Draft.{Draft}
 use Rattle.syn_reader.specs.declared.names.Names.{Names}
 use Rattle.syn_reader.specs.declared.reading.Reading.{Reading}
-use Rattle.syn_reader.specs.Answers.{◌>>=◌, each}
+use Rattle.syn_reader.specs.Answers.{◌>>=◌}
 use Rattle.syn_reader.specs.Names.{group_made}
 use Rattle.syn_reader.specs.NamedLists.{list_made}
 use Rattle.syn_reader.specs.Contents.{contents_of}
 use Rattle.syn_reader.specs.SoundReading.{IsSoundReading}
-use Rattle.syn_reader.specs.Items.{new_draft, with_flag, with_list, with_quote, with_words, with_cchar, with_matchgroup, unless_own, Drafted, matchgroup_made, with_content, with_contents, match_kind, kind_by, kind_of, with_definition, with_definitions, definition_of, item_numbered, live_item, with_added, item_added, with_names, with_patterns, item_finished, drafted, finished, item_of, item_command}
+use Rattle.syn_reader.specs.Items.{new_draft, with_flag, with_list, with_quote, with_words, with_cchar, with_matchgroup, unless_own, Drafted, matchgroup_made, with_content, with_contents, match_kind, kind_of, with_definition, with_definitions, definition_of, item_numbered, live_item, with_added, item_added, with_names, with_patterns, item_finished, drafted, finished, item_of, item_command}
 use Rattle.syn_reader.proofs.Behind.{same_value, no_value, both_went, each_keeps}
 use Rattle.syn_reader.proofs.SoundContents.{IsSoundContent, contents_sound}
 

@@ -1,7 +1,7 @@
 -- Each command keeps what has been read sound.
-use Rattle.std.proofs.Common.{◌≡◌, ◌+◌, ℕ, List, [], ◌∷◌, length, map, refl, sym, ap, subst, Ok, Err, Some, None, true, false}
+use Rattle.std.proofs.Common.{◌≡◌, ◌+◌, ℕ, List, [], ◌∷◌, length, map, sym, subst, Ok, Err, Some, None, true, false}
 use Rattle.std.proofs.lemmas.List.{length-map}
-use Rattle.std.specs.Prelude.{Bool, Option, Result, OnOk, ◌||◌, nat_lt, fold, encode_utf8_all, if◌then◌else◌}
+use Rattle.std.specs.Prelude.{Bool, Option, Result, OnOk, ◌||◌, nat_lt, encode_utf8_all, if◌then◌else◌}
 use Rattle.syn_base.specs.declared.places.GroupId.{GroupId}
 use Rattle.keyword_table.specs.ItemNumbers.{AreItemsBelow}
 use Rattle.keyword_table.proofs.ItemLaws.{below-nothing}
@@ -23,8 +23,8 @@ use Rattle.syn_reader.specs.Answers.{◌>>=◌, Leaves}
 use Rattle.syn_reader.specs.Follows.{IsInLine}
 use Rattle.syn_reader.specs.Names.{group_made}
 use Rattle.syn_reader.specs.Items.{with_names}
-use Rattle.syn_reader.specs.Clusters.{changes_read, changes_made, cluster_command, all_cleared, group_cleared, cluster_cleared, name_cleared, names_cleared}
-use Rattle.syn_reader.specs.Highlight.{target_made, with_links, link_command, with_parts, style_command}
+use Rattle.syn_reader.specs.Clusters.{changes_read, changes_made, all_cleared, group_cleared, cluster_cleared, name_cleared, names_cleared}
+use Rattle.syn_reader.specs.Highlight.{target_made, with_links, with_parts}
 use Rattle.hi_links.specs.Highlights.{highlight_of, linked, styled}
 use Rattle.syn_reader.specs.Commands.{with_case, with_keyword_set, keyword_set, sync_command, effect}
 use Rattle.syn_reader.specs.Includes.{progress, with_reading, counted, with_include, cluster_begun, cluster_named, include_begun, cluster_joined, joined, include_ended}

@@ -7,12 +7,13 @@ use Rattle.syn_words.specs.declared.cause.Cause.TheVariants as cause
 use Rattle.syn_words.specs.declared.what.WordFault.{WordFault}
 use Rattle.syn_reader.specs.declared.refusal.Refusal.{Refusal}
 use Rattle.syn_reader.specs.declared.refusal.Refusal.TheVariants.{Fault, Memory}
+use Rattle.syn_reader.specs.declared.files.How.{How}
 use Rattle.syn_reader.specs.declared.includes.Progress.{Progress}
 use Rattle.syn_reader.specs.declared.syntax.ReadOptions.{ReadOptions}
 use Rattle.syn_reader.specs.declared.syntax.Syntax.{Syntax}
 use Rattle.syn_reader.specs.declared.syntax.ReadError.{ReadError}
 use Rattle.syn_reader.specs.declared.syntax.ReadError.TheVariants as error
-use Rattle.syn_reader.specs.SyntaxOf.{Answer, Fetching, told_by, failing_at, syntax_by, syntax_of}
+use Rattle.syn_reader.specs.SyntaxOf.{Answer, Fetching, Opening, asked_within, told_by, failing_at, syntax_by, syntax_of}
 
 -- which error is the cause of which count
 
@@ -68,6 +69,15 @@ IsOrMemory (error.FileFault file line name) expected = error.FileFault file line
 -- how often a file couldn't be read, was missing or was too long
 abbrev pub counts : ℕ → ℕ → ℕ → FileCounts
 counts faults misses longs = record { faults = faults; misses = misses; longs = longs }
+
+-- each count of the files rose so, by what tells them before and after a call
+abbrev pub CountsOf : {F A : Type 0} → (F → ℕ) → (F → ℕ) → (F → ℕ) → F → F → Result A ReadError → Type 0
+CountsOf faults misses longs before now result =
+    Counts result (counts (faults before) (misses before) (longs before)) (counts (faults now) (misses now) (longs now))
+
+-- how a file is read that a command asks for
+abbrev pub opening : How → Fetching → Opening
+opening how fetch = asked_within how.room fetch how.options.now
 
 -- What reading the first file answers, where the files are told. A file that couldn't be read is one that the rules ask for:
 -- were that fetch to fail, they would answer just this.

@@ -56,10 +56,14 @@ with_entry entries e = if has_entry entries e then entries else entries ++ e ∷
 abbrev pub Entries : Type 0
 Entries = List Entry × Names
 
+-- the entry of a name, which is made if it is new
+abbrev pub entry_made : Names → ReadName → Made Entry
+entry_made known (Group name) = group_made known name >>= λ made. Ok (entry.Group made.0, made.1)
+entry_made known (Cluster name) = cluster_made known name >>= λ made. Ok (entry.Cluster made.0, made.1)
+entry_made known (Found group) = Ok (entry.Group group, known)
+
 abbrev pub with_entry_made : Entries → ReadName → Result Entries Cause
-with_entry_made so_far (Group name) = group_made so_far.1 name >>= λ made. Ok (with_entry so_far.0 (entry.Group made.0), made.1)
-with_entry_made so_far (Cluster name) = cluster_made so_far.1 name >>= λ made. Ok (with_entry so_far.0 (entry.Cluster made.0), made.1)
-with_entry_made so_far (Found group) = Ok (with_entry so_far.0 (entry.Group group), so_far.1)
+with_entry_made so_far name = entry_made so_far.1 name >>= λ made. Ok (with_entry so_far.0 made.0, made.1)
 
 -- a list with its new names made, from left to right
 abbrev pub list_made : Names → ReadList → Made GroupList

@@ -5,7 +5,7 @@ ghost use Rattle.syn_reader.specs.NamedLists.{with_entry};
 use indexmap::IndexSet;
 use std::alloc::Global;
 use std::marker::Model;
-use syn_base::{GroupId, List, Memory};
+use syn_base::{List, Memory};
 use syntax_set::Entry;
 
 /// Entries of a list, each once, in the order in which they came. Contracts see them as a list.
@@ -41,36 +41,21 @@ impl Entries {
         }
     }
 
-    /// With a group more, unless it is there.
-    pub(crate) fn with_group(self, group: GroupId) -> Result<Entries, Memory>
-        ensures { IfOk result (λ more. more ≡ with_entry self (Entry.Group group)) }
+    /// With one more, unless it is there.
+    pub(crate) fn with_entry(self, entry: Entry) -> Result<Entries, Memory>
+        ensures { IfOk result (λ more. more ≡ with_entry self entry) }
     {
         let Entries {
             mut entries,
             mut groups,
-            clusters,
-        } = self;
-        if groups.insert(group.0)? {
-            entries.push(Entry::Group(group))?;
-        }
-        Ok(Entries {
-            entries,
-            groups,
-            clusters,
-        })
-    }
-
-    /// With a cluster more, unless it is there.
-    pub(crate) fn with_cluster(self, cluster: u32) -> Result<Entries, Memory>
-        ensures { IfOk result (λ more. more ≡ with_entry self (Entry.Cluster cluster)) }
-    {
-        let Entries {
-            mut entries,
-            groups,
             mut clusters,
         } = self;
-        if clusters.insert(cluster)? {
-            entries.push(Entry::Cluster(cluster))?;
+        let is_new = match entry {
+            Entry::Group(group) => groups.insert(group.0)?,
+            Entry::Cluster(cluster) => clusters.insert(cluster)?,
+        };
+        if is_new {
+            entries.push(entry)?;
         }
         Ok(Entries {
             entries,

@@ -4,14 +4,14 @@ ghost use Rattle.std.specs.String.{string_bytes};
 ghost use Rattle.syn_words.specs.declared.cause.Cause.TheVariants as cause;
 ghost use Rattle.syn_reader.specs.declared.syntax.ReadError.TheVariants as error;
 ghost use Rattle.syn_reader.specs.Follows.{
-  counts,
-  Counts,
+  CountsOf,
   Does,
   HasOtherCause,
   HasOtherCauses,
   IsFaultOf,
   IsInLine,
   IsOrMemory,
+  opening,
   Reads,
 };
 ghost use Rattle.syn_reader.specs.Includes.{cluster_named, counted, include_begun};
@@ -37,6 +37,14 @@ pub(crate) const MOST_OPEN: usize = 21;
 pub(crate) struct Asker<'a> {
     pub file: &'a [char],
     pub line: usize,
+}
+
+/// How files are read, and how many may still be opened, each in the one before.
+#[derive(Clone, Copy)]
+pub(crate) struct How<'a> {
+    pub alloc: Global,
+    pub options: &'a ReadOptions,
+    pub room: usize,
 }
 
 /// The name of a file that a syntax file asks for.
@@ -175,68 +183,57 @@ fn do_effect(
     in_line(alloc, asker, done)
 }
 
-/// Reads a file that is asked for, where so many files may still be opened, each in the one before.
+/// Reads a file that is asked for.
 #[cycle(files)]
 pub(crate) fn ask<F: Files>(
-    alloc: Global,
+    how: How<'_>,
     files: &mut F,
-    options: &ReadOptions,
-    room: usize,
     asker: Asker<'_>,
     name: &str,
     progress: &mut Progress,
 ) -> Result<(), ReadError>
     requires sound { IsSoundReading progress.old.reading }
     ensures kept { F.told files.new ≡ F.told files.old }
-    ensures counts { Counts result
-        (counts (F.faults files.old) (F.misses files.old) (F.longs files.old))
-        (counts (F.faults files.new) (F.misses files.new) (F.longs files.new)) }
+    ensures counts { CountsOf F.faults F.misses F.longs files.old files.new result }
     ensures answer { Reads (F.told files.old) progress.old.includes
-        (λ fetch. spec.asked_within room fetch options.now asker.entry.file.now asker.entry.line
+        (λ fetch. opening how.entry fetch asker.entry.file.now asker.entry.line
         name.now progress.old) progress.new result }
     ensures sound { OnOk result (IsSoundReading progress.new.reading) }
 {
-    if room == 0 {
-        return Err(refused(alloc, asker, Cause::TooDeepIncludes));
+    if how.room == 0 {
+        return Err(refused(how.alloc, asker, Cause::TooDeepIncludes));
     }
-    read_file(alloc, files, options, room - 1, asker, name, progress)
+    let inner = How {
+        alloc: how.alloc,
+        options: how.options,
+        room: how.room - 1,
+    };
+    read_file(inner, files, asker, name, progress)
 }
 
 /// Fetches a file and carries out its commands.
 #[cycle(files)]
 fn read_file<F: Files>(
-    alloc: Global,
+    how: How<'_>,
     files: &mut F,
-    options: &ReadOptions,
-    room: usize,
     asker: Asker<'_>,
     name: &str,
     progress: &mut Progress,
 ) -> Result<(), ReadError>
     requires sound { IsSoundReading progress.old.reading }
     ensures kept { F.told files.new ≡ F.told files.old }
-    ensures counts { Counts result
-        (counts (F.faults files.old) (F.misses files.old) (F.longs files.old))
-        (counts (F.faults files.new) (F.misses files.new) (F.longs files.new)) }
+    ensures counts { CountsOf F.faults F.misses F.longs files.old files.new result }
     ensures answer { Reads (F.told files.old) progress.old.includes
-        (λ fetch. spec.fetched_by (spec.asked_within room fetch options.now) fetch options.now
+        (λ fetch. spec.fetched_by (opening how.entry fetch) fetch how.entry.options.now
         asker.entry.file.now asker.entry.line name.now progress.old) progress.new result }
     ensures sound { OnOk result (IsSoundReading progress.new.reading) }
 {
-    let asked = asked_for(alloc, asker, name)?;
-    match files.fetch(alloc, name, MOST_SYNTAX_BYTES) {
+    let asked = asked_for(how.alloc, asker, name)?;
+    match files.fetch(how.alloc, name, MOST_SYNTAX_BYTES) {
         Fetched::Whole(bytes) => {
-            let found = commands(alloc, bytes.as_slice())?;
+            let found = commands(how.alloc, bytes.as_slice())?;
             let file = asked.name;
-            carry_out_all(
-                alloc,
-                files,
-                options,
-                room,
-                file.as_slice(),
-                progress,
-                found,
-            )
+            carry_out_all(how, files, file.as_slice(), progress, found)
         }
         Fetched::Missing => Err(asked.missing()),
         Fetched::TooLong => Err(asked.too_long()),
@@ -248,49 +245,41 @@ fn read_file<F: Files>(
 /// Carries out the commands of a file.
 #[cycle(files)]
 fn carry_out_all<F: Files>(
-    alloc: Global,
+    how: How<'_>,
     files: &mut F,
-    options: &ReadOptions,
-    room: usize,
     file: &[char],
     progress: &mut Progress,
     found: Commands,
 ) -> Result<(), ReadError>
     requires sound { IsSoundReading progress.old.reading }
     ensures kept { F.told files.new ≡ F.told files.old }
-    ensures counts { Counts result
-        (counts (F.faults files.old) (F.misses files.old) (F.longs files.old))
-        (counts (F.faults files.new) (F.misses files.new) (F.longs files.new)) }
+    ensures counts { CountsOf F.faults F.misses F.longs files.old files.new result }
     ensures answer { Reads (F.told files.old) (suc progress.old.includes)
-        (λ fetch. spec.with_commands (spec.asked_within room fetch options.now) options.now
+        (λ fetch. spec.with_commands (opening how.entry fetch) how.entry.options.now
         file.now progress.old found) progress.new result }
     ensures sound { OnOk result (IsSoundReading progress.new.reading) }
 {
     let Commands { list, fault } = found;
     for command in list.into_vec() {
-        carry_out(alloc, files, options, room, file, progress, command)?;
+        carry_out(how, files, file, progress, command)?;
     }
-    fault_of(alloc, file, fault)
+    fault_of(how.alloc, file, fault)
 }
 
 /// Carries out one command.
 #[cycle(files)]
 fn carry_out<F: Files>(
-    alloc: Global,
+    how: How<'_>,
     files: &mut F,
-    options: &ReadOptions,
-    room: usize,
     file: &[char],
     progress: &mut Progress,
     command: Command,
 ) -> Result<(), ReadError>
     requires sound { IsSoundReading progress.old.reading }
     ensures kept { F.told files.new ≡ F.told files.old }
-    ensures counts { Counts result
-        (counts (F.faults files.old) (F.misses files.old) (F.longs files.old))
-        (counts (F.faults files.new) (F.misses files.new) (F.longs files.new)) }
+    ensures counts { CountsOf F.faults F.misses F.longs files.old files.new result }
     ensures answer { Reads (F.told files.old) (suc progress.old.includes)
-        (λ fetch. spec.with_command (spec.asked_within room fetch options.now) options.now
+        (λ fetch. spec.with_command (opening how.entry fetch) how.entry.options.now
         file.now progress.old command) progress.new result }
     ensures sound { OnOk result (IsSoundReading progress.new.reading) }
 {
@@ -298,75 +287,67 @@ fn carry_out<F: Files>(
     let asker = Asker { file, line };
     match what {
         What::Runtime(name) => {
-            let path = path_of(alloc, options, name.as_slice())?;
-            runtime(alloc, files, options, room, asker, progress, path.as_str())
+            let path = path_of(how.alloc, how.options, name.as_slice())?;
+            runtime(how, files, asker, progress, path.as_str())
         }
         What::Include { cluster, name } => {
-            let path = path_of(alloc, options, name.as_slice())?;
+            let path = path_of(how.alloc, how.options, name.as_slice())?;
             let wanted = Wanted {
                 cluster: &cluster,
                 name: path.as_str(),
             };
-            include(alloc, files, options, room, asker, progress, wanted)
+            include(how, files, asker, progress, wanted)
         }
-        what => do_effect(alloc, options, asker, progress, what),
+        what => do_effect(how.alloc, how.options, asker, progress, what),
     }
 }
 
 /// `:runtime`.
 #[cycle(files)]
 fn runtime<F: Files>(
-    alloc: Global,
+    how: How<'_>,
     files: &mut F,
-    options: &ReadOptions,
-    room: usize,
     asker: Asker<'_>,
     progress: &mut Progress,
     name: &str,
 ) -> Result<(), ReadError>
     requires sound { IsSoundReading progress.old.reading }
     ensures kept { F.told files.new ≡ F.told files.old }
-    ensures counts { Counts result
-        (counts (F.faults files.old) (F.misses files.old) (F.longs files.old))
-        (counts (F.faults files.new) (F.misses files.new) (F.longs files.new)) }
+    ensures counts { CountsOf F.faults F.misses F.longs files.old files.new result }
     ensures answer { Reads (F.told files.old) (suc progress.old.includes)
-        (λ fetch. spec.runtime_command (spec.asked_within room fetch options.now)
+        (λ fetch. spec.runtime_command (opening how.entry fetch)
         asker.entry.file.now asker.entry.line progress.old name.now) progress.new result }
     ensures sound { OnOk result (IsSoundReading progress.new.reading) }
 {
-    count_include(alloc, asker, progress)?;
-    ask(alloc, files, options, room, asker, name, progress)
+    count_include(how.alloc, asker, progress)?;
+    ask(how, files, asker, name, progress)
 }
 
 /// `:syn-include`.
 #[cycle(files)]
 fn include<F: Files>(
-    alloc: Global,
+    how: How<'_>,
     files: &mut F,
-    options: &ReadOptions,
-    room: usize,
     asker: Asker<'_>,
     progress: &mut Progress,
     wanted: Wanted<'_>,
 ) -> Result<(), ReadError>
     requires sound { IsSoundReading progress.old.reading }
     ensures kept { F.told files.new ≡ F.told files.old }
-    ensures counts { Counts result
-        (counts (F.faults files.old) (F.misses files.old) (F.longs files.old))
-        (counts (F.faults files.new) (F.misses files.new) (F.longs files.new)) }
+    ensures counts { CountsOf F.faults F.misses F.longs files.old files.new result }
     ensures answer { Reads (F.told files.old) (suc progress.old.includes)
-        (λ fetch. spec.include_command (spec.asked_within room fetch options.now)
+        (λ fetch. spec.include_command (opening how.entry fetch)
         asker.entry.file.now asker.entry.line progress.old wanted.entry.cluster.now
         wanted.entry.name.now) progress.new result }
     ensures sound { OnOk result (IsSoundReading progress.new.reading) }
 {
     let around = progress.reading.include;
-    name_cluster(alloc, asker, progress, wanted.cluster)?;
-    begin_include(alloc, asker, progress)?;
+    name_cluster(how.alloc, asker, progress, wanted.cluster)?;
+    begin_include(how.alloc, asker, progress)?;
     let number = progress.reading.include;
-    ask(alloc, files, options, room, asker, wanted.name, progress)?;
+    ask(how, files, asker, wanted.name, progress)?;
     let numbers = Numbers { number, around };
-    end_include(alloc, asker, progress, numbers, wanted.cluster)
+    end_include(how.alloc, asker, progress, numbers, wanted.cluster)
 }
 
 /// The number of an include, and that of the one around it.

@@ -1,42 +1,26 @@
 //! Lists of groups, with their new names made.
 ghost use Rattle.syn_reader.specs.Answers.{Makes};
 ghost use Rattle.syn_reader.specs.NamedLists as spec;
-ghost use Rattle.syn_reader.specs.declared.read_list.ReadName.TheVariants as read_name;
 
 use crate::entries::Entries;
 use crate::names::Names;
 use crate::read_list::{ReadList, ReadName};
 use crate::refusal::Refusal;
 use std::alloc::Global;
-use syntax_set::GroupList;
+use syntax_set::{Entry, GroupList};
 
-fn with_group(
-    alloc: Global,
-    names: &mut Names,
-    entries: Entries,
-    name: &[char],
-) -> Result<Entries, Refusal>
-    ensures { Makes result names.new
-        (spec.with_entry_made (entries, names.old) (read_name.Group name.now)) }
+/// The entry of a name, which is made if it is new.
+fn entry_made(alloc: Global, names: &mut Names, name: &ReadName) -> Result<Entry, Refusal>
+    ensures { Makes result names.new (spec.entry_made names.old name.now) }
 {
-    let group = names.group(alloc, name)?;
-    Ok(entries.with_group(group)?)
+    match name {
+        ReadName::Group(name) => Ok(Entry::Group(names.group(alloc, name.as_slice())?)),
+        ReadName::Cluster(name) => Ok(Entry::Cluster(names.cluster(alloc, name.as_slice())?)),
+        ReadName::Found(group) => Ok(Entry::Group(*group)),
+    }
 }
 
-fn with_cluster(
-    alloc: Global,
-    names: &mut Names,
-    entries: Entries,
-    name: &[char],
-) -> Result<Entries, Refusal>
-    ensures { Makes result names.new
-        (spec.with_entry_made (entries, names.old) (read_name.Cluster name.now)) }
-{
-    let cluster = names.cluster(alloc, name)?;
-    Ok(entries.with_cluster(cluster)?)
-}
-
-/// The entries with that of a name, which is made if it is new.
+/// The entries with that of a name.
 fn with_name(
     alloc: Global,
     names: &mut Names,
@@ -45,11 +29,8 @@ fn with_name(
 ) -> Result<Entries, Refusal>
     ensures { Makes result names.new (spec.with_entry_made (entries, names.old) name.now) }
 {
-    match name {
-        ReadName::Group(name) => with_group(alloc, names, entries, name.as_slice()),
-        ReadName::Cluster(name) => with_cluster(alloc, names, entries, name.as_slice()),
-        ReadName::Found(group) => Ok(entries.with_group(*group)?),
-    }
+    let entry = entry_made(alloc, names, name)?;
+    Ok(entries.with_entry(entry)?)
 }
 
 /// A list with its new names made, from left to right.

@@ -59,19 +59,13 @@ impl ReadNames {
         }
     }
 
-    fn with_group(self, name: List<char>) -> Result<ReadNames, Memory>
-        ensures { IfOk result (λ names. names ≡ self ++ ReadName.Group name ∷ []) }
+    /// With a name more as it is written.
+    fn with_written(self, name: ReadName) -> Result<ReadNames, Memory>
+        requires { spec.found_in (name ∷ []) ≡ [] }
+        ensures { IfOk result (λ names. names ≡ self ++ name ∷ []) }
     {
         let ReadNames { mut names, found } = self;
-        names.push(ReadName::Group(name))?;
-        Ok(ReadNames { names, found })
-    }
-
-    fn with_cluster(self, name: List<char>) -> Result<ReadNames, Memory>
-        ensures { IfOk result (λ names. names ≡ self ++ ReadName.Cluster name ∷ []) }
-    {
-        let ReadNames { mut names, found } = self;
-        names.push(ReadName::Cluster(name))?;
+        names.push(name)?;
         Ok(ReadNames { names, found })
     }
 
@@ -102,8 +96,8 @@ impl ReadNames {
         ensures { Gives result (spec.with_name_read groups.now self name) }
     {
         match name {
-            Named::Group(name) => Ok(self.with_group(name)?),
-            Named::Cluster(name) => Ok(self.with_cluster(name)?),
+            Named::Group(name) => Ok(self.with_written(ReadName::Group(name))?),
+            Named::Cluster(name) => Ok(self.with_written(ReadName::Cluster(name))?),
             Named::Names(text) => {
                 let found = matching(alloc, groups, text.as_slice())?;
                 Ok(self.with_all_found(found.as_slice())?)

@@ -1,11 +1,11 @@
 //! The syntax of a file and of the files that it asks for.
 ghost use Rattle.std.specs.Prelude.{◌≡◌, [], IfOk, IfSome, OnOk, chars};
 ghost use Rattle.hi_links.specs.UsualGroups.{groups_and_links};
-ghost use Rattle.syn_reader.specs.Follows.{counts, Counts, IsSyntaxOf, Reads};
+ghost use Rattle.syn_reader.specs.Follows.{counts, Counts, CountsOf, IsSyntaxOf, Reads};
 ghost use Rattle.syn_reader.specs.SoundReading.{IsSoundReading};
 ghost use Rattle.syn_reader.specs.SyntaxOf as spec;
 
-use crate::files::{Asker, MOST_OPEN, ask};
+use crate::files::{Asker, How, MOST_OPEN, ask};
 use crate::includes::Progress;
 use crate::names::Names;
 use crate::names_pattern::usual_sets;
@@ -77,9 +77,7 @@ fn read_first<F: Files>(
 ) -> Result<(), ReadError>
     requires sound { IsSoundReading progress.old.reading }
     ensures kept { F.told files.new ≡ F.told files.old }
-    ensures counts { Counts result
-        (counts (F.faults files.old) (F.misses files.old) (F.longs files.old))
-        (counts (F.faults files.new) (F.misses files.new) (F.longs files.new)) }
+    ensures counts { CountsOf F.faults F.misses F.longs files.old files.new result }
     ensures answer { Reads (F.told files.old) progress.old.includes
         (λ fetch. spec.asked_within 21 fetch options.now (chars name.now) 0 name.now
         progress.old) progress.new result }
@@ -90,7 +88,12 @@ fn read_first<F: Files>(
         file: own.as_slice(),
         line: 0,
     };
-    ask(alloc, files, options, MOST_OPEN, asker, name, progress)
+    let how = How {
+        alloc,
+        options,
+        room: MOST_OPEN,
+    };
+    ask(how, files, asker, name, progress)
 }
 
 /// The syntax of a file and of the files that it asks for (`:syntax`, `:syn-include`).

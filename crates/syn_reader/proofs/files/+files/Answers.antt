@@ -13,30 +13,30 @@ use Rattle.syn_reader.proofs.files.+files.Goals as goal
 
 pub ask-returns-clause-answer : goal.ask-returns-clause-answer
 ask-returns-clause-answer g t c =
-    asked_reads (g.F.Files.told c.args.files.now) c.args.room c.args.options.now c.args.asker.file.now c.args.asker.line
+    asked_reads (g.F.Files.told c.args.files.now) c.args.how.room c.args.how.options.now c.args.asker.file.now c.args.asker.line
     c.args.name.now c.args.progress.now c.read_file.new.progress c.read_file.result (omega arith) c.read_file.ensures.answer
 
 -- a command's words say what it asks for
 pub carry_out-returns-in_ok-path-in-Runtime-clause-answer : goal.carry_out-returns-in_ok-path-in-Runtime-clause-answer
 carry_out-returns-in_ok-path-in-Runtime-clause-answer g t c =
-    let e : c.as_str.result.now ≡ spec.path_of c.args.options.now c.in-Runtime.name =
-    c.as_str.ensures.value ∙ c.in_ok-path-in-Runtime.ensures ∙ ap (spec.path_of c.args.options.now) c.as_slice.ensures in
+    let e : c.as_str.result.now ≡ spec.path_of c.args.how.options.now c.in-Runtime.name =
+    c.as_str.ensures.value ∙ c.in_ok-path-in-Runtime.ensures ∙ ap (spec.path_of c.args.how.options.now) c.as_slice.ensures in
     subst (λ w. Reads (g.F.Files.told c.args.files.now) (suc c.args.progress.now.includes)
-    (λ fetch. spec.command_done (spec.asked_within c.args.room fetch c.args.options.now) c.args.options.now c.args.file.now c.args.command.line c.args.progress.now w) c.runtime.new.progress c.runtime.result)
+    (λ fetch. spec.command_done (spec.asked_within c.args.how.room fetch c.args.how.options.now) c.args.how.options.now c.args.file.now c.args.command.line c.args.progress.now w) c.runtime.new.progress c.runtime.result)
     (sym c.in-Runtime.is)
     (subst (λ path. Reads (g.F.Files.told c.args.files.now) (suc c.args.progress.now.includes)
-    (λ fetch. spec.runtime_command (spec.asked_within c.args.room fetch c.args.options.now) c.args.file.now c.args.command.line c.args.progress.now path) c.runtime.new.progress c.runtime.result)
+    (λ fetch. spec.runtime_command (spec.asked_within c.args.how.room fetch c.args.how.options.now) c.args.file.now c.args.command.line c.args.progress.now path) c.runtime.new.progress c.runtime.result)
     e c.runtime.ensures.answer)
 
 pub carry_out-returns-in_ok-path-in-Include-clause-answer : goal.carry_out-returns-in_ok-path-in-Include-clause-answer
 carry_out-returns-in_ok-path-in-Include-clause-answer g t c =
-    let e : c.as_str-in-Include.result.now ≡ spec.path_of c.args.options.now c.in-Include.name =
-    c.as_str-in-Include.ensures.value ∙ c.in_ok-path-in-Include.ensures ∙ ap (spec.path_of c.args.options.now) c.as_slice-in-Include.ensures in
+    let e : c.as_str-in-Include.result.now ≡ spec.path_of c.args.how.options.now c.in-Include.name =
+    c.as_str-in-Include.ensures.value ∙ c.in_ok-path-in-Include.ensures ∙ ap (spec.path_of c.args.how.options.now) c.as_slice-in-Include.ensures in
     subst (λ w. Reads (g.F.Files.told c.args.files.now) (suc c.args.progress.now.includes)
-    (λ fetch. spec.command_done (spec.asked_within c.args.room fetch c.args.options.now) c.args.options.now c.args.file.now c.args.command.line c.args.progress.now w) c.include.new.progress c.include.result)
+    (λ fetch. spec.command_done (spec.asked_within c.args.how.room fetch c.args.how.options.now) c.args.how.options.now c.args.file.now c.args.command.line c.args.progress.now w) c.include.new.progress c.include.result)
     (sym c.in-Include.is)
     (subst (λ path. Reads (g.F.Files.told c.args.files.now) (suc c.args.progress.now.includes)
-    (λ fetch. spec.include_command (spec.asked_within c.args.room fetch c.args.options.now) c.args.file.now c.args.command.line c.args.progress.now c.in-Include.cluster path) c.include.new.progress c.include.result)
+    (λ fetch. spec.include_command (spec.asked_within c.args.how.room fetch c.args.how.options.now) c.args.file.now c.args.command.line c.args.progress.now c.in-Include.cluster path) c.include.new.progress c.include.result)
     e c.include.ensures.answer)
 
 pub carry_out-returns-in_default-clause-counts : goal.carry_out-returns-in_default-clause-counts
@@ -44,13 +44,13 @@ carry_out-returns-in_default-clause-counts g t c = does_counts c.do_effect.resul
 
 pub carry_out-returns-in_default-clause-answer : goal.carry_out-returns-in_default-clause-answer
 carry_out-returns-in_default-clause-answer g t c =
-    plain_reads (g.F.Files.told c.args.files.now) (λ fetch. spec.asked_within c.args.room fetch c.args.options.now) c.args.options.now c.args.file.now c.args.command.line c.args.command.what c.args.progress.now c.do_effect.new.progress c.do_effect.result
+    plain_reads (g.F.Files.told c.args.files.now) (λ fetch. spec.asked_within c.args.how.room fetch c.args.how.options.now) c.args.how.options.now c.args.file.now c.args.command.line c.args.command.what c.args.progress.now c.do_effect.new.progress c.do_effect.result
     c.in_default.not-Runtime c.in_default.not-Include c.do_effect.ensures.answer c.do_effect.ensures.causes c.do_effect.ensures.includes
 
 pub carry_out_all-loop-command-preserved : goal.carry_out_all-loop-command-preserved
 carry_out_all-loop-command-preserved g t c =
     let told = g.F.Files.told c.args.files.now in
-    let step = λ (fetch : Fetching). spec.with_command (spec.asked_within c.args.room fetch c.args.options.now) c.args.options.now c.args.file.now in
+    let step = λ (fetch : Fetching). spec.with_command (spec.asked_within c.args.how.room fetch c.args.how.options.now) c.args.how.options.now c.args.file.now in
     let steps = c.in-Some.ensures.steps in
     let next : Reads told (suc c.loop-command.progress.includes) (λ fetch. step fetch c.loop-command.progress c.in-Some.command) c.carry_out.new.progress (Ok (tt {0})) =
     subst (λ files. Reads files (suc c.loop-command.progress.includes) (λ fetch. step fetch c.loop-command.progress c.in-Some.command) c.carry_out.new.progress (Ok (tt {0}))) c.loop-command.invariant.told c.in_ok-carry_out.ensures.answer in
@@ -69,7 +69,7 @@ carry_out_all-loop-command-preserved g t c =
 pub carry_out_all-returns-in_err-carry_out-clause-answer : goal.carry_out_all-returns-in_err-carry_out-clause-answer
 carry_out_all-returns-in_err-carry_out-clause-answer g t c =
     let told = g.F.Files.told c.args.files.now in
-    let step = λ (fetch : Fetching). spec.with_command (spec.asked_within c.args.room fetch c.args.options.now) c.args.options.now c.args.file.now in
+    let step = λ (fetch : Fetching). spec.with_command (spec.asked_within c.args.how.room fetch c.args.how.options.now) c.args.how.options.now c.args.file.now in
     let p = err_from_is_err_and c.from_residual.result c.from_residual.ensures.1 in
     rw (p.1, p.2)
     (ends_in_reads told (suc c.args.progress.now.includes) step c.args.progress.now c.loop-command.progress c.carry_out.new.progress c.carry_out.new.progress c.loop-command.yielded (into_iter_items c.next.new.self) c.args.found.list c.in-Some.command (tt {0}) _ (spec.unless_fault c.args.file.now c.args.found.fault)
@@ -79,7 +79,7 @@ carry_out_all-returns-in_err-carry_out-clause-answer g t c =
 
 pub carry_out_all-returns-clause-answer : goal.carry_out_all-returns-clause-answer
 carry_out_all-returns-clause-answer g t c =
-    all_reads (g.F.Files.told c.args.files.now) (suc c.args.progress.now.includes) (λ fetch. spec.with_command (spec.asked_within c.args.room fetch c.args.options.now) c.args.options.now c.args.file.now) c.args.progress.now
+    all_reads (g.F.Files.told c.args.files.now) (suc c.args.progress.now.includes) (λ fetch. spec.with_command (spec.asked_within c.args.how.room fetch c.args.how.options.now) c.args.how.options.now c.args.file.now) c.args.progress.now
     c.args.file.now c.args.found.fault c.loop-command.progress c.loop-command.yielded c.args.found.list (tt {0}) c.fault_of.result
     (all_ran c.loop-command.yielded (into_iter_items c.loop-command.command-iterator) c.args.found.list (into_iter_len c.loop-command.command-iterator) c.loop-command.invariant.to_come c.loop-command.invariant.count c.in-None.ensures.steps.0)
     c.loop-command.invariant.answer (subst (λ fault. IsFaultOf c.args.file.now fault c.fault_of.result) c.loop-command.invariant.fault c.fault_of.ensures)
@@ -87,12 +87,12 @@ carry_out_all-returns-clause-answer g t c =
 pub read_file-returns-in_ok-found-in-Whole-clause-answer : goal.read_file-returns-in_ok-found-in-Whole-clause-answer
 read_file-returns-in_ok-found-in-Whole-clause-answer g t c =
     let same : c.in_ok-found-in-Whole.found ≡ commands_of c.in-Whole.bytes = c.in_ok-found-in-Whole.ensures ∙ ap commands_of c.as_slice.ensures in
-    whole_reads (g.F.Files.told c.args.files.now) (g.F.Files.told c.fetch.new.self) (λ fetch. spec.asked_within c.args.room fetch c.args.options.now) c.args.options.now c.args.asker.file.now c.args.asker.line c.args.name.now
+    whole_reads (g.F.Files.told c.args.files.now) (g.F.Files.told c.fetch.new.self) (λ fetch. spec.asked_within c.args.how.room fetch c.args.how.options.now) c.args.how.options.now c.args.asker.file.now c.args.asker.line c.args.name.now
     c.as_slice-in-Whole.result.now c.in-Whole.bytes c.in_ok-found-in-Whole.found c.args.progress.now c.carry_out_all.new.progress c.carry_out_all.result
     c.in-Whole.ensures.kept (c.as_slice-in-Whole.ensures ∙ ap (λ (asked : Asked). asked.name) c.in_ok-asked.ensures) same c.in-Whole.ensures.answer c.carry_out_all.ensures.answer
 
 pub read_file-returns-in-Failed-clause-answer : goal.read_file-returns-in-Failed-clause-answer
 read_file-returns-in-Failed-clause-answer g t c =
-    failed_reads (g.F.Files.told c.args.files.now) (λ fetch. spec.asked_within c.args.room fetch c.args.options.now) c.args.options.now
+    failed_reads (g.F.Files.told c.args.files.now) (λ fetch. spec.asked_within c.args.how.room fetch c.args.how.options.now) c.args.how.options.now
     c.args.asker.file.now c.args.asker.line c.args.name.now c.args.progress.now c.args.progress.now c.file_fault.result
     (c.file_fault.ensures ∙ ap (λ (asked : Asked). FileFault asked.file asked.line asked.name) c.in_ok-asked.ensures)

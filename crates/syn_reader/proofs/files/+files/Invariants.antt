@@ -10,22 +10,22 @@ use Rattle.syn_reader.proofs.files.+files.Given as goal
 
 -- by how many files may still be opened, and within one by how far the calls have come
 abbrev pub decreases-ask : goal.decreases-ask
-decreases-ask g l = 8 * l.room
+decreases-ask g l = 8 * l.how.room
 
 abbrev pub decreases-runtime : goal.decreases-runtime
-decreases-runtime g l = 8 * l.room + 1
+decreases-runtime g l = 8 * l.how.room + 1
 
 abbrev pub decreases-include : goal.decreases-include
-decreases-include g l = 8 * l.room + 2
+decreases-include g l = 8 * l.how.room + 2
 
 abbrev pub decreases-carry_out : goal.decreases-carry_out
-decreases-carry_out g l = 8 * l.room + 3
+decreases-carry_out g l = 8 * l.how.room + 3
 
 abbrev pub decreases-carry_out_all : goal.decreases-carry_out_all
-decreases-carry_out_all g l = 8 * l.room + 4
+decreases-carry_out_all g l = 8 * l.how.room + 4
 
 abbrev pub decreases-read_file : goal.decreases-read_file
-decreases-read_file g l = 8 * l.room + 5
+decreases-read_file g l = 8 * l.how.room + 5
 
 -- an answer without an error
 abbrev so_far : Result (Unit {0}) ReadError
@@ -39,7 +39,7 @@ invariant-carry_out_all-loop-command g l = record {
   misses : g.F.Files.misses l.files ≡ g.F.Files.misses l.initial.files;
   longs : g.F.Files.longs l.files ≡ g.F.Files.longs l.initial.files;
   answer : Reads (g.F.Files.told l.initial.files) (suc l.initial.progress.includes)
-      (λ fetch. each (with_command (asked_within l.room fetch l.options) l.options l.file) l.initial.progress l.yielded) l.progress so_far;
+      (λ fetch. each (with_command (asked_within l.how.room fetch l.how.options.now) l.how.options.now l.file) l.initial.progress l.yielded) l.progress so_far;
   to_come : l.yielded ++ into_iter_items l.command-iterator ≡ l.fn.found.list;
   fault : l.fault ≡ l.fn.found.fault;
   sound : IsSoundReading l.progress.reading;

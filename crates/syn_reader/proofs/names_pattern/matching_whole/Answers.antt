@@ -1,4 +1,4 @@
-use Rattle.std.proofs.Common.{add-one, arith, ◌∙◌}
+use Rattle.std.proofs.Common.{add-one, arith}
 use Rattle.std.proofs.lemmas.Result.{err_from_is_err_and}
 use Rattle.syn_reader.proofs.MatchingLaws.{one_tried, one_refused}
 use Rattle.syn_reader.proofs.names_pattern.matching_whole.Goals as goal

@@ -1,7 +1,6 @@
 use Rattle.std.proofs.Common.{refl, sym, subst, Err}
 use Rattle.std.specs.Prelude.{IfSome, chars}
 use Rattle.std.proofs.lemmas.Result.{err_from_is_err_and}
-use Rattle.syn_reader.specs.declared.reading.Reading.{Reading}
 use Rattle.syn_reader.specs.declared.syntax.ReadError.{ReadError}
 use Rattle.syn_reader.specs.Follows.{counts, IsSyntaxOf}
 use Rattle.syn_reader.specs.SoundReading.{IsSoundReading}
