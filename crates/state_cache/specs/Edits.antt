@@ -62,7 +62,8 @@ to_paint_in r notes changed =
 abbrev pub most_by : Edit → ℕ
 most_by edit = to_paint_in (rules_of edit) (old_by edit) edit.changed
 
--- what is known of the old text stands: its notes are its painting, and none of its lines looked further
+-- what is known of the old text stands: its notes are its painting, and none of its lines looked
+-- further, or at a number where the reach tells of none
 pub record IsSoundEdit (edit : Edit) : Type 0 where
   pub budget : 1 ≤ edit.brush.budget
   pub painted : text_notes (rules_of edit) (lines_of edit) ≡ Ok (old_by edit)

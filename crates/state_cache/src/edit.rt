@@ -7,7 +7,7 @@ use chunk_list::ChunkList;
 use syn_base::{List, Looked};
 
 /// A change of a painted text: the changed text, and the notes of the old one, none of whose lines
-/// looked further than `reach` tells.
+/// looked further than `reach` tells, or at a number where it tells of none.
 #[derive(Drop)]
 pub(crate) struct Edit<'a> {
     pub(crate) brush: Brush<'a>,
@@ -36,7 +36,7 @@ pub(crate) struct Made {
     pub(crate) patches: List<Patch>,
     pub(crate) fresh: List<Kept>,
     pub(crate) report: List<usize>,
-    /// No line of the changed text looked further.
+    /// No line of the changed text looked further, nor at a number if this didn't.
     pub(crate) reach: Looked,
 }
 

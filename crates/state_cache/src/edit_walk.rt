@@ -1,17 +1,16 @@
 //! The walk of an edit over old and new lines: what is reusable stays, all else is painted.
-ghost use Rattle.std.specs.Prelude.{◌≡◌, ◌+◌, ◌-◌, ◌<◌, ◌≤◌, ◌++◌, [], ◌∷◌, ℕ, drop, length, not, pos, slice_get, Some, None, Ok, IfOk, IfErr, IfSome, OnOk};
+ghost use Rattle.std.specs.Prelude.{◌≡◌, ◌+◌, ◌-◌, ◌<◌, ◌≤◌, ◌++◌, [], ◌∷◌, ℕ, drop, length, not, slice_get, Some, None, Ok, IfOk, IfErr, IfSome, OnOk};
 ghost use Rattle.std.specs.List.{All};
 ghost use Rattle.item_pick.specs.Tables.{TablesStand};
 ghost use Rattle.paint_reuse.specs.Change.{old_line};
 ghost use Rattle.paint_reuse.specs.Kept.{line_note, text_notes};
 ghost use Rattle.paint_reuse.specs.Report.{report, same_spans};
-ghost use Rattle.paint_reuse.specs.Reuse.{is_clear, one_unless, to_paint_from};
+ghost use Rattle.paint_reuse.specs.Reuse.{one_unless, to_paint_from};
 ghost use Rattle.paint_reuse.specs.SameState.{same_state};
-ghost use Rattle.paint_reuse.specs.Work.{AreClear, before_at, NewOver, NewWent, OldLines, Over, Passes, Went, kept_spans, put_in, reusable, state_by, told, work};
+ghost use Rattle.paint_reuse.specs.Work.{AreUntouched, before_at, is_untouched, NewOver, NewWent, OldLines, Over, Passes, Went, kept_spans, put_in, reusable, state_by, told, work};
 ghost use Rattle.paint_rules.specs.States.{StateFits, empty_state, next_line};
 ghost use Rattle.state_cache.specs.Edits.{GivenFits, IsKeptOr, IsMade, IsSoundEdit, PatchesFit, change_by, given_by, items_of, lines_of, most_by, new_work, old_by, patched, rules_of, state_at, stretch_work, text_of};
 ghost use Rattle.state_cache.specs.Notes.{NoteFits};
-ghost use Rattle.syn_base.specs.Looked.{moved_by};
 ghost use Rattle.state_cache.specs.Refusals.{RefusesAs, RefusesLine};
 ghost use Rattle.state_stack.specs.TopFirst.{top_first};
 
@@ -82,39 +81,43 @@ impl Done {
 }
 
 impl Edit<'_> {
-    /// Whether old line `j` looked at nothing of the change.
-    fn is_clear(&self, j: usize) -> bool
+    /// Whether old line `j` looked at nothing of the change, nor at its number if it moved.
+    fn is_untouched(&self, j: usize) -> bool
         requires { j < length (old_by self.now) }
-        ensures { IfSome (slice_get (old_by self.now) j) (λ note.
-            result ≡ is_clear (change_by self.now) (Some (moved_by note.looked (pos j)))) }
+        ensures { IfSome (slice_get (old_by self.now) j) (λ note. (k : ℕ) →
+            old_line (change_by self.now) k ≡ Some j →
+            result ≡ is_untouched (change_by self.now) j k note.looked) }
     {
         let _count = self.notes.len();
         self.changed
             .change()
-            .is_clear(j, self.notes.get(j).looked())
+            .is_untouched(j, self.notes.get(j).looked())
     }
 
     /// A line from `from` on, before which the lines looked at nothing of the change. Where no line
-    /// can have looked that far, none is visited.
+    /// can have looked that far, none is visited. Once any line looked at a number, those behind a
+    /// change that moved them all are.
     fn clear_until(&self, from: usize, to: usize) -> usize
         requires sound { IsSoundEdit self.now }
         requires ordered { from ≤ to }
         requires inside { to ≤ length (old_by self.now) }
         ensures from { from ≤ result }
         ensures to { result ≤ to }
-        ensures clear { AreClear (change_by self.now) (old_by self.now) from result }
+        ensures untouched { AreUntouched (change_by self.now) (old_by self.now) from result }
     {
         let near = first_near(self.changed.a, self.reach).max(from).min(to);
-        let behind = first_behind(self.changed.b, self.reach).max(near).min(to);
+        let behind = first_behind(self.changed.change(), self.reach)
+            .max(near)
+            .min(to);
         for j in near..behind {
-            if !self.is_clear(j) {
+            if !self.is_untouched(j) {
                 return j;
             }
         }
         to
     }
 
-    /// The line to go over next: in the state of the old painting, lines that are clear of the
+    /// The line to go over next: in the state of the old painting, lines that looked at nothing of the
     /// change are passed.
     fn passed(&self, given: &Option<State>, from: usize, to: usize) -> usize
         requires sound { IsSoundEdit self.now }
@@ -139,7 +142,7 @@ impl Edit<'_> {
             (state_at self.now given.now j) }
     {
         let note = self.notes.get(j);
-        self.is_clear(j) && is_same(given, note.state_before())
+        self.is_untouched(j) && is_same(given, note.state_before())
     }
 
     /// The new note of an old line, if it is to be painted.

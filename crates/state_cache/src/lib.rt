@@ -2,8 +2,9 @@
 //!
 //! What is kept is always the painting of the text from its first line on, by the rules alone. An
 //! edit paints a line only where it isn't reusable: where it is new, where its painting looked at a
-//! replaced line, or where another state stands before it. So an edit costs the lines to paint, and
-//! not the text; which lines it tells, and whether it is refused, is as if all were painted anew.
+//! replaced line, where it moved and its painting looked at its number, or where another state stands
+//! before it. So an edit costs the lines to paint, and not the text; which lines it tells, and whether
+//! it is refused, is as if all were painted anew.
 #![tactic(auto)]
 
 mod brush;

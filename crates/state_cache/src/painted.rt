@@ -44,9 +44,10 @@ pub struct Painted {
     text: Text,
     budget: u64,
     notes: ChunkList<Kept>,
-    /// No line looked further.
+    /// No line looked further, nor at a number if this didn't.
     reach: Looked,
-    /// What the painter remembers of the syntax from edit to edit.
+    /// What the painter remembers of the syntax from edit to edit. Nothing of it speaks of a line's
+    /// number, so it holds of a line that moved.
     memory: PickMemory,
 }
 

@@ -1,13 +1,15 @@
-//! How far the lines of a text looked, at most.
-ghost use Rattle.std.specs.Prelude.{◌≡◌, ◌<◌, ◌≤◌, ◌^◌, ℕ, pos, ◌+ℤ◌, ◌<ℤ◌, ◌≤ℤ◌};
+//! How far the lines of a text looked, at most, and whether any of them looked at a line's number.
+ghost use Rattle.std.specs.Prelude.{◌≡◌, ◌+◌, ◌<◌, ◌≤◌, ◌^◌, ℕ, pos, ◌+ℤ◌, ◌<ℤ◌, ◌≤ℤ◌, true};
 ghost use Rattle.std.specs.List.{All};
 ghost use Rattle.state_cache.specs.Reach.{IsWithin, LooksWithin};
 
 use crate::edit::Patch;
 use crate::kept::Kept;
+use paint_reuse::Change;
 use syn_base::{List, Looked};
 
-/// The lines from `reach` and those that these notes' lines looked at, each counted from its line.
+/// The lines from `reach` and those that these notes' lines looked at, each counted from its line; a
+/// number where one of them looked at one.
 pub(crate) fn reach_of(notes: &List<Kept>, reach: Looked) -> Looked
     ensures grows { IsWithin reach result }
     ensures notes { All (LooksWithin result) notes.now }
@@ -35,7 +37,8 @@ pub(crate) fn reach_of_patches(patches: &List<Patch>, reach: Looked) -> Looked
 /// each line before it looked at lines before `a` alone.
 pub(crate) fn first_near(a: usize, reach: Looked) -> usize
     requires { a < 2 ^ 32 }
-    ensures { (j : ℕ) → j < result → (pos j +ℤ reach.high) <ℤ pos a }
+    ensures above { result ≤ a }
+    ensures far { (j : ℕ) → j < result → (pos j +ℤ reach.high) <ℤ pos a }
 {
     if reach.high < 0 {
         return a;
@@ -43,13 +46,21 @@ pub(crate) fn first_near(a: usize, reach: Looked) -> usize
     a.saturating_sub(reach.high as usize)
 }
 
-/// The first line from which on each line that looks at most as far back looked at no line before `b`.
-pub(crate) fn first_behind(b: usize, reach: Looked) -> usize
-    requires { b < 2 ^ 32 }
-    ensures { (j : ℕ) → result ≤ j → j < 2 ^ 32 → pos b ≤ℤ (pos j +ℤ reach.low) }
+/// The first line from which on no line that looks at most so far can have looked at the change: at a
+/// line before the old end of it, or at a number that isn't the line's own any more. Where lines
+/// moved and a number was looked at, there is none.
+pub(crate) fn first_behind(change: Change, reach: Looked) -> usize
+    requires ordered { change.a ≤ change.b }
+    requires end { change.b < 2 ^ 32 }
+    ensures lines { (j : ℕ) → result ≤ j → j < 2 ^ 32 → pos change.b ≤ℤ (pos j +ℤ reach.low) }
+    ensures numbers { (j : ℕ) → result ≤ j → j < 2 ^ 32 → reach.numbered ≡ true
+        → change.a + change.count ≡ change.b }
 {
-    if reach.low >= 0 {
-        return b;
+    if reach.numbered && !change.keeps_count() {
+        return usize::MAX;
     }
-    b.saturating_add(reach.low.unsigned_abs() as usize)
+    if reach.low >= 0 {
+        return change.b;
+    }
+    change.b.saturating_add(reach.low.unsigned_abs() as usize)
 }
