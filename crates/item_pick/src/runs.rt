@@ -51,9 +51,7 @@ pub(crate) struct Search<'a> {
 pub(crate) fn holds(looked: Looked, lines: Looked) -> bool
     ensures { IsTrue result → HoldsLines looked lines }
 {
-    looked.low <= lines.low
-        && lines.high <= looked.high
-        && (looked.numbered || !lines.numbered)
+    looked.low <= lines.low && lines.high <= looked.high && (looked.numbered || !lines.numbered)
 }
 
 /// What is known of a line.

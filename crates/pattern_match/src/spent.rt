@@ -77,7 +77,5 @@ impl Spent {
 pub(crate) fn holds(before: Looked, looked: Looked) -> bool
     ensures { IsTrue result → hull_of before looked ≡ before }
 {
-    before.low <= looked.low
-        && looked.high <= before.high
-        && (before.numbered || !looked.numbered)
+    before.low <= looked.low && looked.high <= before.high && (before.numbered || !looked.numbered)
 }

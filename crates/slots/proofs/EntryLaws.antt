@@ -1,12 +1,9 @@
 -- Lists with an element put into them.
-use Rattle.std.proofs.Common.{sym, ap, subst, get_or, ◌∙◌, ◌<◌, ◌≡◌, ◌⊎◌, ℕ, zero, suc, arith, inl, inr, List, [], ◌∷◌, ◌++◌, length, set, refl}
+use Rattle.std.proofs.Common.{sym, subst, ◌<◌, ◌≡◌, ◌⊎◌, ℕ, zero, suc, arith, inl, inr, List, [], ◌∷◌, ◌++◌, length, set, refl}
 use Rattle.std.specs.Prelude.{Some, slice_get}
-use Rattle.std.proofs.lemmas.Option.{slice_get_read, slice_get_within}
 use Rattle.slots.specs.declared.grid.Grid.{Grid}
-use Rattle.slots.specs.declared.slots.Slot.{Slot}
-use Rattle.slots.specs.declared.slots.Slots.{Slots}
 use Rattle.slots.specs.declared.table.Table.{Table}
-use Rattle.slots.specs.Entries.{Has, IsAt, IsIn, IsPut, IsPutIn, Stands}
+use Rattle.slots.specs.Entries.{IsAt, IsIn, IsPut, IsPutIn}
 
 -- an element of a list with one more is one of the list, or the new one
 pub pushed : {X : Type 0} (xs : List X) (x : X) (k : ℕ) (y : X) → slice_get (xs ++ x ∷ []) k ≡ Some y → (slice_get xs k ≡ Some y) ⊎ ((k ≡ length xs) × (y ≡ x))

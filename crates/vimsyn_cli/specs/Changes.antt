@@ -1,7 +1,6 @@
 -- What a call is given, before and after it.
 use Rattle.std.specs.Prelude.{◌≡◌, ℕ, Option}
 use Rattle.syn_base.specs.Outside.{FileMap}
-
 pub use Rattle.edit_session.specs.Ends.{sink_change, source_change}
 
 -- files before and after a call: what they hold, where told, and their counts

@@ -1,10 +1,8 @@
-use Rattle.std.proofs.Common.{◌≡◌, ◌<◌, ◌∙◌, ℕ, arith, inl, inr, length, List, refl, subst, sym}
-use Rattle.std.specs.Prelude.{Some, slice_get}
+use Rattle.std.proofs.Common.{◌≡◌, ◌<◌, ◌∙◌, ℕ, arith, inl, inr, length, refl, subst, sym}
 use Rattle.std.specs.Vec.{with_item}
 use Rattle.std.proofs.lemmas.Option.{slice_get_read}
 use Rattle.std.proofs.lemmas.Result.{on_ok_weaker}
 use Rattle.slots.specs.declared.grid.Grid.{Grid}
-use Rattle.slots.specs.declared.table.Table.{Table}
 use Rattle.slots.specs.Entries.{IsIn}
 use Rattle.slots.proofs.EntryLaws.{get_set, in_exchanged}
 use Rattle.slots.proofs.grid.Grid.put.Goals as goal
