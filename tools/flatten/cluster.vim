@@ -44,7 +44,7 @@ enddef
 
 # Writes the special clusters of the innermost flat file out as the groups that their lists have.
 export def WriteOut()
-  const here = frame.frames[-1]
+  final here = frame.frames[-1]
   for [name, at] in items(special)
     if at is here
       frame.Keep(-1, 0, WrittenOut(name, here))
@@ -54,12 +54,12 @@ export def WriteOut()
 enddef
 
 def WrittenOut(name: string, at: dict<any>): string
-  const list = clusters[name]
+  final list = clusters[name]
   const first = toupper(list[0])
   var less = {}
   AddMembers(less, list[1 :], 1)
-  const from = first ==# 'TOP' ? at.tops : first ==# 'CONTAINED' ? at.contained : groups
-  const names = filter(sort(keys(from)), (_, group) => first ==# 'ALL' || !has_key(less, group))
+  final from = first ==# 'TOP' ? at.tops : first ==# 'CONTAINED' ? at.contained : groups
+  final names = filter(sort(keys(from)), (_, group) => first ==# 'ALL' || !has_key(less, group))
   return 'syn cluster ' .. name .. ' contains=' .. join(mapnew(names, (_, group) => groups[group]), ',')
 enddef
 

@@ -203,7 +203,7 @@ enddef
 
 # A user command: its replacement is put together as a text where it is used, and rewritten there.
 def Definition(text: string, at: string): string
-  const m = matchlist(text, '^\(\a\+!\=\s\+\%(-\S\+\s\+\)*\)\(\u\w*\)\(\s\+\)\(.*\)$')
+  final m = matchlist(text, '^\(\a\+!\=\s\+\%(-\S\+\s\+\)*\)\(\u\w*\)\(\s\+\)\(.*\)$')
   if empty(m)
     return text
   endif

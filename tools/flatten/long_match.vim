@@ -11,13 +11,13 @@ export def Split(line: string): list<string>
   if len(line) <= 4002 || line !~# '^syn match'
     return [line]
   endif
-  const pieces = cut.Pieces(line, false)
+  final pieces = cut.Pieces(line, false)
   const at = index(mapnew(pieces, (_, piece) => piece.kind), 'pattern')
   if at < 0 || Characters(line, pieces[at]) <= 4002
     return [line]
   endif
   const [from, to] = [pieces[at].from, pieces[at].to]
-  const group = LongestGroup(line, from + 1, to - 1)
+  final group = LongestGroup(line, from + 1, to - 1)
   return group == [] ? [line] : Parts(line, from, to, group)
 enddef
 
