@@ -41,6 +41,7 @@ import './flatten/copies.vim'
 import './flatten/frame.vim'
 import './flatten/cluster.vim'
 import './flatten/command.vim'
+import './flatten/item.vim'
 
 var what = ''                          # the syntax that was asked for,
 var folder = ''                        # the folder of the flat files,
@@ -73,7 +74,7 @@ command! -nargs=* FlattenPut Put(<q-args>)
 
 # The text that ':execute' has put together, behind its file and line.
 def Put(text: string)
-  const m = matchlist(text, '^\(\d\+\), \(\d\+\),\_s\(\_.*\)$')
+  final m = matchlist(text, '^\(\d\+\), \(\d\+\),\_s\(\_.*\)$')
   g:flatten_next = empty(m) ? '' : g:FlattenText(str2nr(m[1]), str2nr(m[2]), m[3])
 enddef
 
@@ -116,7 +117,7 @@ def Carried(file: number, lnum: number, text: string)
     frame.LeaveOut(file, lnum, v:errmsg, text)
     return
   endif
-  const flat = command.Flat(text)
+  final flat = command.Flat(text)
   NoteOwnKeywords(text)
   NoteKeywords(file, lnum)
   for cause in flat.causes
@@ -136,7 +137,7 @@ enddef
 
 def EndInclude()
   cluster.WriteOut()
-  const read = frame.Close()
+  final read = frame.Close()
   const [file, lnum, text] = read.asked
   const members = matchstr(text, '^\a\+\s\+include\s\+\zs@\S\+\s\+')
   if !read.read
@@ -236,13 +237,16 @@ def Finish(): bool
   LeaveIncludes()
   NoteKeywords(-1, 0)
   cluster.WriteOut()
-  const main = frame.Close()
+  for line in item.OwnLinks()
+    frame.Keep(-1, 0, line)
+  endfor
+  final main = frame.Close()
   if main.read == 0
     Say([what .. ': no such syntax file'])
     return false
   endif
   NoteMessages()
-  const list = frame.NoteLines(copies.files, name)
+  final list = frame.NoteLines(copies.files, name)
   mkdir(folder .. '/syntax', 'p')
   for flat in frame.done
     var lines = frame.FlatLines(flat, copies.files)

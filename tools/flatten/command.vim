@@ -6,6 +6,7 @@ import './cut.vim'
 import './frame.vim'
 import './cluster.vim'
 import './pattern.vim'
+import './item.vim'
 import './long_match.vim'
 
 var reserved: dict<string> = {}    # of each group with a reserved name, in small letters, the name that it gets
@@ -53,20 +54,24 @@ enddef
 
 # A match or region: its patterns and lists in their usual spelling.
 def FlatItem(text: string): dict<list<string>>
-  const pieces = cut.KnownPieces(text)
-  var [made, causes, refused, at] = ['', [], false, 0]
+  var pieces = cut.KnownPieces(text)
+  var [parts, causes] = [[], []]
   for i in range(len(pieces) - 1)
     const piece = strpart(text, pieces[i].from, pieces[i].to - pieces[i].from)
     const gap = strpart(text, pieces[i].to, pieces[i + 1].from - pieces[i].to)
     const [flat, cause] = FlatPiece(pieces[i].kind, piece)
     if cause !=# ''
       add(causes, cause)
-      refused = refused || cause =~# '^left out'
     endif
-    made ..= flat .. gap
+    add(parts, item.Part(pieces[i].kind, flat, gap))
   endfor
-  NoteGroup(made, WordsOf(text, pieces))
-  return refused ? Form([], causes) : Form(long_match.Split(cut.Trimmed(made)), causes)
+  NoteGroup(parts[0].text, WordsOf(text, pieces))
+  if match(causes, '^left out') >= 0
+    return Form([], causes)
+  endif
+  const [sub, group] = split(parts[0].text)[1 : 2]
+  const made = cut.Trimmed(item.TextOf(item.Respell(sub, group, parts, causes)))
+  return Form(long_match.Split(made), causes)
 enddef
 
 def FlatPiece(kind: string, piece: string): list<string>
@@ -85,7 +90,7 @@ def FlatPiece(kind: string, piece: string): list<string>
 enddef
 
 def FlatHead(text: string): string
-  const m = matchlist(text, '^\a\+\s\+\(\a\+\)\s\+\([^ \t|]*\)')
+  final m = matchlist(text, '^\a\+\s\+\(\a\+\)\s\+\([^ \t|]*\)')
   return empty(m) ? text : 'syn ' .. m[1] .. ' ' .. GroupName(m[2]) .. ' '
 enddef
 
@@ -120,12 +125,12 @@ enddef
 
 # A list of names without empty ones.
 def FlatList(text: string): string
-  const m = matchlist(text, '^\(\a\+\)\s*=\s*\(.*\)$')
+  final m = matchlist(text, '^\(\a\+\)\s*=\s*\(.*\)$')
   return empty(m) ? text : m[1] .. '=' .. join(Names(m[2]), ',')
 enddef
 
 def Names(text: string): list<string>
-  const names = filter(map(split(text, ','), (_, name) => trim(name)), (_, name) => name !=# '')
+  final names = filter(map(split(text, ','), (_, name) => trim(name)), (_, name) => name !=# '')
   var made = names[: 0]
   for name in names[1 :]
     if name !=? 'none' || has_key(reserved, 'none')
@@ -216,7 +221,7 @@ enddef
 
 # Links and styles: 'default' and 'link' in full, colours as numbers.
 def FlatHighlight(text: string): dict<list<string>>
-  const m = matchlist(text, '^\a\+\(!\=\)\s*\(.*\)$')
+  final m = matchlist(text, '^\a\+\(!\=\)\s*\(.*\)$')
   var words = split(m[2])
   var front = 'hi' .. m[1]
   if words != [] && words[0] =~# '^d\%[efault]$'
@@ -239,7 +244,7 @@ enddef
 def StyleParts(text: string): list<list<string>>
   var [parts, causes, i] = [[], [], 0]
   while i < len(text)
-    const m = matchlist(text, '\(\a\+\)\s*=\s*\(''[^'']*''\|\S*\)', i)
+    final m = matchlist(text, '\(\a\+\)\s*=\s*\(''[^'']*''\|\S*\)', i)
     if empty(m)
       break
     endif

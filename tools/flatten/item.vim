@@ -1,0 +1,100 @@
+vim9script
+
+# Matches and regions in words that mean the same to Vim and to vimsyn, where one word means two things to them.
+#
+# An item is a list of parts, of which each is a dictionary: its kind (as of pieces, flatten/cut.vim), its text, and
+# the gap behind it.
+
+var own_groups: dict<list<string>> = {}    # of each group that is its own matchgroup, in small letters: the group in
+                                           # its place, and its own name
+
+export def Part(kind: string, text: string, gap: string): dict<string>
+  return {kind: kind, text: text, gap: gap}
+enddef
+
+export def TextOf(parts: list<dict<string>>): string
+  return join(mapnew(parts, (_, part) => part.text .. part.gap), '')
+enddef
+
+# An item of a kind ('match', 'region') and a group. Causes are added to a list.
+export def Respell(sub: string, group: string, given: list<dict<string>>, causes: list<string>): list<dict<string>>
+  if sub ==# 'match'
+    return given
+  endif
+  var region = RegionOf(given)
+  return PartsOf(OwnMatchgroups(region, group, causes))
+enddef
+
+# === Regions ===
+
+# A region as its parts, in which a key, its pattern and offsets are one part, whose 'matchgroup' it has.
+def RegionOf(parts: list<dict<string>>): list<dict<string>>
+  var [made, matchgroup] = [[], 'NONE']
+  for part in parts
+    const value = part.kind ==# 'word' ? matchstr(part.text, '\c^matchgroup\s*=\s*\zs.*') : ''
+    if value !=# ''
+      matchgroup = value
+    elseif part.kind ==# 'pattern' || part.kind ==# 'offsets'
+      made[-1][part.kind] = part.text
+    elseif part.kind ==# 'key'
+      add(made, {kind: tolower(matchstr(part.text, '^\a\+')), matchgroup: matchgroup, pattern: '', offsets: ''})
+    else
+      add(made, part)
+    endif
+  endfor
+  return made
+enddef
+
+# The parts again, each matchgroup before the first pattern that has it.
+def PartsOf(region: list<dict<string>>): list<dict<string>>
+  var [made, matchgroup] = [[], 'NONE']
+  for part in region
+    if !has_key(part, 'matchgroup')
+      add(made, Part(part.kind, trim(part.text), ' '))
+      continue
+    endif
+    if part.kind !=# 'skip' && part.matchgroup !=? matchgroup
+      matchgroup = part.matchgroup
+      add(made, Part('word', 'matchgroup=' .. matchgroup, ' '))
+    endif
+    add(made, Part('key', part.kind .. '=', ''))
+    add(made, Part('pattern', part.pattern, part.offsets ==# '' ? ' ' : ''))
+    if part.offsets !=# ''
+      add(made, Part('offsets', part.offsets, ' '))
+    endif
+  endfor
+  return made
+enddef
+
+# A matchgroup of the region's own group counts for starts, in which nothing else may start then, and not for ends.
+def OwnMatchgroups(region: list<dict<string>>, group: string, causes: list<string>): list<dict<string>>
+  if index(mapnew(region, (_, part) => tolower(get(part, 'matchgroup', ''))), tolower(group)) < 0
+    return region
+  endif
+  const other = OwnGroup(group)
+  add(causes, 'a matchgroup of its own group: ' .. other)
+  var made = []
+  for part in region
+    const own = get(part, 'matchgroup', '') ==? group
+    add(made, own ? extend(copy(part), {matchgroup: part.kind ==# 'start' ? other : 'NONE'}) : part)
+  endfor
+  return made
+enddef
+
+# The group in place of a group that is its own matchgroup, which is linked to it.
+def OwnGroup(group: string): string
+  const key = tolower(group)
+  if !has_key(own_groups, key)
+    var name = group .. 'Own'
+    while hlexists(name)
+      name ..= 'Own'
+    endwhile
+    own_groups[key] = [name, group]
+  endif
+  return own_groups[key][0]
+enddef
+
+# The links of these groups.
+export def OwnLinks(): list<string>
+  return mapnew(values(own_groups), (_, names) => 'hi def link ' .. names[0] .. ' ' .. names[1])
+enddef
