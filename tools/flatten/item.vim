@@ -22,7 +22,8 @@ export def Respell(sub: string, group: string, given: list<dict<string>>, causes
     return given
   endif
   var region = RegionOf(given)
-  return PartsOf(OwnMatchgroups(region, group, causes))
+  var starts = StartsTurned(region, causes)
+  return PartsOf(OwnMatchgroups(starts, group, causes))
 enddef
 
 # === Regions ===
@@ -62,6 +63,20 @@ def PartsOf(region: list<dict<string>>): list<dict<string>>
     if part.offsets !=# ''
       add(made, Part('offsets', part.offsets, ' '))
     endif
+  endfor
+  return made
+enddef
+
+# Of several starts at one place Vim takes the first one, and vimsyn the last: they stand the other way round.
+def StartsTurned(region: list<dict<string>>, causes: list<string>): list<dict<string>>
+  var starts = filter(region[:], (_, part) => part.kind ==# 'start')
+  if len(starts) < 2
+    return region
+  endif
+  add(causes, 'starts in the other order')
+  var [made, left] = [[], reverse(starts)]
+  for part in region
+    add(made, part.kind ==# 'start' ? remove(left, 0) : part)
   endfor
   return made
 enddef
