@@ -162,23 +162,24 @@ def FlatKeywords(text: string): dict<list<string>>
     return Form([front .. rest], [])
   endif
   const pieces = cut.KnownPieces(text)
-  var [head, options, words, others] = ['', [], [], []]
+  var [head, options, words, others, causes] = ['', [], [], [], []]
   for piece in pieces[: -2]
     const word = strpart(text, piece.from, piece.to - piece.from)
     if piece.kind ==# 'head'
       head = FlatHead(word)
     elseif piece.kind ==# 'list'
-      add(options, FlatList(word))
+      add(options, item.Part('list', FlatList(word), ''))
     elseif cut.IsFlag(word) || word =~? '^cchar='
-      add(options, word)
+      add(options, item.Part('word', word, ''))
     else
       AddWord(words, others, substitute(word, '\\\(.\)', '\1', 'g'))
     endif
   endfor
   NoteGroup(head, WordsOf(text, pieces))
-  const lines = words == [] ? [] : [head .. join(words + options, ' ')]
-  const matches = WordMatches(matchstr(head, '^syn keyword\s\+\zs\S\+'), options, others)
-  return Form(lines + matches.lines, matches.causes)
+  final texts = mapnew(item.FirstLists(options, causes), (_, part) => part.text)
+  final lines = words == [] ? [] : [head .. join(words + texts, ' ')]
+  final matches = WordMatches(matchstr(head, '^syn keyword\s\+\zs\S\+'), texts, others)
+  return Form(lines + matches.lines, causes + matches.causes)
 enddef
 
 def HasLong(words: list<string>): bool

@@ -18,12 +18,32 @@ enddef
 
 # An item of a kind ('match', 'region') and a group. Causes are added to a list.
 export def Respell(sub: string, group: string, given: list<dict<string>>, causes: list<string>): list<dict<string>>
+  var parts = FirstLists(given, causes)
   if sub ==# 'match'
-    return given
+    return parts
   endif
-  var region = RegionOf(given)
+  var region = RegionOf(parts)
   var starts = StartsTurned(region, causes)
   return PartsOf(OwnMatchgroups(starts, group, causes))
+enddef
+
+# === Lists ===
+
+# Of a list that is given twice Vim keeps the first one.
+export def FirstLists(parts: list<dict<string>>, causes: list<string>): list<dict<string>>
+  var [made, seen] = [[], {}]
+  for part in parts
+    const key = part.kind ==# 'list' ? tolower(matchstr(part.text, '^\a\+')) : ''
+    if has_key(seen, key)
+      add(causes, 'given twice, of which the first counts: ' .. part.text)
+    else
+      add(made, part)
+      if key !=# ''
+        seen[key] = true
+      endif
+    endif
+  endfor
+  return made
 enddef
 
 # === Regions ===
