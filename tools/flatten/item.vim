@@ -20,7 +20,7 @@ enddef
 export def Respell(sub: string, group: string, given: list<dict<string>>, causes: list<string>): list<dict<string>>
   var parts = FirstLists(given, causes)
   if sub ==# 'match'
-    return parts
+    return MatchEnds(parts, causes)
   endif
   var region = RegionOf(parts)
   var starts = StartsTurned(region, causes)
@@ -44,6 +44,24 @@ export def FirstLists(parts: list<dict<string>>, causes: list<string>): list<dic
     endif
   endfor
   return made
+enddef
+
+# === Offsets ===
+
+# The ends of a match count from its start by one character less than those of a region.
+def MatchEnds(parts: list<dict<string>>, causes: list<string>): list<dict<string>>
+  for part in parts
+    if part.kind ==# 'offsets' && part.text =~# '[mh]e=[sb]'
+      add(causes, 'an end counted from the start, of a match: ' .. part.text)
+      part.text = substitute(part.text, '\([mh]e=[sb]\)\([+-]\d\+\)\=',
+        (m) => m[1] .. Signed(str2nr(m[2]) - 1), 'g')
+    endif
+  endfor
+  return parts
+enddef
+
+def Signed(number: number): string
+  return number < 0 ? string(number) : '+' .. number
 enddef
 
 # === Regions ===
