@@ -4,7 +4,7 @@ vim9script
 
 import './cut.vim'
 
-const odd = '%[\\CV#]\|%[<>]\=\%(\d\+[cv]\|\d\{10,}l\)\|[z_]\\\|@\d*[=!>\\]\|\\Z\|\[[=.]'
+const odd = '%[\\CV#]\|%[<>]\=\%(\d\+[cv]\|\d\{10,}l\)\|[z_]\\\|@\d*[=!>\\]\|\\Z\|\[[=.]\|\[^.*\\n'
 # (behind a line number at its start a pattern still begins for Vim, so a caret is a line start there)
 const caret_behind_line = '^\%(\\[cCmM]\)*\%(\\%[<>]\=\d\+l\)\+\zs\^'
 
@@ -24,9 +24,10 @@ def Respelled(given: string): list<string>
   if pattern !~# odd
     return [pattern, '']
   endif
-  var [made, cause, level, i] = ['', '', 2, 0]
+  var [made, cause, level, i, before] = ['', '', 2, 0, '']
   while i < len(pattern)
     var [item, kind] = Item(pattern, i, level)
+    const given_item = item
     i += len(item)
     if kind ==# 'level'
       level = stridx('VMmv', item[1])
@@ -42,10 +43,21 @@ def Respelled(given: string): list<string>
       [item, cause] = ['', 'composing characters count: \Z']
     elseif kind ==# '[' && item =~# '\[=.=\]\|\[\..\.\]'
       cause = 'left out: ' .. matchstr(item, '\[=.=\]\|\[\..\.\]')
+    elseif kind ==# '[' && item =~# '\\n' && item =~# '^\\\=\[^' && before !=# '\_'
+      item = WithoutLineEnds(item)
+      cause = item ==# given_item || cause !=# '' ? cause : 'a line end in a negated collection: ' .. given_item
     endif
     made ..= item
+    before = given_item
   endwhile
   return [made, cause]
+enddef
+
+# A negated collection without '\n', which Vim doesn't take for a member there. Without members it is any character.
+def WithoutLineEnds(item: string): string
+  const members = substitute(matchstr(item, '^\\\=\[^\zs.*\ze\]$'), '\\\(.\)', (m) => m[1] ==# 'n' ? '' : m[0], 'g')
+  const front = item[0] ==# '\' ? '\' : ''
+  return members ==# '' ? front .. '.' : front .. '[^' .. members .. ']'
 enddef
 
 # The item of a pattern at place i, and what it is: only those that may need another spelling have a kind.
@@ -78,7 +90,7 @@ enddef
 
 def Percent(given: string, level: number): list<string>
   const item = substitute(given, '^\(\\\=%\)\\', '\1', '')
-  const m = matchlist(item, '^\\\=%\([<>]\=\)\(\d\+\)\([lcv]\)$')
+  final m = matchlist(item, '^\\\=%\([<>]\=\)\(\d\+\)\([lcv]\)$')
   if !empty(m) && m[3] ==# 'l'
     return len(m[2]) > 9 ? ['', 'left out: ' .. item] : [item, '']
   elseif !empty(m)
