@@ -41,6 +41,8 @@ def FlatSyntax(text: string): dict<list<string>>
     return Form([], [])
   elseif sub ==# 'case'
     return Form(['syn case ' .. tolower(rest)], [])
+  elseif sub ==# 'clear'
+    frame.ForgetLate(split(tolower(rest)))
   endif
   return Form([substitute('syn ' .. sub .. ' ' .. rest, '\s*$', '', '')], [])
 enddef
@@ -156,12 +158,12 @@ enddef
 def FlatKeywords(text: string): dict<list<string>>
   const rest = matchstr(text, '^\a\+\s\+\a\+\s\+\S\+\s*\zs.*')
   const all = split(tolower(rest))
-  if text !~# '[\\|"=]\|\s\[' && index(all, 'contains') < 0 && !HasLong(all)
+  if text !~# '[\\|"=]\|\s\[' && !HasOther(all)
     const front = FlatHead(text)
     NoteGroup(front, all)
     return Form([front .. rest], [])
   endif
-  const pieces = cut.KnownPieces(text)
+  var pieces = cut.KnownPieces(text)
   var [head, options, words, others, causes] = ['', [], [], [], []]
   for piece in pieces[: -2]
     const word = strpart(text, piece.from, piece.to - piece.from)
@@ -169,7 +171,7 @@ def FlatKeywords(text: string): dict<list<string>>
       head = FlatHead(word)
     elseif piece.kind ==# 'list'
       add(options, item.Part('list', FlatList(word), ''))
-    elseif cut.IsFlag(word) || word =~? '^cchar='
+    elseif cut.IsFlag(word) && !has_key(option_words, tolower(word)) || word =~? '^cchar='
       add(options, item.Part('word', word, ''))
     else
       AddWord(words, others, substitute(word, '\\\(.\)', '\1', 'g'))
@@ -177,14 +179,17 @@ def FlatKeywords(text: string): dict<list<string>>
   endfor
   NoteGroup(head, WordsOf(text, pieces))
   final texts = mapnew(item.FirstLists(options, causes), (_, part) => part.text)
-  final lines = words == [] ? [] : [head .. join(words + texts, ' ')]
-  final matches = WordMatches(matchstr(head, '^syn keyword\s\+\zs\S\+'), texts, others)
-  return Form(lines + matches.lines, causes + matches.causes)
+  causes += WordMatches(matchstr(head, '^syn keyword\s\+\zs\S\+'), texts, others)
+  return Form(words == [] ? [] : [head .. join(words + texts, ' ')], causes)
 enddef
 
-def HasLong(words: list<string>): bool
+# Words that Vim takes for keywords, and vimsyn for options.
+const option_words = {contains: true, display: true, fold: true, extend: true}
+
+# Whether one of the words may be none of vimsyn's keywords.
+def HasOther(words: list<string>): bool
   for word in words
-    if len(word) > 80
+    if len(word) > 80 || has_key(option_words, word)
       return true
     endif
   endfor
@@ -196,7 +201,7 @@ def AddWord(words: list<string>, others: list<string>, word: string)
   if word =~# '^\[.*\]$'
     extend(words, mapnew(range(1, strchars(word) - 2), (_, count) => strcharpart(word, 1, count)))
   else
-    const plain = word !~# '|' && word !~# '^"' && word !=? 'contains' && LongestWord(word) <= 80
+    const plain = word !~# '|' && word !~# '^"' && !has_key(option_words, tolower(word)) && LongestWord(word) <= 80
     add(plain ? words : others, word)
   endif
 enddef
@@ -205,17 +210,21 @@ def LongestWord(word: string): number
   return strchars(substitute(word, '[][]', '', 'g'))
 enddef
 
-def WordMatches(group: string, options: list<string>, words: list<string>): dict<list<string>>
-  var [lines, causes] = [[], []]
+# Puts words as matches at the end of the flat file, so that they go before other matches as keywords do, and answers
+# the causes.
+def WordMatches(group: string, options: list<string>, words: list<string>): list<string>
+  var causes = []
   for word in words
     if word =~# '^\k\+$' && strchars(word) <= 80
-      add(lines, join(['syn match', group, '"\<' .. escape(word, '.*[]^$~\') .. '\>"'] + options, ' '))
+      const case = execute('syntax case') =~# 'ignore' ? '\c' : '\C'
+      const inner = '"' .. case .. '\<' .. escape(word, '.*[]^$~\') .. '\>"'
+      frame.KeepLate(group, join(['syn match', group, inner] + options, ' '))
       add(causes, 'as a match: ' .. word)
     else
       add(causes, 'no word can be this keyword: ' .. word)
     endif
   endfor
-  return Form(lines, causes)
+  return causes
 enddef
 
 # === Links and styles ===

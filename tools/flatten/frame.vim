@@ -6,15 +6,18 @@ export var frames: list<dict<any>> = []    # the innermost include stands last
 export var done: list<dict<any>> = []      # those that are whole
 var notes: list<list<any>> = []            # what is left out: [file, line, cause, text]
 
-# A flat file: 'tops' and 'contained' are the groups of its items without and with 'contained'. 'asked' is the
-# command that reads it, with file and line.
+# A flat file: 'tops' and 'contained' are the groups of its items without and with 'contained', 'late' the commands
+# that stand at its end, behind their group. 'asked' is the command that reads it, with file and line.
 export def Open(name: string, asked: list<any>)
-  add(frames, {name: name, asked: asked, entries: [], read: 0, tops: {}, contained: {}})
+  add(frames, {name: name, asked: asked, entries: [], late: [], read: 0, tops: {}, contained: {}})
 enddef
 
 # The innermost flat file is whole. One without entries is left out, but for the last one.
 export def Close(): dict<any>
-  const frame = remove(frames, -1)
+  for [group, text] in frames[-1].late
+    Keep(-1, 0, text)
+  endfor
+  final frame = remove(frames, -1)
   if frame.entries != [] || frames == []
     add(done, frame)
   endif
@@ -28,6 +31,18 @@ enddef
 
 export def Keep(file: number, lnum: number, text: string)
   add(frames[-1].entries, [file, lnum, text])
+enddef
+
+# A command of an item of a group, at the end of the flat file.
+export def KeepLate(group: string, text: string)
+  add(frames[-1].late, [tolower(group), text])
+enddef
+
+# The items of these groups are cleared, or all.
+export def ForgetLate(groups: list<string>)
+  for frame in frames
+    frame.late = groups == [] ? [] : filter(frame.late, (_, late) => index(groups, late[0]) < 0)
+  endfor
 enddef
 
 export def LeaveOut(file: number, lnum: number, cause: string, text: string)
