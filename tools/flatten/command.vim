@@ -91,6 +91,10 @@ def FlatPiece(kind: string, piece: string): list<string>
   return [piece, '']
 enddef
 
+def ReservedCause(name: string): string
+  return 'a reserved name, put as ' .. name
+enddef
+
 def FlatHead(text: string): string
   final m = matchlist(text, '^\a\+\s\+\(\a\+\)\s\+\([^ \t|]*\)')
   return empty(m) ? text : 'syn ' .. m[1] .. ' ' .. GroupName(m[2]) .. ' '
@@ -244,7 +248,9 @@ def FlatHighlight(text: string): dict<list<string>>
     return Form([], [])
   elseif words[0] =~# '^l\%[ink]$'
     words[1] = get(reserved, tolower(words[1]), words[1])
-    return Form([join([front, 'link'] + words[1 :], ' ')], [])
+    const target = get(words, 2, '')
+    const flat = target ==# '' || target =~# '^NONE' ? target : GroupName(target)
+    return Form([join([front, 'link', words[1], flat] + words[3 :], ' ')], target ==# flat ? [] : [ReservedCause(flat)])
   endif
   const [parts, causes] = StyleParts(matchstr(m[2], '^\%(d\%[efault]\s\+\)\=\S\+\s\+\zs.*'))
   words[0] = get(reserved, tolower(words[0]), words[0])
