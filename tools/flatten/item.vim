@@ -1,5 +1,8 @@
 vim9script
 
+import './pattern.vim'
+import './line_end.vim'
+
 # Matches and regions in words that mean the same to Vim and to vimsyn, where one word means two things to them.
 #
 # An item is a list of parts, of which each is a dictionary: its kind (as of pieces, flatten/cut.vim), its text, and
@@ -20,9 +23,9 @@ enddef
 export def Respell(sub: string, group: string, given: list<dict<string>>, causes: list<string>): list<dict<string>>
   var parts = FirstLists(given, causes)
   if sub ==# 'match'
-    return MatchEnds(parts, causes)
+    return MatchEnds(MatchBegin(parts, causes), causes)
   endif
-  var region = RegionOf(parts)
+  var region = StartsBegin(RegionOf(parts), causes)
   var starts = StartsTurned(region, causes)
   return PartsOf(OwnMatchgroups(starts, group, causes))
 enddef
@@ -62,6 +65,52 @@ enddef
 
 def Signed(number: number): string
   return number < 0 ? string(number) : '+' .. number
+enddef
+
+# === Patterns at a line's end ===
+
+# A match doesn't begin at a line's end, nor waits what follows it, if it takes nothing there.
+def MatchBegin(parts: list<dict<string>>, causes: list<string>): list<dict<string>>
+  const waits = HasWord(parts, 'skipnl') || HasWord(parts, 'skipempty')
+  for part in parts
+    if part.kind ==# 'pattern'
+      part.text = Changed(part.text, line_end.NotAtEnd(Inner(part.text), waits), 'not at a line''s end', causes)
+    endif
+  endfor
+  return parts
+enddef
+
+def HasWord(parts: list<dict<string>>, word: string): bool
+  for part in parts
+    if part.kind ==# 'word' && part.text ==? word
+      return true
+    endif
+  endfor
+  return false
+enddef
+
+def Inner(text: string): string
+  return strpart(text, 1, len(text) - 2)
+enddef
+
+# Another pattern in place of one between delimiters, and a cause where it differs.
+def Changed(given: string, made: string, cause: string, causes: list<string>): string
+  if made ==# Inner(given)
+    return given
+  endif
+  add(causes, cause .. ': ' .. given)
+  return pattern.Delimited(made, given[0])
+enddef
+
+# Nor does a region.
+def StartsBegin(region: list<dict<string>>, causes: list<string>): list<dict<string>>
+  for part in region
+    if part.kind ==# 'start'
+      const begin = line_end.NotAtEnd(Inner(part.pattern), true)
+      part.pattern = Changed(part.pattern, begin, 'not at a line''s end', causes)
+    endif
+  endfor
+  return region
 enddef
 
 # === Regions ===
