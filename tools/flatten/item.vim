@@ -25,7 +25,7 @@ export def Respell(sub: string, group: string, given: list<dict<string>>, causes
   if sub ==# 'match'
     return MatchEnds(MatchBegin(parts, causes), causes)
   endif
-  var region = StartsBegin(RegionOf(parts), causes)
+  var region = StartsWithin(RegionOf(parts), causes)
   var starts = StartsTurned(region, causes)
   return PartsOf(OwnMatchgroups(starts, group, causes))
 enddef
@@ -102,10 +102,15 @@ def Changed(given: string, made: string, cause: string, causes: list<string>): s
   return pattern.Delimited(made, given[0])
 enddef
 
-# Nor does a region.
-def StartsBegin(region: list<dict<string>>, causes: list<string>): list<dict<string>>
+# Nor does a region. A start that goes over a line's end takes one character, unless an area or an offset goes by it.
+def StartsWithin(region: list<dict<string>>, causes: list<string>): list<dict<string>>
+  const oneline = HasWord(region, 'oneline')
   for part in region
     if part.kind ==# 'start'
+      if !oneline && part.matchgroup ==? 'NONE' && part.offsets !~# '=e'
+        const within = line_end.WithinLine(Inner(part.pattern))
+        part.pattern = Changed(part.pattern, within, 'the end is sought from its first line on', causes)
+      endif
       const begin = line_end.NotAtEnd(Inner(part.pattern), true)
       part.pattern = Changed(part.pattern, begin, 'not at a line''s end', causes)
     endif

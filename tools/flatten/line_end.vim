@@ -99,3 +99,36 @@ def LevelAt(given: string, place: number): number
   tree.TreeOf(strpart(given, 0, place))
   return tree.LastLevel()
 enddef
+
+# === Starts that go over a line's end ===
+
+# Where a start goes over a line's end, Vim seeks the region's end from the line on in which the start begins. So the
+# start takes one character, and looks at the rest.
+export def WithinLine(given: string): string
+  if given !~# '\\n\|\\_'
+    return given
+  endif
+  var whole = tree.TreeOf(given)
+  const level = tree.LastLevel()
+  if given =~# '\\ze' || !Crosses(whole)
+    return given
+  endif
+  return '\%(' .. given .. (level == 2 ? '' : '\m') .. '\)\@=.\='
+enddef
+
+# Whether what a node takes may go over a line's end.
+def Crosses(node: dict<any>): bool
+  if node.kind ==# 'line' || node.kind ==# 'end'
+    return true
+  elseif get(node, 'multi', '') =~# '^@.*[=!]$'
+    return false
+  elseif has_key(node, 'inside')
+    return Crosses(node.inside)
+  endif
+  for part in get(node, 'parts', [])
+    if Crosses(part)
+      return true
+    endif
+  endfor
+  return false
+enddef
