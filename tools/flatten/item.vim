@@ -27,7 +27,7 @@ export def Respell(sub: string, group: string, given: list<dict<string>>, causes
   endif
   var region = StartsWithin(RegionOf(parts), causes)
   var starts = StartsTurned(region, causes)
-  return PartsOf(OwnMatchgroups(starts, group, causes))
+  return PartsOf(EndAreas(OwnMatchgroups(starts, group, causes), causes))
 enddef
 
 # === Lists ===
@@ -186,6 +186,32 @@ def OwnMatchgroups(region: list<dict<string>>, group: string, causes: list<strin
     add(made, own ? extend(copy(part), {matchgroup: part.kind ==# 'start' ? other : 'NONE'}) : part)
   endfor
   return made
+enddef
+
+# The area of an end goes to its 'he' in Vim, and to its 'me' in vimsyn. Where both count from one place, the nearer one
+# is told.
+def EndAreas(region: list<dict<string>>, causes: list<string>): list<dict<string>>
+  for part in region
+    if part.kind ==# 'end' && part.matchgroup !=? 'NONE' && part.offsets =~# '[mh]e='
+      const made = AreaOffsets(part.offsets)
+      if made !=# part.offsets
+        add(causes, 'the end''s area goes to its highlight''s end: ' .. part.offsets)
+        part.offsets = made
+      endif
+    endif
+  endfor
+  return region
+enddef
+
+def AreaOffsets(offsets: string): string
+  const [me, he] = [matchstr(offsets, '\<me=\zs[^,]*'), matchstr(offsets, '\<he=\zs[^,]*')]
+  const end = he ==# '' ? 'e' : he
+  if me !=# '' && me[0] !=# end[0]
+    return offsets
+  endif
+  const least = min([str2nr(end[1 :]), me ==# '' ? 65535 : str2nr(me[1 :])] + (end[0] ==# 'e' ? [0] : []))
+  const others = filter(split(offsets, ','), (_, offset) => offset !~# '^[mh]e=')
+  return join(least == 0 && end[0] ==# 'e' ? others : ['me=' .. end[0] .. Signed(least)] + others, ',')
 enddef
 
 # The group in place of a group that is its own matchgroup, which is linked to it.
