@@ -20,6 +20,9 @@ put 644 "$from/completions/vimsyn.bash" "$to/share/bash-completion/completions/v
 put 644 "$from/completions/_vimsyn" "$to/share/zsh/site-functions/_vimsyn"
 put 644 "$from/completions/vimsyn.fish" "$to/share/fish/vendor_completions.d/vimsyn.fish"
 put 644 "$from/tools/flatten.vim" "$to/share/vimsyn/flatten.vim"
+for part in "$from"/tools/flatten/*.vim; do
+  put 644 "$part" "$to/share/vimsyn/flatten/${part##*/}"
+done
 
 # vimsyn-paint finds its parts beside the file that the link leads to
 for part in detect.vim detection.py flat_files.py palette.py programs.py terminal.py words.py; do

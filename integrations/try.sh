@@ -4,7 +4,7 @@
 # path or of the checkout.
 set -eu
 cd "$(dirname "$0")"
-[ $# -gt 0 ] || set -- paint python less pandoc installed
+[ $# -gt 0 ] || set -- flatten paint python less pandoc installed
 status=0
 for door in "$@"; do
   printf '%s: ' "$door"

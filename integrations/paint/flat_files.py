@@ -154,7 +154,8 @@ class FlatFiles:
         sources = sorted(path for path in found if os.path.exists(path))
         answers = {question: text.answer(question) for question in questions_of(sources)}
         conditions = {"vim": self.vim, "variables": language.variables, "answers": answers}
-        stamps = {path: stamp(path) for path in [self.vim, self.flatten, *sources]}
+        parts = map(str, sorted(Path(self.flatten).with_suffix("").glob("*.vim")))
+        stamps = {path: stamp(path) for path in [self.vim, self.flatten, *parts, *sources]}
         made = json.dumps({**conditions, "stamps": stamps}, indent=1)
         (room / "made.json").write_text(made, encoding="utf-8")
         return hashlib.sha256(json.dumps(conditions, sort_keys=True).encode()).hexdigest()[:12]

@@ -1,0 +1,279 @@
+vim9script
+
+# The flat form of a command: the lines that stand for it, and the causes why they don't mean all that it means.
+
+import './cut.vim'
+import './frame.vim'
+import './cluster.vim'
+import './pattern.vim'
+import './item.vim'
+import './long_match.vim'
+
+var reserved: dict<string> = {}    # of each group with a reserved name, in small letters, the name that it gets
+var colours: dict<string> = {}
+
+export def SetColours(table: dict<string>)
+  colours = table
+enddef
+
+def Form(lines: list<string>, causes: list<string>): dict<list<string>>
+  return {lines: lines, causes: causes}
+enddef
+
+export def Flat(text: string): dict<list<string>>
+  return text =~# '^sy' ? FlatSyntax(text) : FlatHighlight(text)
+enddef
+
+def FlatSyntax(text: string): dict<list<string>>
+  const sub = matchstr(text, '^\a\+\s*\zs\a*')
+  const rest = strpart(text, matchend(text, '^\a\+\s*\a*\s*'))
+  if sub ==# 'match' || sub ==# 'region'
+    return FlatItem(text)
+  elseif sub ==# 'keyword'
+    return FlatKeywords(text)
+  elseif sub ==# 'cluster'
+    return FlatCluster(rest)
+  elseif sub ==# 'sync' && rest !~# '^fromstart\>'
+    return Form([], ['painting starts from the first line'])
+  elseif sub =~# '^\%(on\|off\|enable\|manual\|reset\)$'
+    return Form([], ['not in this profile'])
+  elseif sub ==# '' || sub ==# 'iskeyword' || sub ==# 'list' || sub ==# 'case' && rest ==# ''
+    return Form([], [])
+  elseif sub ==# 'case'
+    return Form(['syn case ' .. tolower(rest)], [])
+  elseif sub ==# 'clear'
+    frame.ForgetLate(split(tolower(rest)))
+  endif
+  return Form([substitute('syn ' .. sub .. ' ' .. rest, '\s*$', '', '')], [])
+enddef
+
+def FlatCluster(rest: string): dict<list<string>>
+  const [line, cause] = cluster.FlatCluster(rest, Names)
+  return Form(line ==# '' ? [] : [line], cause ==# '' ? [] : [cause])
+enddef
+
+# === Items ===
+
+# A match or region: its patterns and lists in their usual spelling.
+def FlatItem(text: string): dict<list<string>>
+  var pieces = cut.KnownPieces(text)
+  var [parts, causes] = [[], []]
+  for i in range(len(pieces) - 1)
+    const piece = strpart(text, pieces[i].from, pieces[i].to - pieces[i].from)
+    const gap = strpart(text, pieces[i].to, pieces[i + 1].from - pieces[i].to)
+    const [flat, cause] = FlatPiece(pieces[i].kind, piece)
+    if cause !=# ''
+      add(causes, cause)
+    endif
+    add(parts, item.Part(pieces[i].kind, flat, gap))
+  endfor
+  NoteGroup(parts[0].text, WordsOf(text, pieces))
+  if match(causes, '^left out') >= 0
+    return Form([], causes)
+  endif
+  const [sub, group] = split(parts[0].text)[1 : 2]
+  const made = cut.Trimmed(item.TextOf(item.Respell(sub, group, parts, causes)))
+  return Form(long_match.Split(made), causes)
+enddef
+
+def FlatPiece(kind: string, piece: string): list<string>
+  if kind ==# 'head'
+    return [FlatHead(piece), '']
+  elseif kind ==# 'pattern'
+    const inner = strpart(piece, 1, len(piece) - 2)
+    const [made, cause] = pattern.Respell(inner)
+    return [made ==# inner ? piece : pattern.Delimited(made, piece[0]), cause]
+  elseif kind ==# 'list'
+    return [FlatList(piece), '']
+  elseif piece =~? '^cchar\s*=\s*|'
+    return ['', 'this character can''t be told']
+  endif
+  return [piece, '']
+enddef
+
+def ReservedCause(name: string): string
+  return 'a reserved name, put as ' .. name
+enddef
+
+def FlatHead(text: string): string
+  final m = matchlist(text, '^\a\+\s\+\(\a\+\)\s\+\([^ \t|]*\)')
+  return empty(m) ? text : 'syn ' .. m[1] .. ' ' .. GroupName(m[2]) .. ' '
+enddef
+
+const reserved_words = {none: true, all: true, allbut: true, top: true, contained: true, contains: true}
+
+# A group whose name is reserved gets another.
+def GroupName(name: string): string
+  const key = tolower(name)
+  if has_key(reserved_words, key)
+    reserved[key] = name .. 'Group'
+  endif
+  return get(reserved, key, name)
+enddef
+
+# Notes the group of an item, and whether 'contained' is among its words, which are in small letters.
+def NoteGroup(made: string, words: list<string>)
+  const name = matchstr(made, '^syn \a\+\s\+\zs\S\+')
+  const key = tolower(name)
+  cluster.groups[key] = name
+  frame.frames[-1][index(words, 'contained') < 0 ? 'tops' : 'contained'][key] = 1
+enddef
+
+def WordsOf(text: string, pieces: list<dict<any>>): list<string>
+  var words = []
+  for piece in pieces
+    if piece.kind ==# 'word'
+      add(words, tolower(strpart(text, piece.from, piece.to - piece.from)))
+    endif
+  endfor
+  return words
+enddef
+
+# A list of names without empty ones.
+def FlatList(text: string): string
+  final m = matchlist(text, '^\(\a\+\)\s*=\s*\(.*\)$')
+  return empty(m) ? text : m[1] .. '=' .. join(Names(m[2]), ',')
+enddef
+
+def Names(text: string): list<string>
+  final names = filter(map(split(text, ','), (_, name) => trim(name)), (_, name) => name !=# '')
+  var made = names[: 0]
+  for name in names[1 :]
+    if name !=? 'none' || has_key(reserved, 'none')
+      add(made, get(reserved, tolower(name), name))
+    endif
+  endfor
+  return stridx(text, '|') < 0 ? made : WithoutBars(made)
+enddef
+
+# A pattern of names with a bar, which would end the command, is put as the groups that it stands for.
+def WithoutBars(names: list<string>): list<string>
+  var made = []
+  for name in names
+    made += stridx(name, '|') < 0 ? [name]
+      : filter(getcompletion('', 'highlight'), (_, group) => group =~? '^\%(' .. name .. '\)$')
+  endfor
+  return made
+enddef
+
+# === Keywords ===
+
+# Keywords: words that only Vim takes are put as matches where they can match at all.
+def FlatKeywords(text: string): dict<list<string>>
+  const rest = matchstr(text, '^\a\+\s\+\a\+\s\+\S\+\s*\zs.*')
+  const all = split(tolower(rest))
+  if text !~# '[\\|"=]\|\s\[' && !HasOther(all)
+    const front = FlatHead(text)
+    NoteGroup(front, all)
+    return Form([front .. rest], [])
+  endif
+  var pieces = cut.KnownPieces(text)
+  var [head, options, words, others, causes] = ['', [], [], [], []]
+  for piece in pieces[: -2]
+    const word = strpart(text, piece.from, piece.to - piece.from)
+    if piece.kind ==# 'head'
+      head = FlatHead(word)
+    elseif piece.kind ==# 'list'
+      add(options, item.Part('list', FlatList(word), ''))
+    elseif cut.IsFlag(word) && !has_key(option_words, tolower(word)) || word =~? '^cchar='
+      add(options, item.Part('word', word, ''))
+    else
+      AddWord(words, others, substitute(word, '\\\(.\)', '\1', 'g'))
+    endif
+  endfor
+  NoteGroup(head, WordsOf(text, pieces))
+  final texts = mapnew(item.FirstLists(options, causes), (_, part) => part.text)
+  causes += WordMatches(matchstr(head, '^syn keyword\s\+\zs\S\+'), texts, others)
+  return Form(words == [] ? [] : [head .. join(words + texts, ' ')], causes)
+enddef
+
+# Words that Vim takes for keywords, and vimsyn for options.
+const option_words = {contains: true, display: true, fold: true, extend: true}
+
+# Whether one of the words may be none of vimsyn's keywords.
+def HasOther(words: list<string>): bool
+  for word in words
+    if len(word) > 80 || has_key(option_words, word)
+      return true
+    endif
+  endfor
+  return false
+enddef
+
+# Adds a word to those that are keywords, or to the others.
+def AddWord(words: list<string>, others: list<string>, word: string)
+  if word =~# '^\[.*\]$'
+    extend(words, mapnew(range(1, strchars(word) - 2), (_, count) => strcharpart(word, 1, count)))
+  else
+    const plain = word !~# '|' && word !~# '^"' && !has_key(option_words, tolower(word)) && LongestWord(word) <= 80
+    add(plain ? words : others, word)
+  endif
+enddef
+
+def LongestWord(word: string): number
+  return strchars(substitute(word, '[][]', '', 'g'))
+enddef
+
+# Puts words as matches at the end of the flat file, so that they go before other matches as keywords do, and answers
+# the causes.
+def WordMatches(group: string, options: list<string>, words: list<string>): list<string>
+  var causes = []
+  for word in words
+    if word =~# '^\k\+$' && strchars(word) <= 80
+      const case = execute('syntax case') =~# 'ignore' ? '\c' : '\C'
+      const inner = '"' .. case .. '\<' .. escape(word, '.*[]^$~\') .. '\>"'
+      frame.KeepLate(group, join(['syn match', group, inner] + options, ' '))
+      add(causes, 'as a match: ' .. word)
+    else
+      add(causes, 'no word can be this keyword: ' .. word)
+    endif
+  endfor
+  return causes
+enddef
+
+# === Links and styles ===
+
+# Links and styles: 'default' and 'link' in full, colours as numbers.
+def FlatHighlight(text: string): dict<list<string>>
+  final m = matchlist(text, '^\a\+\(!\=\)\s*\(.*\)$')
+  var words = split(m[2])
+  var front = 'hi' .. m[1]
+  if words != [] && words[0] =~# '^d\%[efault]$'
+    front ..= ' def'
+    remove(words, 0)
+  endif
+  if words != [] && words[0] =~# '^cl\%[ear]$'
+    return Form([], ['not in this profile'])
+  elseif len(words) < 2
+    return Form([], [])
+  elseif words[0] =~# '^l\%[ink]$'
+    words[1] = get(reserved, tolower(words[1]), words[1])
+    const target = get(words, 2, '')
+    const flat = target ==# '' || target =~# '^NONE' ? target : GroupName(target)
+    return Form([join([front, 'link', words[1], flat] + words[3 :], ' ')], target ==# flat ? [] : [ReservedCause(flat)])
+  endif
+  const [parts, causes] = StyleParts(matchstr(m[2], '^\%(d\%[efault]\s\+\)\=\S\+\s\+\zs.*'))
+  words[0] = get(reserved, tolower(words[0]), words[0])
+  return Form(parts == [] ? [] : [join([front, words[0]] + parts, ' ')], causes)
+enddef
+
+def StyleParts(text: string): list<list<string>>
+  var [parts, causes, i] = [[], [], 0]
+  while i < len(text)
+    final m = matchlist(text, '\(\a\+\)\s*=\s*\(''[^'']*''\|\S*\)', i)
+    if empty(m)
+      break
+    endif
+    i = matchend(text, '\a\+\s*=\s*\%(''[^'']*''\|\S*\)', i)
+    var value = substitute(m[2], "^'\\(.*\\)'$", '\1', '')
+    if m[1] =~# '^gui[fb]g$'
+      value = get(colours, tolower(value), value)
+    endif
+    if value =~# '\s' || value ==# ''
+      add(causes, 'this value can''t be told: ' .. m[2])
+    else
+      add(parts, m[1] .. '=' .. value)
+    endif
+  endwhile
+  return [parts, causes]
+enddef

@@ -1,0 +1,235 @@
+vim9script
+
+# Patterns as trees.
+#
+# A node is a dictionary with its kind and its places 'from' and 'to' in the pattern:
+#
+#   choice    branches with '\|' between them, in 'parts'; 'flags' is the place behind what takes no room at its front
+#   both      concats with '\&' between them, in 'parts'
+#   row       pieces one after the other, in 'parts'
+#   group     '(..)' and its kin, whose choice is 'inside'; 'counted' where it has a number
+#   list      '\%[..]', whose row is 'inside'
+#   any other an atom: 'take' takes a character, 'line' may take a line end too, 'end' only that, 'zs', 'ze', 'back' for
+#             a reference, 'char' for a character by itself, 'start', 'stop', 'word', 'wordend' for '^', '$', '\<', '\>',
+#             'place' for other places
+#
+# Groups, lists and atoms have a 'multi', the text of their count, '' for none, or a look: '@=', '@5<!' ..
+
+import './cut.vim'
+
+var [text, at, level] = ['', 0, 2]    # the pattern that is read, how far, and the level of magic there
+
+# The tree of a pattern that Vim takes.
+export def TreeOf(pattern: string): dict<any>
+  [text, at, level] = [pattern, 0, 2]
+  return Choice()
+enddef
+
+# The level of magic at the end of the pattern that was read last.
+export def LastLevel(): number
+  return level
+enddef
+
+def Node(kind: string, from: number): dict<any>
+  return {kind: kind, from: from, to: at, multi: ''}
+enddef
+
+# What stands at the place, without its backslash: '' at the end, and a blank for a character that means itself.
+def Peek(): string
+  const c = strpart(text, at, 1)
+  if c ==# '\' && at + 1 < len(text)
+    const next = strpart(text, at + 1, 1)
+    return stridx('^$', next) >= 0 && level >= 1 || stridx('.*[~', next) >= 0 && level >= 2
+      || stridx('()|&+=?{@%<>', next) >= 0 && level == 3 ? ' ' : next
+  elseif stridx('^$', c) >= 0 && level >= 1 || stridx('.*[~', c) >= 0 && level >= 2
+      || stridx('()|&+=?{@%<>', c) >= 0 && level == 3
+    return c
+  endif
+  return c ==# '' ? '' : ' '
+enddef
+
+# The length of the token at the place, as of its first character.
+def Length(): number
+  const escaped = strpart(text, at, 1) ==# '\' && at + 1 < len(text) ? 1 : 0
+  return escaped + len(matchstr(text, '.', at + escaped))
+enddef
+
+def Take(kind: string, length: number): dict<any>
+  const from = at
+  at += length
+  return Node(kind, from)
+enddef
+
+# Levels and the case, which take no room.
+def SkipFlags()
+  while Peek() =~# '^[cCvmMVZ]$'
+    level = Peek() =~# '[vmMV]' ? stridx('VMmv', Peek()) : level
+    at += 2
+  endwhile
+enddef
+
+def Choice(): dict<any>
+  var node = Node('choice', at)
+  node.parts = [Both()]
+  while Peek() ==# '|'
+    at += Length()
+    add(node.parts, Both())
+  endwhile
+  node.to = at
+  return node
+enddef
+
+def Both(): dict<any>
+  var node = Node('both', at)
+  SkipFlags()
+  node.flags = at
+  node.parts = [Row()]
+  while Peek() ==# '&'
+    at += Length()
+    add(node.parts, Row())
+  endwhile
+  node.to = at
+  return node
+enddef
+
+def Row(): dict<any>
+  var node = Node('row', at)
+  node.parts = []
+  while Peek() !~# '^[|&)]\=$'
+    add(node.parts, Piece(node.parts == []))
+    SkipFlags()
+  endwhile
+  node.to = at
+  return node
+enddef
+
+def Piece(first: bool): dict<any>
+  var node = Atom(first)
+  SkipFlags()
+  node.multi = node.kind ==# 'start' && Peek() ==# '*' ? '' : Multi()
+  node.to = at
+  return node
+enddef
+
+def Multi(): string
+  const c = Peek()
+  const from = at
+  if c =~# '^[*+=?]$'
+    at += Length()
+  elseif c ==# '{'
+    at = matchend(text, '}', at)
+  elseif c ==# '@'
+    at = matchend(text, '^\\\=@\d*\%([=!>]\|<[=!]\)', at)
+  endif
+  return substitute(strpart(text, from, at - from), '\\', '', 'g')
+enddef
+
+const classes = 'iIkKfFpPsSdDxXoOwWhHaAlLuU'
+
+def Atom(first: bool): dict<any>
+  const c = Peek()
+  if c ==# '('
+    return Group(Length(), true)
+  elseif c ==# '%'
+    return Percent()
+  elseif c ==# 'z'
+    return External()
+  elseif c ==# '['
+    return Collection('take')
+  elseif c ==# '_'
+    return Underscored()
+  elseif c ==# 'n'
+    return Take('end', 2)
+  elseif c ==# '^'
+    return Take(first ? 'start' : 'char', Length())
+  elseif c ==# '$'
+    var node = Take('stop', Length())
+    return IsStop() ? node : Node('char', node.from)
+  elseif c ==# '<' || c ==# '>'
+    return Take(c ==# '<' ? 'word' : 'wordend', Length())
+  elseif c ==# '.' || c !=# ' ' && stridx(classes, c) >= 0 && strpart(text, at, 1) ==# '\'
+    return Take('take', Length())
+  elseif c =~# '^[1-9]$' && strpart(text, at, 1) ==# '\'
+    return Take('back', 2)
+  endif
+  return Take('char', Length())
+enddef
+
+# Whether a dollar before the place is the stop of a line.
+def IsStop(): bool
+  final kept = [at, level]
+  SkipFlags()
+  const c = Peek()
+  const escaped = strpart(text, at, 1) ==# '\\'
+  [at, level] = kept
+  return level == 3 || c ==# '' || c ==# '|' || c ==# '&' || c ==# ')' || c ==# 'n' && escaped
+enddef
+
+def Group(length: number, counted: bool): dict<any>
+  const from = at
+  at += length
+  var inside = Choice()
+  at += Length()
+  return extend(Node('group', from), {inside: inside, counted: counted})
+enddef
+
+def Percent(): dict<any>
+  const from = at
+  at += Length()
+  const c = strpart(text, at, 1)
+  if c ==# '('
+    at = from
+    return Group(Length() + 1, false)
+  elseif c ==# '['
+    return OptionalList(from)
+  elseif c =~# '[doxuU]'
+    at = matchend(text, '^\%(d\d\+\|o[0-7]\{1,4}\|x\x\{1,2}\|u\x\{1,4}\|U\x\{1,8}\)', at)
+    return Node('char', from)
+  endif
+  at = matchend(text, '^\%([<>]\=\d\+[lcv]\|#=\d\|.\)', at)
+  return Node(c ==# '$' ? 'stop' : c ==# '^' ? 'start' : 'place', from)
+enddef
+
+def OptionalList(from: number): dict<any>
+  at += 1
+  var row = Node('row', at)
+  row.parts = []
+  while at < len(text) && strpart(text, at, 1) !=# ']'
+    add(row.parts, Atom(false))
+  endwhile
+  row.to = at
+  at += 1
+  return extend(Node('list', from), {inside: row})
+enddef
+
+def External(): dict<any>
+  const c = strpart(text, at + 2, 1)
+  return c ==# '(' ? Group(3, true) : Take(c ==# 's' ? 'zs' : c ==# 'e' ? 'ze' : 'back', 3)
+enddef
+
+def Collection(kind: string): dict<any>
+  const from = at
+  const end = cut.CollectionEnd(text, at + Length())
+  if end >= len(text)
+    return Take('char', Length())
+  endif
+  at = end + 1
+  const takes_end = strpart(text, from, at - from) =~# '\\n' && strpart(text, from, 3) !~# '\[^'
+  return Node(kind ==# 'line' || takes_end ? 'line' : 'take', from)
+enddef
+
+def Underscored(): dict<any>
+  const from = at
+  const c = strpart(text, at + 2, 1)
+  if c ==# '['
+    at += 2
+    const magic = level
+    level = 2
+    var node = Collection('line')
+    level = magic
+    return extend(node, {from: from})
+  elseif c ==# '^' || c ==# '$'
+    return Take(c ==# '^' ? 'start' : 'stop', 3)
+  endif
+  return Take('line', 3)
+enddef
