@@ -21,7 +21,7 @@ syn keyword tinyWord if
 if getline(1) =~ 'loud'
   syn keyword tinyWord shout
 endif
-syn match tinyCostly "\(a*\)*b"
+syn match tinyCostly "\(a\|a\)*b"
 hi def link tinyWord Statement
 hi def link tinyCostly Error
 END

@@ -7,6 +7,7 @@ import './frame.vim'
 import './cluster.vim'
 import './pattern.vim'
 import './item.vim'
+import './counts.vim'
 import './long_match.vim'
 
 var reserved: dict<string> = {}    # of each group with a reserved name, in small letters, the name that it gets
@@ -61,11 +62,9 @@ def FlatItem(text: string): dict<list<string>>
   for i in range(len(pieces) - 1)
     const piece = strpart(text, pieces[i].from, pieces[i].to - pieces[i].from)
     const gap = strpart(text, pieces[i].to, pieces[i + 1].from - pieces[i].to)
-    const [flat, cause] = FlatPiece(pieces[i].kind, piece)
-    if cause !=# ''
-      add(causes, cause)
-    endif
-    add(parts, item.Part(pieces[i].kind, flat, gap))
+    final flat = FlatPiece(pieces[i].kind, piece)
+    extend(causes, flat[1 :])
+    add(parts, item.Part(pieces[i].kind, flat[0], gap))
   endfor
   NoteGroup(parts[0].text, WordsOf(text, pieces))
   if match(causes, '^left out') >= 0
@@ -76,19 +75,22 @@ def FlatItem(text: string): dict<list<string>>
   return Form(long_match.Split(made), causes)
 enddef
 
+# A piece, and behind it the causes why it doesn't mean all that it means.
 def FlatPiece(kind: string, piece: string): list<string>
   if kind ==# 'head'
-    return [FlatHead(piece), '']
+    return [FlatHead(piece)]
   elseif kind ==# 'pattern'
     const inner = strpart(piece, 1, len(piece) - 2)
-    const [made, cause] = pattern.Respell(inner)
-    return [made ==# inner ? piece : pattern.Delimited(made, piece[0]), cause]
+    const [usual, cause] = pattern.Respell(inner)
+    final counted = counts.Respell(usual)
+    const made = counted.pattern ==# inner ? piece : pattern.Delimited(counted.pattern, piece[0])
+    return [made] + (cause ==# '' ? [] : [cause]) + counted.causes
   elseif kind ==# 'list'
-    return [FlatList(piece), '']
+    return [FlatList(piece)]
   elseif piece =~? '^cchar\s*=\s*|'
     return ['', 'this character can''t be told']
   endif
-  return [piece, '']
+  return [piece]
 enddef
 
 def ReservedCause(name: string): string

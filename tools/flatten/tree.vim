@@ -13,7 +13,8 @@ vim9script
 #             a reference, 'char' for a character by itself, 'start', 'stop', 'word', 'wordend' for '^', '$', '\<', '\>',
 #             'place' for other places
 #
-# Groups, lists and atoms have a 'multi', the text of their count, '' for none, or a look: '@=', '@5<!' ..
+# Groups, lists and atoms have a 'multi', the text of their count without backslashes, '' for none, or a look: '@=',
+# '@5<!' .., which begins at 'multi_from'; and the 'level' of magic at which they are spelled.
 
 import './cut.vim'
 
@@ -31,7 +32,7 @@ export def LastLevel(): number
 enddef
 
 def Node(kind: string, from: number): dict<any>
-  return {kind: kind, from: from, to: at, multi: ''}
+  return {kind: kind, from: from, to: at, multi: '', level: level}
 enddef
 
 # What stands at the place, without its backslash: '' at the end, and a blank for a character that means itself.
@@ -106,6 +107,7 @@ enddef
 def Piece(first: bool): dict<any>
   var node = Atom(first)
   SkipFlags()
+  node.multi_from = at
   node.multi = node.kind ==# 'start' && Peek() ==# '*' ? '' : Multi()
   node.to = at
   return node
