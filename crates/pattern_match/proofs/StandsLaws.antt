@@ -1,6 +1,11 @@
 -- A node in place of another, under the same parts.
-use Rattle.std.proofs.Common.{◌≡◌, false, List, [], ◌∷◌, ◌++◌, refl, ap, ◌∙◌}
+use Rattle.std.proofs.Common.{◌≡◌, false, List, [], ◌∷◌, ◌++◌, refl, ap, subst, ◌∙◌}
 use Rattle.std.specs.Prelude.{None, if◌then◌else◌}
+use Rattle.vim_pattern.specs.declared.parted.Pair.{Pair}
+use Rattle.vim_pattern.specs.declared.parted.Pair.TheVariants as pair
+use Rattle.vim_pattern.specs.declared.parted.Wrap.{Wrap}
+use Rattle.vim_pattern.specs.declared.parted.Wrap.TheVariants as wrap
+use Rattle.vim_pattern.specs.Parted.{paired, wrapped}
 use Rattle.vim_pattern.specs.Shape.{Shape, seq, or, and}
 use Rattle.match_rules.specs.Ways.{Context}
 use Rattle.match_rules.specs.Marks.{followed, ticks_first, first_way, reach_if}
@@ -28,26 +33,38 @@ stands_through r s t h k = record {
 -- ---- first parts
 
 module _ (a b t : Shape) (h : StandsFor a b) where
-  pub first_of_seq : StandsFor (seq a t) (seq b t)
+  first_of_seq : StandsFor (seq a t) (seq b t)
   first_of_seq = record {
     same = λ x w. ap (λ m. followed m (visits x t)) (h.same x w);
     numbers = λ n. (h.numbers n.0, n.1);
     first = h.first;
   }
 
-  pub first_of_or : StandsFor (or a t) (or b t)
+  first_of_or : StandsFor (or a t) (or b t)
   first_of_or = record {
     same = λ x w. ap (λ m. m ++ visits x t w) (h.same x w);
     numbers = λ n. (h.numbers n.0, n.1);
     first = ap (λ o. both_lists o (first_atoms t)) h.first;
   }
 
-  pub first_of_and : StandsFor (and a t) (and b t)
+  first_of_and : StandsFor (and a t) (and b t)
   first_of_and = record {
     same = λ x w. ap (λ m. followed (look false w m) (visits x t)) (h.same x w);
     numbers = λ n. (h.numbers n.0, n.1);
     first = refl;
   }
+
+  pub first_of_pair : (pair : Pair) → StandsFor (paired pair a t) (paired pair b t)
+  first_of_pair pair.Seq = first_of_seq
+  first_of_pair pair.Or = first_of_or
+  first_of_pair pair.And = first_of_and
+
+pub stands_same : (s t : Shape) → s ≡ t → StandsFor s t
+stands_same s t e = subst (StandsFor s) e (stands_itself s)
+
+-- a node whose first part was made ready
+pub opened_two : (pair : Pair) (made a b node : Shape) → StandsFor made a → paired pair a b ≡ node → StandsFor (paired pair made b) node
+opened_two pair made a b node h e = subst (StandsFor (paired pair made b)) e (first_of_pair made a b h pair)
 
 -- ---- last parts
 
@@ -55,52 +72,58 @@ module _ (s t : Shape) (h : StandsFor s t) where
   visits-same : (x : Context) → visits x s ≡ visits x t
   visits-same x = λ i w. h.same x w i
 
-  pub over_stands : (a : Above) → StandsFor (over a s) (over a t)
-  over_stands (above.Seq a) = record {
-    same = λ x w. ap (λ f. followed (visits x (shape_of a.step) w) f) (visits-same x);
+  pub last_of_pair : (pair : Pair) (a : Shape) → StandsFor (paired pair a s) (paired pair a t)
+  last_of_pair pair.Seq a = record {
+    same = λ x w. ap (λ f. followed (visits x a w) f) (visits-same x);
     numbers = λ n. (n.0, h.numbers n.1);
     first = refl;
   }
-  over_stands (above.Or a) = record {
-    same = λ x w. ap (λ m. visits x (shape_of a.step) w ++ m) (h.same x w);
+  last_of_pair pair.Or a = record {
+    same = λ x w. ap (λ m. visits x a w ++ m) (h.same x w);
     numbers = λ n. (n.0, h.numbers n.1);
-    first = ap (both_lists (first_atoms (shape_of a.step))) h.first;
+    first = ap (both_lists (first_atoms a)) h.first;
   }
-  over_stands (above.And a) = record {
-    same = λ x w. ap (λ f. followed (look false w (visits x (shape_of a.step) w)) f) (visits-same x);
+  last_of_pair pair.And a = record {
+    same = λ x w. ap (λ f. followed (look false w (visits x a w)) f) (visits-same x);
     numbers = λ n. (n.0, h.numbers n.1);
     first = refl;
   }
-  over_stands (above.Group number) = record {
+
+  pub under_stands : (wrap : Wrap) → StandsFor (wrapped wrap s) (wrapped wrap t)
+  under_stands (wrap.Group number) = record {
     same = λ x w. ap (λ m. followed m (noted number w.at)) (h.same x w);
     numbers = λ n. (n.0, h.numbers n.1);
     first = h.first;
   }
-  over_stands (above.External number) = record {
+  under_stands (wrap.External number) = record {
     same = λ x w. ap (λ m. followed m (noted_external number w.at)) (h.same x w);
     numbers = λ n. (n.0, h.numbers n.1);
     first = h.first;
   }
-  over_stands (above.Repeat least most lazy) = record {
+  under_stands (wrap.Repeat least most lazy) = record {
     same = λ x w. ap (λ f. turns x.text f lazy least most w) (visits-same x);
     numbers = h.numbers;
     first = ap (λ o. if is_forced least most then o else None) h.first;
   }
-  over_stands (above.Ahead negative) = record {
+  under_stands (wrap.Ahead negative) = record {
     same = λ x w. ap (look negative w) (h.same x w);
     numbers = h.numbers;
     first = refl;
   }
-  over_stands (above.Before negative limit) = record {
+  under_stands (wrap.Before negative limit) = record {
     same = λ x w. ap (λ f. look negative w (tried_behind x.text f limit w)) (visits-same x);
     numbers = h.numbers;
     first = refl;
   }
-  over_stands above.Whole = record {
+  under_stands wrap.Whole = record {
     same = λ x w. ap (λ m. ticks_first m ++ reach_if (first_way m)) (h.same x w);
     numbers = h.numbers;
     first = refl;
   }
+
+  pub over_stands : (a : Above) → StandsFor (over a s) (over a t)
+  over_stands (above.Two pair a) = last_of_pair pair (shape_of a.step)
+  over_stands (above.One wrap) = under_stands wrap
 
 pub all_over_stands : (all : List Above) (s t : Shape) → StandsFor s t →
     StandsFor (all_over all s) (all_over all t)

@@ -9,7 +9,8 @@
 ghost use Rattle.std.specs.Prelude.{◌≡◌, true, false, Some, IfOk};
 ghost use Rattle.vim_pattern.specs.Shape.{bare, Shape, empty, one, or, repeat};
 ghost use Rattle.pattern_match.specs.Fates.{fate_of, passes};
-ghost use Rattle.pattern_match.specs.LastParts.{all_over, over, IsParted};
+ghost use Rattle.vim_pattern.specs.Parted.{paired, wrapped};
+ghost use Rattle.pattern_match.specs.LastParts.{all_over, over, IsOpened};
 ghost use Rattle.pattern_match.specs.StandsFor.{StandsFor};
 ghost use Rattle.pattern_match.specs.Steps.{atom_of, shape_of};
 ghost use Rattle.pattern_match.specs.Takes.{atom_takes, is_taking};
@@ -18,33 +19,46 @@ use crate::collection::Collection;
 use crate::fate::{Fate, behind, counted, either, first_of, looked};
 use crate::made::Made;
 use crate::step::{Step, Test, is_forced, stops_first};
-use pattern_items::{Atom, Behind};
+use pattern_items::Atom;
 use pattern_screens::is_spent;
 use std::alloc::Global;
 use syn_base::Memory;
-use vim_pattern::Node;
+use vim_pattern::{Node, Pair, Parted, Wrap};
 
 /// A ready node's parts but for its last child.
 #[derive(Drop)]
 pub(crate) enum Above {
-    Seq(Made),
-    Or(Made),
-    And(Made),
-    Group(u8),
-    External(u8),
-    Repeat {
-        least: u32,
-        most: Option<u32>,
-        lazy: bool,
-    },
-    Ahead {
-        not: bool,
-    },
-    Before {
-        not: bool,
-        limit: Behind,
-    },
-    Whole,
+    /// The first of two children, made ready.
+    Two(Pair, Made),
+    One(Wrap),
+}
+
+/// What a node of one child comes to, by what that child does.
+fn fate_wrapped(wrap: Wrap, last: Fate) -> Fate
+    ensures { (t : Shape) → last ≡ fate_of t → result ≡ fate_of (wrapped wrap t) }
+{
+    match wrap {
+        Wrap::Group(_) | Wrap::External(_) => behind(last, Fate::Passes),
+        Wrap::Repeat { most, .. } if is_spent(most) => Fate::Stays,
+        Wrap::Repeat { least, most, lazy } => {
+            let stops = stops_first(least, most, lazy);
+            counted(last, is_forced(least, most), stops)
+        }
+        Wrap::Ahead { not } | Wrap::Before { not, .. } => looked(last, not),
+        Wrap::Whole => first_of(last),
+    }
+}
+
+/// Whether each way of a node of one child stands behind the place where it was tried, by whether
+/// those of that child do.
+fn takes_wrapped(wrap: Wrap, last: bool) -> bool
+    ensures { (t : Shape) → last ≡ is_taking t → result ≡ is_taking (wrapped wrap t) }
+{
+    match wrap {
+        Wrap::Repeat { least, most, .. } => is_forced(least, most) && last,
+        Wrap::Ahead { .. } | Wrap::Before { .. } => false,
+        Wrap::Group(_) | Wrap::External(_) | Wrap::Whole => last,
+    }
 }
 
 impl Above {
@@ -53,17 +67,10 @@ impl Above {
         ensures { (t : Shape) → last ≡ fate_of t → result ≡ fate_of (over self.now t) }
     {
         match self {
-            Above::Seq(first) => behind(first.fate, last),
-            Above::Or(first) => either(first.fate, last),
-            Above::And(first) => behind(looked(first.fate, false), last),
-            Above::Group(_) | Above::External(_) => behind(last, Fate::Passes),
-            Above::Repeat { most, .. } if is_spent(*most) => Fate::Stays,
-            Above::Repeat { least, most, lazy } => {
-                let stops = stops_first(*least, *most, *lazy);
-                counted(last, is_forced(*least, *most), stops)
-            }
-            Above::Ahead { not } | Above::Before { not, .. } => looked(last, *not),
-            Above::Whole => first_of(last),
+            Above::Two(Pair::Seq, first) => behind(first.fate, last),
+            Above::Two(Pair::Or, first) => either(first.fate, last),
+            Above::Two(Pair::And, first) => behind(looked(first.fate, false), last),
+            Above::One(wrap) => fate_wrapped(*wrap, last),
         }
     }
 
@@ -73,11 +80,10 @@ impl Above {
         ensures { (t : Shape) → last ≡ is_taking t → result ≡ is_taking (over self.now t) }
     {
         match self {
-            Above::Seq(first) => first.takes || last,
-            Above::Or(first) => first.takes && last,
-            Above::Repeat { least, most, .. } => is_forced(*least, *most) && last,
-            Above::Ahead { .. } | Above::Before { .. } => false,
-            Above::And(_) | Above::Group(_) | Above::External(_) | Above::Whole => last,
+            Above::Two(Pair::Seq, first) => first.takes || last,
+            Above::Two(Pair::Or, first) => first.takes && last,
+            Above::Two(Pair::And, _) => last,
+            Above::One(wrap) => takes_wrapped(*wrap, last),
         }
     }
 }
@@ -88,20 +94,38 @@ fn joined(alloc: Global, above: Above, step: Step) -> Result<Step, Memory>
 {
     let part = Box::new(alloc, step)?;
     match above {
-        Above::Seq(first) => Ok(Step::Seq(Box::new(alloc, first.step)?, part)),
-        Above::Or(first) => Ok(Step::Or(Box::new(alloc, first.step)?, part)),
-        Above::And(first) => Ok(Step::And(Box::new(alloc, first.step)?, part)),
-        Above::Group(number) => Ok(Step::Group(part, number)),
-        Above::External(number) => Ok(Step::External(part, number)),
-        Above::Repeat { least, most, lazy } => Ok(Step::Repeat {
+        Above::Two(pair, first) => Ok(paired(pair, Box::new(alloc, first.step)?, part)),
+        Above::One(wrap) => Ok(wrapped(wrap, part)),
+    }
+}
+
+/// The node of two children.
+fn paired(pair: Pair, first: Box<Step>, last: Box<Step>) -> Step
+    ensures { shape_of result ≡ paired pair (shape_of first.value) (shape_of last.value) }
+{
+    match pair {
+        Pair::Seq => Step::Seq(first, last),
+        Pair::Or => Step::Or(first, last),
+        Pair::And => Step::And(first, last),
+    }
+}
+
+/// The node of one child.
+fn wrapped(wrap: Wrap, part: Box<Step>) -> Step
+    ensures { shape_of result ≡ wrapped wrap (shape_of part.value) }
+{
+    match wrap {
+        Wrap::Group(number) => Step::Group(part, number),
+        Wrap::External(number) => Step::External(part, number),
+        Wrap::Repeat { least, most, lazy } => Step::Repeat {
             part,
             least,
             most,
             lazy,
-        }),
-        Above::Ahead { not } => Ok(Step::Ahead { part, not }),
-        Above::Before { not, limit } => Ok(Step::Before { part, not, limit }),
-        Above::Whole => Ok(Step::Whole(part)),
+        },
+        Wrap::Ahead { not } => Step::Ahead { part, not },
+        Wrap::Before { not, limit } => Step::Before { part, not, limit },
+        Wrap::Whole => Step::Whole(part),
     }
 }
 
@@ -163,12 +187,14 @@ fn put_over(alloc: Global, above: Above, last: Made) -> Result<Made, Memory>
     ensures { IfOk result (λ m. StandsFor (shape_of m.step) (over above (shape_of last.step))) }
 {
     match above {
-        Above::Repeat {
-            least: 0,
-            most: Some(1),
-            lazy: false,
-        } if last.takes => optional(alloc, last),
-        Above::Or(first) if first.fate.passes() && last.fate.passes() => {
+        Above::One(
+            Wrap::Repeat {
+                least: 0,
+                most: Some(1),
+                lazy: false,
+            },
+        ) if last.takes => optional(alloc, last),
+        Above::Two(Pair::Or, first) if first.fate.passes() && last.fate.passes() => {
             choice(alloc, first, last)
         }
         above => {
@@ -195,7 +221,7 @@ fn put_all_over(alloc: Global, all: Vec<Above>, leaf: Made) -> Result<Made, Memo
 
 /// A node, parted from its last child.
 #[derive(Drop)]
-enum Parted<'n> {
+enum Opened<'n> {
     /// One that has no child, made ready.
     Leaf(Made),
     /// The other parts of a node, made ready, and its last child.
@@ -226,40 +252,15 @@ fn ready_empty() -> Made
 
 /// Parts a node from its last child, and makes the rest of it ready.
 #[cycle(ready)]
-#[tactic(auto, using(crate::proofs::StandsLaws::first_of_seq, crate::proofs::StandsLaws::first_of_or, crate::proofs::StandsLaws::first_of_and, crate::proofs::StandsLaws::stands_itself))]
-fn taken_apart<'n>(alloc: Global, node: &'n Node) -> Result<Parted<'n>, Memory>
-    ensures { IfOk result (λ parted. IsParted parted (bare node.now)) }
+#[tactic(auto, using(crate::proofs::StandsLaws::opened_two, crate::proofs::StandsLaws::stands_same))]
+fn taken_apart<'n>(alloc: Global, node: &'n Node) -> Result<Opened<'n>, Memory>
+    ensures { IfOk result (λ opened. IsOpened opened (bare node.now)) }
 {
-    match node {
-        Node::Empty => Ok(Parted::Leaf(ready_empty())),
-        Node::One(atom) => Ok(Parted::Leaf(ready_leaf(alloc, atom)?)),
-        Node::Seq(a, b) => Ok(Parted::Under(Above::Seq(made(alloc, a)?), b)),
-        Node::Or(a, b) => Ok(Parted::Under(Above::Or(made(alloc, a)?), b)),
-        Node::And(a, b) => Ok(Parted::Under(Above::And(made(alloc, a)?), b)),
-        Node::Group(a, number) => Ok(Parted::Under(Above::Group(*number), a)),
-        Node::External(a, number) => Ok(Parted::Under(Above::External(*number), a)),
-        Node::Repeat {
-            part,
-            least,
-            most,
-            lazy,
-        } => Ok(Parted::Under(
-            Above::Repeat {
-                least: *least,
-                most: *most,
-                lazy: *lazy,
-            },
-            part,
-        )),
-        Node::Ahead { part, not } => Ok(Parted::Under(Above::Ahead { not: *not }, part)),
-        Node::Before { part, not, limit } => Ok(Parted::Under(
-            Above::Before {
-                not: *not,
-                limit: *limit,
-            },
-            part,
-        )),
-        Node::Whole(a) => Ok(Parted::Under(Above::Whole, a)),
+    match node.parted() {
+        Parted::Empty => Ok(Opened::Leaf(ready_empty())),
+        Parted::One(atom) => Ok(Opened::Leaf(ready_leaf(alloc, atom)?)),
+        Parted::Two(pair, a, b) => Ok(Opened::Under(Above::Two(pair, made(alloc, a)?), b)),
+        Parted::Under(wrap, part) => Ok(Opened::Under(Above::One(wrap), part)),
     }
 }
 
@@ -274,8 +275,8 @@ fn made(alloc: Global, node: &Node) -> Result<Made, Memory>
     let mut rest = node;
     loop {
         match taken_apart(alloc, rest)? {
-            Parted::Leaf(leaf) => return put_all_over(alloc, all, leaf),
-            Parted::Under(above, last) => {
+            Opened::Leaf(leaf) => return put_all_over(alloc, all, leaf),
+            Opened::Under(above, last) => {
                 all.push(above)?;
                 rest = last;
             }

@@ -11,6 +11,7 @@ pub mod Read
 pub mod TreeOf
 -- below here, what only code and proofs cite
 pub mod ShapeCode
+pub mod Parted
 pub mod Built
 pub mod Copied
 pub mod Summary

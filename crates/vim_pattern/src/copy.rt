@@ -3,7 +3,7 @@ ghost use Rattle.std.specs.Prelude.{◌≡◌, IfOk};
 ghost use Rattle.vim_pattern.specs.Shape.{bare};
 ghost use Rattle.vim_pattern.specs.Copied as spec;
 
-use crate::{Atom, Behind, CharRanges, Node, Tree};
+use crate::{Atom, CharRanges, Node, Pair, Parted, Tree, Wrap};
 use std::alloc::Global;
 use syn_base::{List, Memory};
 
@@ -50,24 +50,9 @@ fn copied_atom(alloc: Global, atom: &Atom) -> Result<Atom, Memory>
 /// A node's parts but for its last child.
 #[derive(Drop)]
 pub enum Above {
-    Seq(Box<Node>),
-    Or(Box<Node>),
-    And(Box<Node>),
-    Group(u8),
-    External(u8),
-    Repeat {
-        least: u32,
-        most: Option<u32>,
-        lazy: bool,
-    },
-    Ahead {
-        not: bool,
-    },
-    Before {
-        not: bool,
-        limit: Behind,
-    },
-    Whole,
+    /// The first of two children, copied.
+    Two(Pair, Box<Node>),
+    One(Wrap),
 }
 
 /// The node of these parts and this last child.
@@ -75,20 +60,20 @@ fn put_over(above: Above, part: Box<Node>) -> Node
     ensures { bare result ≡ spec.over above (bare part.value) }
 {
     match above {
-        Above::Seq(first) => Node::Seq(first, part),
-        Above::Or(first) => Node::Or(first, part),
-        Above::And(first) => Node::And(first, part),
-        Above::Group(number) => Node::Group(part, number),
-        Above::External(number) => Node::External(part, number),
-        Above::Repeat { least, most, lazy } => Node::Repeat {
+        Above::Two(Pair::Seq, first) => Node::Seq(first, part),
+        Above::Two(Pair::Or, first) => Node::Or(first, part),
+        Above::Two(Pair::And, first) => Node::And(first, part),
+        Above::One(Wrap::Group(number)) => Node::Group(part, number),
+        Above::One(Wrap::External(number)) => Node::External(part, number),
+        Above::One(Wrap::Repeat { least, most, lazy }) => Node::Repeat {
             part,
             least,
             most,
             lazy,
         },
-        Above::Ahead { not } => Node::Ahead { part, not },
-        Above::Before { not, limit } => Node::Before { part, not, limit },
-        Above::Whole => Node::Whole(part),
+        Above::One(Wrap::Ahead { not }) => Node::Ahead { part, not },
+        Above::One(Wrap::Before { not, limit }) => Node::Before { part, not, limit },
+        Above::One(Wrap::Whole) => Node::Whole(part),
     }
 }
 
@@ -105,60 +90,6 @@ fn put_all_over(alloc: Global, all: Vec<Above>, node: Node) -> Result<Node, Memo
     Ok(node)
 }
 
-/// The parts of a node with one child, but for that child.
-fn above_one(node: &Node) -> Above
-    ensures { spec.AboveOne result (bare node.now) }
-{
-    match node {
-        Node::Group(_, number) => Above::Group(*number),
-        Node::External(_, number) => Above::External(*number),
-        Node::Repeat {
-            part: _,
-            least,
-            most,
-            lazy,
-        } => Above::Repeat {
-            least: *least,
-            most: *most,
-            lazy: *lazy,
-        },
-        Node::Ahead { part: _, not } => Above::Ahead { not: *not },
-        Node::Before {
-            part: _,
-            not,
-            limit,
-        } => Above::Before {
-            not: *not,
-            limit: *limit,
-        },
-        Node::Whole(_)
-        | Node::Empty
-        | Node::One(_)
-        | Node::Seq(_, _)
-        | Node::Or(_, _)
-        | Node::And(_, _) => Above::Whole,
-    }
-}
-
-/// The parts of a node with two children, but for the last one; `first` is the other, copied.
-fn above_two(node: &Node, first: Box<Node>) -> Above
-    ensures { spec.AboveTwo result (bare first.value) (bare node.now) }
-{
-    match node {
-        Node::Or(_, _) => Above::Or(first),
-        Node::And(_, _) => Above::And(first),
-        Node::Seq(_, _)
-        | Node::Empty
-        | Node::One(_)
-        | Node::Group(_, _)
-        | Node::External(_, _)
-        | Node::Repeat { .. }
-        | Node::Ahead { .. }
-        | Node::Before { .. }
-        | Node::Whole(_) => Above::Seq(first),
-    }
-}
-
 /// Copies a node. Only first children are copied by a call of its own, and those nest no deeper
 /// than the levels of a pattern allow.
 #[tactic(auto, using(crate::proofs::CopyLaws::over_last))]
@@ -168,24 +99,19 @@ fn copied(alloc: Global, node: &Node) -> Result<Node, Memory>
     let mut all = Vec::new(alloc);
     let mut rest = node;
     loop {
-        match rest {
-            Node::Empty => return put_all_over(alloc, all, Node::Empty),
-            Node::One(atom) => {
+        match rest.parted() {
+            Parted::Empty => return put_all_over(alloc, all, Node::Empty),
+            Parted::One(atom) => {
                 let leaf = Node::One(copied_atom(alloc, atom)?);
                 return put_all_over(alloc, all, leaf);
             }
-            Node::Seq(a, b) | Node::Or(a, b) | Node::And(a, b) => {
+            Parted::Two(pair, a, b) => {
                 let first = copied(alloc, a)?;
-                all.push(above_two(rest, Box::new(alloc, first)?))?;
+                all.push(Above::Two(pair, Box::new(alloc, first)?))?;
                 rest = b;
             }
-            Node::Group(part, _)
-            | Node::External(part, _)
-            | Node::Repeat { part, .. }
-            | Node::Ahead { part, .. }
-            | Node::Before { part, .. }
-            | Node::Whole(part) => {
-                all.push(above_one(rest))?;
+            Parted::Under(wrap, part) => {
+                all.push(Above::One(wrap))?;
                 rest = part;
             }
         }

@@ -12,6 +12,7 @@ mod error;
 mod laws;
 mod node;
 mod notes;
+mod parted;
 mod read;
 mod tree;
 
@@ -21,6 +22,7 @@ pub use laws::{
     tree_and_fault_exclude, tree_or_fault,
 };
 pub use node::Node;
+pub use parted::{Pair, Parted, Wrap};
 pub use pattern_items::{
     Atom, Behind, CharRanges, Compare, PatternCause, PatternUse, SetPart, collection_end,
 };

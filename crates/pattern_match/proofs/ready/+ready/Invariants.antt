@@ -1,6 +1,6 @@
 use Rattle.std.proofs.Common.{◌≤◌, ◌+◌, ◌*◌}
 use Rattle.vim_pattern.specs.Shape.{bare}
-use Rattle.vim_pattern.specs.Copied.{node_count}
+use Rattle.vim_pattern.specs.Parted.{node_count}
 use Rattle.pattern_match.specs.LastParts.{all_over}
 use Rattle.pattern_match.specs.StandsFor.{StandsFor}
 use Rattle.pattern_match.proofs.ready.+ready.Given as goal

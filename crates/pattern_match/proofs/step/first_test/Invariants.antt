@@ -1,5 +1,5 @@
 use Rattle.std.proofs.Common.{◌≡◌}
-use Rattle.vim_pattern.specs.Copied.{node_count}
+use Rattle.vim_pattern.specs.Parted.{node_count}
 use Rattle.pattern_match.specs.FirstAtom.{first_atom}
 use Rattle.pattern_match.specs.Steps.{shape_of}
 use Rattle.pattern_match.proofs.step.first_test.Given as goal

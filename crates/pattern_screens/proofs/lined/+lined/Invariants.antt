@@ -1,6 +1,6 @@
 use Rattle.std.proofs.Common.{◌≡◌, ◌≤◌, ◌+◌, ◌*◌}
 use Rattle.vim_pattern.specs.Shape.{bare}
-use Rattle.vim_pattern.specs.Copied.{node_count}
+use Rattle.vim_pattern.specs.Parted.{node_count}
 use Rattle.pattern_screens.specs.Lined.{is_lined}
 use Rattle.pattern_screens.proofs.lined.+lined.Given as goal
 

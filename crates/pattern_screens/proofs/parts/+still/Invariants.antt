@@ -1,7 +1,7 @@
 use Rattle.std.proofs.Common.{◌≡◌, ◌≤◌, ◌+◌, ◌*◌}
 use Rattle.std.specs.Prelude.{Some}
 use Rattle.vim_pattern.specs.Shape.{bare}
-use Rattle.vim_pattern.specs.Copied.{node_count}
+use Rattle.vim_pattern.specs.Parted.{node_count}
 use Rattle.pattern_screens.specs.Screens.{both, in_turn, or_still, still_of}
 use Rattle.pattern_screens.proofs.parts.+still.Given as goal
 
