@@ -3,6 +3,7 @@ ghost use Rattle.std.specs.Prelude.{◌≡◌, ◌<◌, ◌≤◌, ◌^◌, ℕ,
 ghost use Rattle.paint_rules.specs.Offsets.{within_line};
 ghost use Rattle.item_pick.specs.Columns.{may_start_at, Holds};
 
+use region_ends::moved_column;
 use syntax_set::Pattern;
 
 /// Columns from the first up to, and without, the second.
@@ -10,19 +11,6 @@ use syntax_set::Pattern;
 pub(crate) struct Columns {
     pub(crate) first: usize,
     pub(crate) end: usize,
-}
-
-/// The column so many on, which stops at both ends of a line.
-pub(crate) fn moved_column(col: usize, by: i32, last: usize) -> usize
-    requires { col ≤ last × last < 2 ^ 62 }
-    ensures { result ≡ within_line last (pos col +ℤ by) }
-{
-    let moved = col as i64 + by as i64;
-    if moved < 0 {
-        return 0;
-    }
-    let moved = moved as usize;
-    if moved < last { moved } else { last }
 }
 
 /// Whether a match from a column can have its item start at another one.
@@ -35,7 +23,7 @@ pub(crate) fn may_start(pattern: &Pattern, from: usize, at: usize, last: usize) 
     }
     match pattern.ms {
         None => from == at,
-        Some(offset) => offset.from_end || moved_column(from, offset.by, last) == at,
+        Some(offset) => offset.from_end || moved_column(from, i64::from(offset.by), last) == at,
     }
 }
 

@@ -20,6 +20,6 @@ pub use end_memo::{EndMemo, find_end_by};
 pub use keeping::{earlier_end, item_of, kept_end, kept_end_over};
 pub use key_answers::KeyAnswers;
 pub use matching::Matcher;
-pub use offsets::{earlier_place, later_place, offset_place};
+pub use offsets::{earlier_place, later_place, moved_column, offset_place};
 pub use paint_rules::{RegionEnd, Which};
 pub use searching::{EndAnswer, find_end};

@@ -71,17 +71,12 @@ fn length_of<T: Lines>(lines: &T, line: usize) -> usize
     }
 }
 
-/// The column so many on, which stops at both ends of a line.
-fn moved_column(col: usize, by: i64, most: usize) -> usize
+/// The column so many characters on, which stops at both ends of a line with so many characters.
+#[inline]
+pub fn moved_column(col: usize, by: i64, most: usize) -> usize
     ensures { result ≡ within_line most (pos col +ℤ by) }
 {
-    let size = by.unsigned_abs() as usize;
-    let moved = if by < 0 {
-        col.saturating_sub(size)
-    } else {
-        col.saturating_add(size)
-    };
-    moved.min(most)
+    col.saturating_add_signed(by as isize).min(most)
 }
 
 /// The later of two places.
