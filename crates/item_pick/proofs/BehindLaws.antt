@@ -10,16 +10,17 @@ use Rattle.vim_pattern.specs.Tree.{PatternTree}
 use Rattle.match_rules.specs.Ways.{Text, line_at}
 use Rattle.syntax_set.specs.declared.item.Pattern.{Pattern}
 use Rattle.paint_rules.specs.Rules.{Rules, item_of, no_externals, place_at, within_budget}
-use Rattle.pattern_screens.specs.Behind.{fails_behind}
+use Rattle.pattern_screens.specs.Behind.{is_cheap_behind}
 use Rattle.pattern_screens.specs.Keys.{key_numbered, key_of}
+use Rattle.pattern_screens.specs.Rest.{rest_fails}
 use Rattle.pattern_screens.specs.ScreenLaw.{two_lines}
-use Rattle.pattern_screens.specs.Short.{AreShort}
+use Rattle.pattern_screens.specs.TwoLines.{AreWithin}
 use Rattle.item_pick.specs.Attempts.{IsFutileBy}
 use Rattle.item_pick.specs.Columns.{may_start_at}
-use Rattle.item_pick.specs.Firsts.{IsToldOfFirst}
+use Rattle.item_pick.specs.Firsts.{IsToldOfFirst, rest_asked}
 use Rattle.item_pick.specs.Screens.{IsVainFrom}
 use Rattle.item_pick.specs.Standing.{IsFirst}
-use Rattle.item_pick.specs.Tables.{IsNumberAt}
+use Rattle.item_pick.specs.Tables.{IsCheapWithin, IsNumberAt}
 use Rattle.item_pick.proofs.MatchLaws.{match_absent}
 
 -- an attempt that finds nothing gives nothing, and its lines are looked at
@@ -33,10 +34,10 @@ futile_vain r t i pattern p c lines may futile k =
 -- the law of looks behind
 abbrev pub IsBehindLaw : Rules → Type 0
 IsBehindLaw r =
-    (tree : PatternTree) (t : Text) (ignore : Bool) (l c number : ℕ) → c ≤ length (line_at t l) → AreShort t l → key_numbered number ≡ key_of r.sets (line_at t l) c →
-    fails_behind r.sets r.budget ignore number tree ≡ true → IsFutileBy (r.attempt t tree ignore no_externals (place_at l c)) r.budget (two_lines l)
+    (tree : PatternTree) (t : Text) (ignore : Bool) (most l c number : ℕ) → c ≤ length (line_at t l) → AreWithin most t l → key_numbered number ≡ key_of r.sets (line_at t l) c →
+    rest_fails r.sets ignore number tree ≡ true → is_cheap_behind r.budget most tree ≡ true → IsFutileBy (r.attempt t tree ignore no_externals (place_at l c)) r.budget (two_lines l)
 
-pub vain_behind : (r : Rules) → IsBehindLaw r → (t : Text) (i : ItemId) (pattern : Pattern) (p : Place) (col number : ℕ) → may_start_at pattern (length (line_at t p.line)) p.col col ≡ true → IsFirst r i pattern → AreShort t p.line → IsNumberAt r (line_at t p.line) col number → IsToldOfFirst fails_behind r number i →
+pub vain_behind : (r : Rules) → IsBehindLaw r → (t : Text) (i : ItemId) (pattern : Pattern) (p : Place) (most col number : ℕ) → may_start_at pattern (length (line_at t p.line)) p.col col ≡ true → IsFirst r i pattern → AreWithin most t p.line → IsNumberAt r (line_at t p.line) col number → IsToldOfFirst rest_asked r number i → IsCheapWithin r i most →
     IsVainFrom r t p i pattern (two_lines p.line) col
-vain_behind r law t i pattern p col number may first short key fails =
-    futile_vain r t i pattern p col (two_lines p.line) may (law pattern.tree t (item_of r.items i).ignore p.line col number key.0 short key.1 (fails pattern first))
+vain_behind r law t i pattern p most col number may first few key fails cheap =
+    futile_vain r t i pattern p col (two_lines p.line) may (law pattern.tree t (item_of r.items i).ignore most p.line col number key.0 few key.1 (fails pattern first) (cheap pattern first))

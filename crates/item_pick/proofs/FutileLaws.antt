@@ -8,12 +8,13 @@ use Rattle.match_rules.specs.Ways.{Text, line_at, place}
 use Rattle.paint_rules.specs.Rules.{no_externals, place_at}
 use Rattle.paint_rules.specs.Syntax.{attempt_by, context_of}
 use Rattle.pattern_match.specs.Answers.{match_of}
-use Rattle.pattern_screens.specs.Behind.{fails_behind}
+use Rattle.pattern_screens.specs.Behind.{is_cheap_behind}
 use Rattle.pattern_screens.specs.Failing.{fails}
 use Rattle.pattern_screens.specs.Following.{fails_after, takes_first}
 use Rattle.pattern_screens.specs.Keys.{key_numbered, key_of}
 use Rattle.pattern_screens.specs.ScreenLaw.{lines_seen, two_lines, IsInVain}
-use Rattle.pattern_screens.specs.Short.{AreShort}
+use Rattle.pattern_screens.specs.Rest.{rest_fails}
+use Rattle.pattern_screens.specs.TwoLines.{AreWithin}
 use Rattle.pattern_screens.proofs.BehindLaws.{behind-law}
 use Rattle.pattern_screens.proofs.FailingLaws.{fails-here}
 use Rattle.pattern_screens.proofs.FollowingLaws.{after-law}
@@ -44,9 +45,9 @@ futile_after sets budget tree t ignore l c number first inside same e =
     futile_in sets budget tree t ignore l c false
     (after-law tree (context_of sets t ignore no_externals) budget l c number first (record { within = inside; is = same }) e)
 
--- where what follows a look behind fails, in short lines
-pub futile_behind : (sets : Sets) (budget : ℕ) (tree : PatternTree) (t : Text) (ignore : Bool) (l c number : ℕ) → c ≤ length (line_at t l) → AreShort t l → key_numbered number ≡ key_of sets (line_at t l) c →
-    fails_behind sets budget ignore number tree ≡ true → IsFutileBy (attempt_by sets t tree ignore no_externals (place_at l c)) budget (two_lines l)
-futile_behind sets budget tree t ignore l c number inside short same e =
+-- where what follows a look behind fails, in lines that aren't too long
+pub futile_behind : (sets : Sets) (budget : ℕ) (tree : PatternTree) (t : Text) (ignore : Bool) (most l c number : ℕ) → c ≤ length (line_at t l) → AreWithin most t l → key_numbered number ≡ key_of sets (line_at t l) c →
+    rest_fails sets ignore number tree ≡ true → is_cheap_behind budget most tree ≡ true → IsFutileBy (attempt_by sets t tree ignore no_externals (place_at l c)) budget (two_lines l)
+futile_behind sets budget tree t ignore most l c number inside few same e cheap =
     futile_in sets budget tree t ignore l c true
-    (behind-law tree (context_of sets t ignore no_externals) budget l c number short (record { within = inside; is = same }) e)
+    (behind-law tree (context_of sets t ignore no_externals) budget most l c number few (record { within = inside; is = same }) e cheap)

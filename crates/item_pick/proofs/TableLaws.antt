@@ -26,6 +26,7 @@ use Rattle.paint_rules.specs.ItemMatch.{match_from}
 use Rattle.paint_rules.specs.Offsets.{within_line}
 use Rattle.char_class.specs.declared.sets.Sets.{Sets}
 use Rattle.match_rules.specs.Atoms.{has_keyword}
+use Rattle.pattern_screens.specs.Behind.{is_cheap_behind}
 use Rattle.pattern_screens.specs.Failing.{fails, fails_at}
 use Rattle.pattern_screens.specs.Following.{fails_after, takes_first}
 use Rattle.pattern_screens.specs.Keys.{AreNumbers, is_first, key_numbered, key_of, last_of}
@@ -43,7 +44,7 @@ use Rattle.item_pick.specs.Screens.{HoldsLine, HoldsLines, IsIdle, IsLater, IsSe
 use Rattle.item_pick.specs.Standing.{first_pattern, has_one_start, IsFirst, IsPatternOf}
 use Rattle.item_pick.specs.Started.{admits, is_free}
 use Rattle.item_pick.specs.Firsts.{idles_before, IsToldOfFirst, sits_by, some_idle}
-use Rattle.item_pick.specs.Tables.{passes, AnchorsStand, EndsStand, IsAnchored, IsEnough, IsMissed, IsNextAt, IsNextIn, IsNumberAt, Lacks, ListStands, MemoryStands, RisesTo, RunsStand, RunStands, StaysOut, TablesStand}
+use Rattle.item_pick.specs.Tables.{passes, AnchorsStand, EndsStand, IsAnchored, IsCheapWithin, IsEnough, IsMissed, IsNextAt, IsNextIn, IsNumberAt, Lacks, ListStands, LongestStand, MemoryStands, RisesTo, RunsStand, RunStands, StaysOut, TablesStand}
 use Rattle.syn_base.specs.Looked.{one_line}
 use Rattle.item_pick.proofs.BehindLaws.{futile_vain}
 use Rattle.item_pick.proofs.MatchLaws.{no_start}
@@ -418,4 +419,21 @@ missed_vain r law after t i pattern p c may within missed is (Some lines) h =
 pub anchors_still : (r : Rules) (old new : Table Bool) (i : ItemId) (is : Bool) → IsPut (IsAt old) (IsAt new) i.0 is → AnchorsStand r old → (is ≡ true → IsAnchored r i) → AnchorsStand r new
 anchors_still r old new i is put stands own = record {
   told = λ item there. all_still (λ k is. is ≡ true → IsAnchored r (item_numbered k)) (IsAt old) (IsAt new) i.0 is put (λ k is was e. stands.told k (subst (λ (is : Bool). IsAt old k is) e was)) own item true there refl;
+}
+
+-- ---- in how long lines a look behind is within the budget
+
+pub cheap_by : (r : Rules) (i : ItemId) (pattern : Pattern) → IsFirst r i pattern → (o : Option ℕ) → IfSome o (λ most. is_cheap_behind r.budget most pattern.tree ≡ true) → IfSome o (IsCheapWithin r i)
+cheap_by r i pattern first None told = tt
+cheap_by r i pattern first (Some most) told = λ other own.
+    subst (λ (q : Pattern). is_cheap_behind r.budget most q.tree ≡ true) (one_first r i pattern other first own) told
+
+pub longest_by : (r : Rules) (longest : Table (Option ℕ)) (i : ItemId) → LongestStand r longest → (o : Option ℕ) → IsAt longest i.0 o → IfSome o (IsCheapWithin r i)
+longest_by r longest i stands None there = tt
+longest_by r longest i stands (Some most) there = stands.told i.0 most there
+
+-- an answer that is kept
+pub longest_still : (r : Rules) (old new : Table (Option ℕ)) (i : ItemId) (o : Option ℕ) → IsPut (IsAt old) (IsAt new) i.0 o → LongestStand r old → IfSome o (IsCheapWithin r i) → LongestStand r new
+longest_still r old new i o put stands own = record {
+  told = λ item most there. all_still (λ k e. IfSome e (IsCheapWithin r (item_numbered k))) (IsAt old) (IsAt new) i.0 o put (λ k e was. longest_by r old (item_numbered k) stands e was) own item (Some most) there;
 }

@@ -6,12 +6,17 @@ use Rattle.vim_pattern.specs.Tree.{PatternTree}
 use Rattle.syntax_set.specs.declared.item.Pattern.{Pattern}
 use Rattle.paint_rules.specs.Rules.{Rules, item_of}
 use Rattle.pattern_screens.specs.Following.{fails_after, takes_first}
+use Rattle.pattern_screens.specs.Rest.{rest_fails}
 use Rattle.item_pick.specs.Quiet.{item_numbered}
 use Rattle.item_pick.specs.Standing.{first_pattern, has_one_start, IsFirst}
 
 -- what may be asked of a pattern: by the sets, the budget, whether case is ignored and a key's number
 abbrev pub Asks : Type 0
 Asks = Sets → ℕ → Bool → ℕ → PatternTree → Bool
+
+-- what follows its first piece fails, whatever that costs
+abbrev pub rest_asked : Asks
+rest_asked sets budget ignore number tree = rest_fails sets ignore number tree
 
 -- a pattern, if there is one, is asked
 abbrev pub some_asked : (PatternTree → Bool) → Option Pattern → Bool

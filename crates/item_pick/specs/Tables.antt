@@ -1,5 +1,5 @@
 -- Which items of a choice may start at a column, by the key of the column.
-use Rattle.std.specs.Prelude.{◌≡◌, ◌<◌, ◌≤◌, ◌+◌, ◌-◌, ◌⊎◌, ℕ, Bool, true, not, ◌&&◌, false, nat_lt, is_none, List, length, slice_index, IfSome}
+use Rattle.std.specs.Prelude.{◌≡◌, ◌<◌, ◌≤◌, ◌+◌, ◌-◌, ◌⊎◌, ℕ, Bool, true, not, ◌&&◌, false, nat_lt, is_none, List, length, slice_index, Option, Some, IfSome}
 use Rattle.std.specs.List.{All, list_all}
 use Rattle.std.specs.List.Sorted.{IsNonDecreasing}
 use Rattle.char_class.specs.declared.sets.Sets.{Sets}
@@ -14,7 +14,7 @@ use Rattle.syntax_set.specs.declared.item.ItemKind.{ItemKind}
 use Rattle.syntax_set.specs.declared.item.ItemKind.TheVariants.{Keyword, Match, Region}
 use Rattle.syntax_set.specs.declared.item.Pattern.{Pattern}
 use Rattle.paint_rules.specs.Rules.{Rules, item_of}
-use Rattle.pattern_screens.specs.Behind.{fails_behind}
+use Rattle.pattern_screens.specs.Behind.{is_cheap_behind}
 use Rattle.pattern_screens.specs.Failing.{fails, fails_at}
 use Rattle.pattern_screens.specs.Following.{fails_after, takes_first}
 use Rattle.pattern_screens.specs.Keys.{AreNumbers, is_first, key_numbered, key_of}
@@ -26,7 +26,7 @@ use Rattle.item_pick.specs.declared.memory.PickMemory.{PickMemory}
 use Rattle.item_pick.specs.declared.runs.Run.{Run}
 use Rattle.item_pick.specs.declared.runs.Runs.{Runs}
 use Rattle.item_pick.specs.declared.tables.Row.{Row}
-use Rattle.item_pick.specs.Firsts.{first_asked, idles_before, IsToldOfFirst}
+use Rattle.item_pick.specs.Firsts.{first_asked, idles_before, IsToldOfFirst, rest_asked}
 use Rattle.item_pick.specs.Quiet.{item_numbered, IsPassed}
 use Rattle.item_pick.specs.Screens.{IsSettled}
 use Rattle.item_pick.specs.Settled.{item_wanders}
@@ -113,6 +113,16 @@ IsAnchored r i =
 pub record AnchorsStand (r : Rules) (anchors : Table Bool) : Type 0 where
   pub told : (item : ℕ) → IsAt anchors item true → IsAnchored r (item_numbered item)
 
+-- where a line and the one before have so many characters together, attempts by the first pattern of an
+-- item are within the budget where what follows the look behind fails with which it begins
+abbrev pub IsCheapWithin : Rules → ItemId → ℕ → Type 0
+IsCheapWithin r i most =
+    (pattern : Pattern) → IsFirst r i pattern → is_cheap_behind r.budget most pattern.tree ≡ true
+
+-- of which items it was told
+pub record LongestStand (r : Rules) (longest : Table (Option ℕ)) : Type 0 where
+  pub told : (item most : ℕ) → IsAt longest item (Some most) → IsCheapWithin r (item_numbered item) most
+
 -- the column is one of the line's, its end included, and its key has this number
 abbrev pub IsNumberAt : Rules → List ℕ → ℕ → ℕ → Type 0
 IsNumberAt r line col number =
@@ -131,11 +141,12 @@ pub record TablesStand (r : Rules) (memory : PickMemory) : Type 0 where
   pub rows : All (RowStands r) memory.rows.items
   pub outs : AnswersStand (stays_out r) memory.outs
   pub vains : AnswersStand (first_asked fails_at r) memory.vains
-  pub behinds : AnswersStand (first_asked fails_behind r) memory.behinds
+  pub behinds : AnswersStand (first_asked rest_asked r) memory.behinds
   pub afters : AnswersStand (first_asked fails_after r) memory.afters
   pub idles : AnswersStand (idles_before r) memory.idles
   pub shut : AnswersStand (is_shut_at r.items r.sets r.budget) memory.shut
   pub anchors : AnchorsStand r memory.anchors
+  pub longest : LongestStand r memory.longest
 
 -- ---- what is known of the line
 

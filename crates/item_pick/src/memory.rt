@@ -5,17 +5,16 @@ ghost use Rattle.std.specs.List.{All};
 ghost use Rattle.std.specs.List.Sorted.{IsNonDecreasing};
 ghost use Rattle.match_rules.specs.Ways.{Text, line_at};
 ghost use Rattle.paint_rules.specs.Rules.{Rules, item_of, place_at};
-ghost use Rattle.pattern_screens.specs.Behind.{fails_behind};
 ghost use Rattle.pattern_screens.specs.Failing.{fails_at};
 ghost use Rattle.pattern_screens.specs.Following.{fails_after};
 ghost use Rattle.pattern_screens.specs.Keys.{AreNumbers};
-ghost use Rattle.item_pick.specs.Firsts.{IsToldOfFirst};
+ghost use Rattle.item_pick.specs.Firsts.{IsToldOfFirst, rest_asked};
 ghost use Rattle.item_pick.specs.PartsSeen.{rules_in};
 ghost use Rattle.item_pick.specs.Quiet.{IsPassed, IsQuiet, item_numbered};
 ghost use Rattle.item_pick.specs.Runs.{TellsOf};
 ghost use Rattle.item_pick.specs.Screens.{HoldsLine};
 ghost use Rattle.item_pick.specs.Standing.{ChoiceFits, IsFirst, IsItem, IsOwn};
-ghost use Rattle.item_pick.specs.Tables.{IsAnchored, IsMissed, IsNextAt, IsNextIn, IsNumberAt, MemoryStands, RowStands, RunStands, TablesStand};
+ghost use Rattle.item_pick.specs.Tables.{IsAnchored, IsCheapWithin, IsMissed, IsNextAt, IsNextIn, IsNumberAt, MemoryStands, RowStands, RunStands, TablesStand};
 
 use crate::asked::Asked;
 use crate::choice::Choice;
@@ -29,8 +28,8 @@ use crate::syntax::Syntax;
 use crate::tables::{ANY, Row};
 use crate::wandering::wanders;
 use pattern_screens::{
-    are_short, begins_behind, fails_after, fails_at, fails_behind, fails_past_first, number_line,
-    takes_first, two_lines,
+    are_within, begins_behind, fails_after, fails_at, fails_past_first, longest_behind,
+    number_line, rest_fails, takes_first, two_lines,
 };
 use region_ends::{EndAnswer, KeyAnswers, item_of};
 use slots::{Grid, Table};
@@ -53,7 +52,7 @@ pub struct PickMemory {
     outs: KeyAnswers,
     /// Whether attempts by the first start pattern of an item are in vain.
     vains: KeyAnswers,
-    /// Whether they are in vain in short lines, but see the line before.
+    /// Whether what follows the first piece of that pattern is in vain.
     behinds: KeyAnswers,
     /// Whether they are in vain one column before.
     afters: KeyAnswers,
@@ -63,6 +62,10 @@ pub struct PickMemory {
     pub(crate) shut: KeyAnswers,
     /// Whether it has no match but from a line's first column, by the number of the item.
     anchors: Table<bool>,
+    /// Of how many characters a line and the one before may be together, so that attempts by that
+    /// pattern, which begins with a look behind, are within the budget where what follows is in vain,
+    /// by the number of the item.
+    longest: Table<Option<u64>>,
     pub(crate) numbers: Vec<u16>,
     pub(crate) runs: Runs,
 }
@@ -83,6 +86,7 @@ impl PickMemory {
             idles: KeyAnswers::new(alloc),
             shut: KeyAnswers::new(alloc),
             anchors: Table::new(alloc),
+            longest: Table::new(alloc),
             numbers: Vec::new(alloc),
             runs: Runs::new(alloc),
         }
@@ -544,9 +548,35 @@ impl PickMemory {
 }
 
 impl PickMemory {
-    /// Whether attempts by the first start pattern of an item are in vain in short lines, but see the
-    /// line before, at a column whose key has a number. The answer is kept.
-    fn is_vain_seeing_before(
+    /// Of how many characters a line and the one before may be together, so that attempts by the first
+    /// start pattern of an item, which begins with a look behind, are within the budget where what
+    /// follows is in vain. The answer is kept.
+    fn longest_behind(
+        &mut self,
+        asked: &Asked,
+        id: ItemId,
+        pattern: &Pattern,
+    ) -> Result<Option<u64>, Memory>
+        requires first { IsFirst (rules_in asked.now.parts.now asked.now.budget) id pattern.now }
+        requires stands { TablesStand (rules_in asked.now.parts.now asked.now.budget) self.old }
+        ensures stands { TablesStand (rules_in asked.now.parts.now asked.now.budget) self.new }
+        ensures numbers { self.new.numbers ≡ self.old.numbers }
+        ensures runs { self.new.runs ≡ self.old.runs }
+        ensures cheap { IfOk result (λ longest. IfSome longest
+            (IsCheapWithin (rules_in asked.now.parts.now asked.now.budget) id)) }
+    {
+        match self.longest.get(id.0 as usize) {
+            Some(longest) => return Ok(longest),
+            None => {}
+        }
+        let longest = longest_behind(&pattern.tree, asked.budget);
+        self.longest.put(id.0 as usize, longest)?;
+        Ok(longest)
+    }
+
+    /// Whether what follows the first piece of the first start pattern of an item is in vain at a column
+    /// whose key has a number. The answer is kept.
+    fn is_vain_behind(
         &mut self,
         asked: &Asked,
         id: ItemId,
@@ -560,20 +590,14 @@ impl PickMemory {
         ensures numbers { self.new.numbers ≡ self.old.numbers }
         ensures runs { self.new.runs ≡ self.old.runs }
         ensures vain { IfOk result (λ vain. IsTrue vain →
-            IsToldOfFirst fails_behind (rules_in asked.now.parts.now asked.now.budget) number id) }
+            IsToldOfFirst rest_asked (rules_in asked.now.parts.now asked.now.budget) number id) }
     {
         match self.behinds.known(number, id) {
             Some(vain) => return Ok(vain),
             None => {}
         }
         let ignore = item_of(asked.parts.items, id).ignore;
-        let is = fails_behind(
-            &pattern.tree,
-            asked.parts.sets,
-            ignore,
-            number,
-            asked.budget,
-        );
+        let is = rest_fails(&pattern.tree, asked.parts.sets, ignore, number);
         self.behinds.keep(number, id, is)?;
         Ok(is)
     }
@@ -623,12 +647,15 @@ impl Memo<Asked<'_>> for PickMemory {
             let missed = self.is_missed_after(picking.syntax, id, pattern, col)?;
             return Ok(own_line_if(missed, line));
         }
-        if !are_short(picking.lines, line) {
+        let Some(most) = self.longest_behind(picking.syntax, id, pattern)? else {
+            return Ok(None);
+        };
+        if !are_within(picking.lines, line, most) {
             return Ok(None);
         }
         match self.number_at(col) {
             Some(number) => {
-                if self.is_vain_seeing_before(picking.syntax, id, pattern, number)? {
+                if self.is_vain_behind(picking.syntax, id, pattern, number)? {
                     Ok(Some(two_lines(line)))
                 } else {
                     Ok(None)

@@ -86,10 +86,10 @@ look-ends-lined x line true w (Some v) h = none-lined x line
 look-ends-lined x line false w None h = none-lined x line
 look-ends-lined x line false w (Some v) h = reach-lined x line (record v { at = w.at }) h
 
-look-lined : (x : Context) (line m c : ℕ) (negative : Bool) (w : Way) (a : List Mark) → IsIn x line w.at → Lined x line m c a → Lined x line 1 c (look negative w a)
+pub look-lined : (x : Context) (line m c : ℕ) (negative : Bool) (w : Way) (a : List Mark) → IsIn x line w.at → Lined x line m c a → Lined x line 1 c (look negative w a)
 look-lined x line m c negative w a h k = ended-lined x line m c a (look_end negative w (first_way a)) k (look-ends-lined x line negative w (first_way a) h)
 
-whole-lined : (x : Context) (line m c : ℕ) (a : List Mark) → Lined x line m c a → Lined x line 1 c (ticks_first a ++ reach_if (first_way a))
+pub whole-lined : (x : Context) (line m c : ℕ) (a : List Mark) → Lined x line m c a → Lined x line 1 c (ticks_first a ++ reach_if (first_way a))
 whole-lined x line m c a h =
     elim (first_way a) as (λ o. first_way a ≡ o → Lined x line 1 c (ticks_first a ++ reach_if o)) [
       | None ↦ λ f. ended-lined x line m c a [] h (none-lined x line)
@@ -153,7 +153,7 @@ atom-lined x line w (ExternalRef number) e h = absurd (cc)
 -- ---- counts
 
 -- at most so many turns can still take something
-abbrev HasMost : ℕ → Option ℕ → Type 0
+abbrev pub HasMost : ℕ → Option ℕ → Type 0
 HasMost k None = ⊥
 HasMost k (Some most) = most ≤ k
 

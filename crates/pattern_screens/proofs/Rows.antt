@@ -10,12 +10,13 @@ use Rattle.vim_pattern.specs.Tree.{PatternTree}
 use Rattle.vim_pattern.specs.Shape.{Shape, one, seq, or, group, repeat, ahead, before}
 use Rattle.match_rules.specs.Ways.{place}
 use Rattle.match_rules.specs.Attempt.{search, lines_of}
-use Rattle.pattern_screens.specs.Behind.{behind_cost, fails_behind}
+use Rattle.pattern_screens.specs.Behind.{behind_cost, is_cheap_behind}
 use Rattle.pattern_screens.specs.FirstAtoms.{first_cost}
 use Rattle.pattern_screens.specs.Following.{fails_after}
 use Rattle.pattern_screens.specs.Keys.{key_of}
 use Rattle.pattern_screens.specs.Screens.{verdict}
 use Rattle.pattern_screens.specs.Bounds.{most_cost}
+use Rattle.pattern_screens.specs.Rest.{rest_fails}
 use Rattle.pattern_screens.specs.Rooms.{room_of}
 use Rattle.pattern_screens.specs.declared.verdict.Verdict.{Verdict}
 use Rattle.pattern_screens.specs.declared.verdict.Verdict.TheVariants.{Passes, Fails, FailsSeeingBefore}
@@ -89,29 +90,38 @@ pub cut_look_sees_its_line : lines_of (place 1 1) (search (record { text = codes
 unfolding is_same set_has is_member range_holds
 cut_look_sees_its_line = refl
 
--- `\\\@<!"` is tried from 201 columns of two lines, and the quote costs one more: at an `x`, whose key is the
--- 120th, it fails within 403 and not within 402, and at the quote nothing is known
+-- `\\\@<!"` is tried from 202 columns of two lines that have 200 characters together, and the quote costs
+-- one more: it costs 203 at most where the quote fails, as at an `x`, whose key is the 120th, and at the quote
+-- nothing is known
 abbrev unescaped_quote : Shape
 unescaped_quote = seq (before (ch 92) true behind.Any) (ch 34)
 
-pub cost_of_a_look_behind : behind_cost unescaped_quote ≡ Some 402
+pub cost_of_a_look_behind : behind_cost 200 unescaped_quote ≡ Some 202
 cost_of_a_look_behind = refl
 
-pub behind_a_look_within : fails_behind letters 403 false 120 (tree_of unescaped_quote) ≡ true
-unfolding is_same set_has is_member range_holds
-behind_a_look_within = refl
+pub a_look_behind_within : is_cheap_behind 203 200 (tree_of unescaped_quote) ≡ true
+a_look_behind_within = refl
 
-pub behind_a_look_beyond : fails_behind letters 402 false 120 (tree_of unescaped_quote) ≡ false
-unfolding is_same set_has is_member range_holds
-behind_a_look_beyond = refl
+pub a_look_behind_beyond : is_cheap_behind 202 200 (tree_of unescaped_quote) ≡ false
+a_look_behind_beyond = refl
 
-pub behind_a_look_taken : fails_behind letters 403 false 34 (tree_of unescaped_quote) ≡ false
+pub behind_a_look_in_vain : rest_fails letters false 120 (tree_of unescaped_quote) ≡ true
+unfolding is_same set_has is_member range_holds
+behind_a_look_in_vain = refl
+
+pub behind_a_look_taken : rest_fails letters false 34 (tree_of unescaped_quote) ≡ false
 unfolding is_same set_has is_member range_holds
 behind_a_look_taken = refl
 
--- a count without a limit in a short line
-pub room_of_a_count : room_of (repeat (ch 97) 0 None false) ≡ Some (record { ways = 201; cost = 202 })
+-- a count without a limit in a line of 200 characters, a choice, and a count of two turns
+pub room_of_a_count : room_of 200 (repeat (ch 97) 0 None false) ≡ Some (record { ways = 201; cost = 202 })
 room_of_a_count = refl
+
+pub room_of_a_choice : room_of 200 (or (ch 97) (seq (ch 98) (ch 99))) ≡ Some (record { ways = 2; cost = 3 })
+room_of_a_choice = refl
+
+pub room_of_two_turns : room_of 200 (repeat (ch 97) 2 (Some 2) false) ≡ Some (record { ways = 4; cost = 4 })
+room_of_two_turns = refl
 
 -- `ab` before an `x` fails within 4, and before a `b` nothing is known
 pub after_within : fails_after letters 4 false 120 (tree_of (seq (ch 97) (ch 98))) ≡ true

@@ -9,7 +9,7 @@ pub mod ScreenLaw
 pub mod FirstAtoms
 pub mod FirstLaw
 pub mod Failing
-pub mod Short
+pub mod TwoLines
 pub mod Rooms
 pub mod Rest
 pub mod Behind

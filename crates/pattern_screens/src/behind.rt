@@ -1,15 +1,16 @@
 //! Patterns that begin with a look behind without a limit, at columns where what follows it fails.
 ghost use Rattle.std.specs.Prelude.{◌≡◌, Some, IfSome, IsTrue, true};
 ghost use Rattle.vim_pattern.specs.Shape.{bare};
-ghost use Rattle.pattern_screens.specs.Behind.{behind_cost, fails_behind, is_within, limit_cost, piece_cost};
+ghost use Rattle.pattern_screens.specs.Behind.{behind_cost, is_cheap_behind, is_within, limit_cost, piece_cost};
 
 use crate::lined::tries_first;
-use crate::rest::rest_cost;
+use crate::rest::failing_rest_cost;
 use crate::rooms::room_of;
-use crate::short::COLUMNS;
-use char_class::Sets;
 use pattern_items::Behind;
 use vim_pattern::{Node, Tree};
+
+/// How often the length of lines is halved that is too long for a pattern.
+const HALVINGS: u32 = 16;
 
 /// Whether a pattern begins with a look behind.
 pub fn begins_behind(tree: &Tree) -> bool {
@@ -24,15 +25,15 @@ fn is_behind(piece: &Node) -> bool {
     matches!(piece, Node::Before { .. })
 }
 
-/// What a look behind without a limit costs at most, in short lines: its part is tried from each
-/// column of two.
-fn limit_cost(limit: Behind, part: &Node) -> Option<u64>
-    ensures { IfSome result (λ cost. limit_cost limit (bare part.now) ≡ Some cost) }
+/// What a look behind without a limit costs at most, where its line and the one before have so many
+/// characters together: its part is tried from each column of both.
+fn limit_cost(most: u64, limit: Behind, part: &Node) -> Option<u64>
+    ensures { IfSome result (λ cost. limit_cost most limit (bare part.now) ≡ Some cost) }
 {
     match limit {
         Behind::Any => {
             if tries_first(part) {
-                room_of(part)?.cost.checked_mul(2 * COLUMNS)
+                room_of(most, part)?.cost.checked_mul(most.checked_add(2)?)
             } else {
                 None
             }
@@ -42,25 +43,25 @@ fn limit_cost(limit: Behind, part: &Node) -> Option<u64>
 }
 
 /// The same of a piece that may be one.
-fn piece_cost(piece: &Node) -> Option<u64>
-    ensures { IfSome result (λ cost. piece_cost (bare piece.now) ≡ Some cost) }
+fn piece_cost(most: u64, piece: &Node) -> Option<u64>
+    ensures { IfSome result (λ cost. piece_cost most (bare piece.now) ≡ Some cost) }
 {
     match piece {
         Node::Before {
             part,
             not: _,
             limit,
-        } => limit_cost(*limit, part),
+        } => limit_cost(most, *limit, part),
         _ => None,
     }
 }
 
 /// What the look behind costs at most with which a pattern begins.
-fn behind_cost(node: &Node) -> Option<u64>
-    ensures { IfSome result (λ cost. behind_cost (bare node.now) ≡ Some cost) }
+fn behind_cost(most: u64, node: &Node) -> Option<u64>
+    ensures { IfSome result (λ cost. behind_cost most (bare node.now) ≡ Some cost) }
 {
     match node {
-        Node::Seq(first, _) => piece_cost(first),
+        Node::Seq(first, _) => piece_cost(most, first),
         _ => None,
     }
 }
@@ -75,16 +76,30 @@ fn is_within(budget: u64, behind: u64, rest: u64) -> bool
     }
 }
 
-/// Whether an attempt in short lines is known to have no way, to look at its line and the one before
-/// and to cost no more than a budget, at a column whose key has this number.
-pub fn fails_behind(tree: &Tree, sets: &Sets, ignore: bool, number: u16, budget: u64) -> bool
-    ensures { IsTrue result → fails_behind sets.now budget ignore number tree.now ≡ true }
+/// Whether it is in lines of at most so many characters together, where what follows costs so much.
+fn is_cheap(tree: &Tree, budget: u64, most: u64, rest: u64) -> bool
+    ensures { IsTrue result → is_within budget (behind_cost most tree.now.node) rest ≡ true }
 {
-    let Some(behind) = behind_cost(&tree.node) else {
-        return false;
-    };
-    match rest_cost(tree, sets, ignore, number) {
-        Some(rest) => is_within(budget, behind, rest),
+    match behind_cost(most, &tree.node) {
+        Some(behind) => is_within(budget, behind, rest),
         None => false,
     }
+}
+
+/// Of how many characters a line and the one before may be together, so that an attempt of a pattern
+/// that begins with a look behind costs no more than a budget at each column at which what follows the
+/// look fails: a length that is near to the greatest. None where the pattern doesn't begin so, or costs
+/// more even in short lines.
+pub fn longest_behind(tree: &Tree, budget: u64) -> Option<u64>
+    ensures { IfSome result (λ most. is_cheap_behind budget most tree.now ≡ true) }
+{
+    let rest = failing_rest_cost(tree)?;
+    let mut most = budget - budget / 32;
+    for _ in 0..HALVINGS {
+        if is_cheap(tree, budget, most, rest) {
+            return Some(most);
+        }
+        most /= 2;
+    }
+    None
 }

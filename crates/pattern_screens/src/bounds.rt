@@ -143,7 +143,7 @@ pub(crate) fn then_bound(a: Bound, b: Bound) -> Option<Bound>
 }
 
 /// One part or another.
-fn or_bound(a: Bound, b: Bound) -> Option<Bound>
+pub(crate) fn or_bound(a: Bound, b: Bound) -> Option<Bound>
     ensures { IfSome result (λ bound. bound ≡ or_bound a b) }
 {
     Some(Bound {
@@ -275,7 +275,7 @@ fn any_either(one: Bound, node: &Node) -> Option<Bound>
 }
 
 /// What is tried up to the first way.
-fn first_bound(part: Bound) -> Bound
+pub(crate) fn first_bound(part: Bound) -> Bound
     ensures { result ≡ first_bound part }
 {
     Bound {
@@ -296,7 +296,7 @@ fn most_turns(most: Option<u32>) -> u64
 }
 
 /// So many turns that take something, and the stop behind each.
-fn chain(part: Bound, turns: u64) -> Option<Bound>
+pub(crate) fn chain(part: Bound, turns: u64) -> Option<Bound>
     ensures { IfSome result (λ bound. bound ≡ chain_of part turns) }
 {
     let mut all = Bound {

@@ -20,23 +20,24 @@ mod following;
 mod joined;
 mod key;
 mod lined;
+mod near_lines;
 mod parts;
 mod rest;
 mod rooms;
 mod seen;
-mod short;
 mod still;
 mod verdict;
 
 pub use atoms::part_has;
-pub use behind::{begins_behind, fails_behind};
+pub use behind::{begins_behind, longest_behind};
 pub use bounds::failing_cost;
 pub use failing::{fails, fails_at, fails_past_first};
 pub use first::screen_cost;
 pub use following::{fails_after, takes_first};
 pub use key::{KEYS, Key, Last, Next, number_line};
 pub use lined::is_spent;
-pub use short::{are_short, two_lines};
+pub use near_lines::{are_within, two_lines};
+pub use rest::rest_fails;
 pub use verdict::{Verdict, screen};
 
 /// Where the verdict of a screen isn't that it passes, an attempt has no way, its cost is within

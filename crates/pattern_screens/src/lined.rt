@@ -80,7 +80,7 @@ pub(crate) fn is_lined_atom(atom: &Atom) -> bool
 }
 
 /// Whether a count takes few turns at most.
-fn is_few(most: Option<u32>) -> bool
+pub(crate) fn is_few(most: Option<u32>) -> bool
     ensures { result ≡ is_few most }
 {
     match most {

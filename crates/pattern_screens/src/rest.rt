@@ -1,5 +1,5 @@
 //! What follows the first piece of a pattern.
-ghost use Rattle.std.specs.Prelude.{◌≡◌, IfSome, true};
+ghost use Rattle.std.specs.Prelude.{◌≡◌, IfSome, IsTrue, true};
 ghost use Rattle.vim_pattern.specs.Shape.{bare};
 ghost use Rattle.pattern_screens.specs.Bounds.{failing_cost};
 ghost use Rattle.pattern_screens.specs.Rest.{rest_fails, rest_tree, second_of};
@@ -21,22 +21,38 @@ fn second_of(node: &Node) -> Option<&Node>
     }
 }
 
-/// What an attempt at what follows costs at most, where it is known to fail, and to look at its line
-/// alone, at a column whose key has this number.
-pub(crate) fn rest_cost(tree: &Tree, sets: &Sets, ignore: bool, number: u16) -> Option<u64>
-    ensures fails { IfSome result (λ _. rest_fails sets.now ignore number tree.now ≡ true) }
-    ensures cost { IfSome result (λ cost. cost ≡ failing_cost (rest_tree tree.now)) }
+/// What an attempt at what follows costs at most, where it is known to fail.
+pub(crate) fn failing_rest_cost(tree: &Tree) -> Option<u64>
+    ensures { IfSome result (λ cost. cost ≡ failing_cost (rest_tree tree.now)) }
+{
+    most_cost(second_of(&tree.node)?)
+}
+
+/// Whether an attempt at what follows is known to have no way, and to look at its line alone, at a
+/// column whose key has this number.
+pub fn rest_fails(tree: &Tree, sets: &Sets, ignore: bool, number: u16) -> bool
+    ensures { IsTrue result → rest_fails sets.now ignore number tree.now ≡ true }
 {
     if number >= KEYS {
-        return None;
+        return false;
     }
-    let rest = second_of(&tree.node)?;
+    let Some(rest) = second_of(&tree.node) else {
+        return false;
+    };
     let by = By {
         sets,
         ignore: tree.case.unwrap_or(ignore),
     };
-    if node_verdict(rest, &by, Key::numbered(number)).is_futile() {
-        most_cost(rest)
+    node_verdict(rest, &by, Key::numbered(number)).is_futile()
+}
+
+/// What it costs at most where it fails so.
+pub(crate) fn rest_cost(tree: &Tree, sets: &Sets, ignore: bool, number: u16) -> Option<u64>
+    ensures fails { IfSome result (λ _. rest_fails sets.now ignore number tree.now ≡ true) }
+    ensures cost { IfSome result (λ cost. cost ≡ failing_cost (rest_tree tree.now)) }
+{
+    if rest_fails(tree, sets, ignore, number) {
+        failing_rest_cost(tree)
     } else {
         None
     }

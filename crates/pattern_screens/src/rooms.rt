@@ -1,45 +1,56 @@
-//! How many ways and ticks a part has at most that stays in a short line.
+//! How many ways and ticks a part has at most that stays in a line of so many characters.
 ghost use Rattle.std.specs.Prelude.{◌≡◌, Some, IfSome};
 ghost use Rattle.vim_pattern.specs.Shape.{bare};
 ghost use Rattle.pattern_screens.specs.Rooms.{room_of, turns_room};
 
-use crate::bounds::{Bound, then_bound};
-use crate::lined::is_lined_atom;
-use crate::short::COLUMNS;
+use crate::bounds::{Bound, chain, first_bound, or_bound, then_bound};
+use crate::lined::{is_few, is_lined_atom};
 use vim_pattern::Node;
 
-/// A count by its part: one without a limit that forces one turn at most, or of a part that may be
-/// left out.
-fn turns_room(least: u32, most: Option<u32>, part: Bound) -> Option<Bound>
-    ensures { IfSome result (λ room. turns_room least most part ≡ Some room) }
+/// A count without a limit by its part: one that forces one turn at most.
+fn endless_room(most: u64, least: u32, part: Bound) -> Option<Bound>
+    ensures { IfSome result (λ room. turns_room most least None part ≡ Some room) }
 {
-    match most {
-        None => {
-            if 1 < least || 1 < part.ways {
-                return None;
-            }
-            Some(Bound {
-                ways: COLUMNS,
-                cost: part.cost.checked_mul(COLUMNS + 1)?,
-            })
-        }
-        Some(most) => {
-            if least == 0 && most == 1 {
-                Some(Bound {
-                    ways: part.ways.checked_add(1)?,
-                    cost: part.cost,
-                })
-            } else {
-                None
-            }
-        }
+    if 1 < least || 1 < part.ways {
+        return None;
+    }
+    Some(Bound {
+        ways: most.checked_add(1)?,
+        cost: most.checked_add(2)?.checked_mul(part.cost)?,
+    })
+}
+
+/// Any other count by its part.
+fn limited_room(most: u64, least: u32, turns: u32, part: Bound) -> Option<Bound>
+    ensures { IfSome result (λ room. turns_room most least (Some turns) part ≡ Some room) }
+{
+    if least == 0 && turns == 1 {
+        return Some(Bound {
+            ways: part.ways.checked_add(1)?,
+            cost: part.cost,
+        });
+    }
+    if is_few(Some(turns)) {
+        chain(part, u64::from(turns) + 1)
+    } else {
+        None
     }
 }
 
-/// The bound of a part in a short line; none where it may leave its line, or where it isn't counted
-/// here.
-pub(crate) fn room_of(node: &Node) -> Option<Bound>
-    ensures { IfSome result (λ room. room_of (bare node.now) ≡ Some room) }
+/// A count by its part.
+fn turns_room(most: u64, least: u32, turns: Option<u32>, part: Bound) -> Option<Bound>
+    ensures { IfSome result (λ room. turns_room most least turns part ≡ Some room) }
+{
+    match turns {
+        None => endless_room(most, least, part),
+        Some(turns) => limited_room(most, least, turns, part),
+    }
+}
+
+/// The bound of a part in a line of at most so many characters; none where it may leave its line, or
+/// where it isn't counted here.
+pub(crate) fn room_of(most: u64, node: &Node) -> Option<Bound>
+    ensures { IfSome result (λ room. room_of most (bare node.now) ≡ Some room) }
 {
     match node {
         Node::Empty => Some(Bound { ways: 1, cost: 0 }),
@@ -51,16 +62,26 @@ pub(crate) fn room_of(node: &Node) -> Option<Bound>
             }
         }
         Node::Seq(a, b) => {
-            let first = room_of(a)?;
-            then_bound(first, room_of(b)?)
+            let first = room_of(most, a)?;
+            then_bound(first, room_of(most, b)?)
         }
-        Node::Group(a, _) => room_of(a),
+        Node::Or(a, b) => {
+            let one = room_of(most, a)?;
+            or_bound(one, room_of(most, b)?)
+        }
+        Node::And(a, b) => {
+            let first = first_bound(room_of(most, a)?);
+            then_bound(first, room_of(most, b)?)
+        }
+        Node::Group(a, _) | Node::External(a, _) => room_of(most, a),
         Node::Repeat {
             part,
             least,
-            most,
+            most: turns,
             lazy: _,
-        } => turns_room(*least, *most, room_of(part)?),
-        _ => None,
+        } => turns_room(most, *least, *turns, room_of(most, part)?),
+        Node::Ahead { part, not: _ } => Some(first_bound(room_of(most, part)?)),
+        Node::Before { .. } => None,
+        Node::Whole(a) => Some(first_bound(room_of(most, a)?)),
     }
 }

@@ -8,7 +8,7 @@ pub returns-clause-entered : goal.returns-clause-entered
 returns-clause-entered c budget t l line tables =
     let r = rules_in c.args.parts.now budget in
     IfOk-weaker c.number_line.result _ _ (λ _ keys. record {
-      tables = record { rows = tables.rows; outs = tables.outs; vains = tables.vains; behinds = tables.behinds; afters = tables.afters; idles = tables.idles; shut = tables.shut; anchors = tables.anchors };
+      tables = record { rows = tables.rows; outs = tables.outs; vains = tables.vains; behinds = tables.behinds; afters = tables.afters; idles = tables.idles; shut = tables.shut; anchors = tables.anchors; longest = tables.longest };
       keys = subst (λ (chars : List ℕ). AreNumbers c.args.parts.now.sets.now chars (length chars + 1) c.number_line.new.numbers.items) line keys;
       runs = c.clear.ensures.list r t l;
       ends = c.clear.ensures.ends r t l;

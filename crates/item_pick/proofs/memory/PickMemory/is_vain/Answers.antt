@@ -25,6 +25,7 @@ returns-in_err-keep-clause-stands c =
       idles = c.requires.stands.idles;
       shut = c.requires.stands.shut;
       anchors = c.requires.stands.anchors;
+      longest = c.requires.stands.longest;
     }
 
 pub returns-clause-stands : goal.returns-clause-stands
@@ -40,6 +41,7 @@ returns-clause-stands c =
       idles = c.requires.stands.idles;
       shut = c.requires.stands.shut;
       anchors = c.requires.stands.anchors;
+      longest = c.requires.stands.longest;
     }
 
 pub returns-clause-vain : goal.returns-clause-vain

@@ -26,6 +26,7 @@ returns-in_err-keep-clause-stands c =
       idles = c.requires.stands.idles;
       shut = c.requires.stands.shut;
       anchors = c.requires.stands.anchors;
+      longest = c.requires.stands.longest;
     }
 
 pub returns-in_err-keep-2-clause-stands : goal.returns-in_err-keep-2-clause-stands
@@ -44,6 +45,7 @@ returns-in_err-keep-2-clause-stands c =
           (λ e. idle_told r c.args.id c.args.number c.item_of.result.now.ignore (ap (λ (x : Item). x.ignore) c.item_of.ensures) c.args.pattern.now c.requires.first c.fails_after-is.result c.sits-sits.result c.fails_after-is.ensures c.sits-sits.ensures (both e));
       shut = c.requires.stands.shut;
       anchors = c.requires.stands.anchors;
+      longest = c.requires.stands.longest;
     }
 
 pub returns-clause-stands : goal.returns-clause-stands
@@ -62,6 +64,7 @@ returns-clause-stands c =
           (λ e. idle_told r c.args.id c.args.number c.item_of.result.now.ignore (ap (λ (x : Item). x.ignore) c.item_of.ensures) c.args.pattern.now c.requires.first c.fails_after-is.result c.sits-sits.result c.fails_after-is.ensures c.sits-sits.ensures (both e));
       shut = c.requires.stands.shut;
       anchors = c.requires.stands.anchors;
+      longest = c.requires.stands.longest;
     }
 
 pub returns-clause-vain : goal.returns-clause-vain

@@ -16,4 +16,5 @@ returns-clause-stands c r tables row = record {
   idles = tables.idles;
   shut = tables.shut;
   anchors = tables.anchors;
+  longest = tables.longest;
 }

@@ -19,6 +19,7 @@ returns-in_err-row-in-Some-row_at-clause-stands c = record {
   idles = c.make_whole.ensures.stands.idles;
   shut = c.make_whole.ensures.stands.shut;
   anchors = c.make_whole.ensures.stands.anchors;
+  longest = c.make_whole.ensures.stands.longest;
 }
 
 pub returns-clause-stands : goal.returns-clause-stands
@@ -33,5 +34,6 @@ returns-clause-stands c =
       idles = c.make_whole.ensures.stands.idles;
       shut = c.make_whole.ensures.stands.shut;
       anchors = c.make_whole.ensures.stands.anchors;
+      longest = c.make_whole.ensures.stands.longest;
     })
     c.in_ok-row-in-Some-row_at.ensures.row

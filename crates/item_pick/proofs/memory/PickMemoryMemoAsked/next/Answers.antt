@@ -18,7 +18,7 @@ returns-in_err-keep-clause-stands g c =
     c.run_at-run.ensures.tells.same (c.run_at-run.ensures.stands t l c.requires.stands) (c.in_ok-to.ensures.missed t l c.requires.stands) in
     let kept = still_stands r t l c.args.self.now c.first_open.new.self c.first_open.ensures.stands c.first_open.ensures.numbers c.first_open.ensures.runs c.requires.stands in
     record {
-      tables = record { rows = kept.tables.rows; outs = kept.tables.outs; vains = kept.tables.vains; behinds = kept.tables.behinds; afters = kept.tables.afters; idles = kept.tables.idles; shut = kept.tables.shut; anchors = kept.tables.anchors };
+      tables = record { rows = kept.tables.rows; outs = kept.tables.outs; vains = kept.tables.vains; behinds = kept.tables.behinds; afters = kept.tables.afters; idles = kept.tables.idles; shut = kept.tables.shut; anchors = kept.tables.anchors; longest = kept.tables.longest };
       keys = kept.keys;
       runs = c.keep.ensures.list r t l kept.runs longer;
       ends = subst (λ ends. EndMemoStands r.items r.sets r.budget t l ends) (sym c.keep.ensures.ends) kept.ends;
@@ -37,7 +37,7 @@ returns-clause-stands g c =
     c.run_at-run.ensures.tells.same (c.run_at-run.ensures.stands t l c.requires.stands) (c.in_ok-to.ensures.missed t l c.requires.stands) in
     let kept = still_stands r t l c.args.self.now c.first_open.new.self c.first_open.ensures.stands c.first_open.ensures.numbers c.first_open.ensures.runs c.requires.stands in
     record {
-      tables = record { rows = kept.tables.rows; outs = kept.tables.outs; vains = kept.tables.vains; behinds = kept.tables.behinds; afters = kept.tables.afters; idles = kept.tables.idles; shut = kept.tables.shut; anchors = kept.tables.anchors };
+      tables = record { rows = kept.tables.rows; outs = kept.tables.outs; vains = kept.tables.vains; behinds = kept.tables.behinds; afters = kept.tables.afters; idles = kept.tables.idles; shut = kept.tables.shut; anchors = kept.tables.anchors; longest = kept.tables.longest };
       keys = kept.keys;
       runs = c.keep.ensures.list r t l kept.runs longer;
       ends = subst (λ ends. EndMemoStands r.items r.sets r.budget t l ends) (sym c.keep.ensures.ends) kept.ends;

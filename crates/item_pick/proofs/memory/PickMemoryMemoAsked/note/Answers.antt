@@ -14,7 +14,7 @@ returns g c =
     let run = c.run_at-run.result in
     let first = c.requires.first (omega (arith, c.if-start-ne0.false)) in
     record {
-      tables = record { rows = stands.tables.rows; outs = stands.tables.outs; vains = stands.tables.vains; behinds = stands.tables.behinds; afters = stands.tables.afters; idles = stands.tables.idles; shut = stands.tables.shut; anchors = stands.tables.anchors };
+      tables = record { rows = stands.tables.rows; outs = stands.tables.outs; vains = stands.tables.vains; behinds = stands.tables.behinds; afters = stands.tables.afters; idles = stands.tables.idles; shut = stands.tables.shut; anchors = stands.tables.anchors; longest = stands.tables.longest };
       keys = stands.keys;
       runs = c.keep.ensures.list r t l stands.runs
           (run_and r t l c.args.id c.args.pattern.now first run c.args.col c.args.places.first c.args.places.end

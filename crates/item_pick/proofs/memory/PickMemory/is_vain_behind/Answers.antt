@@ -2,15 +2,14 @@ use Rattle.std.proofs.Common.{◌∙◌, ap}
 use Rattle.std.specs.Prelude.{Some, Bool}
 use Rattle.syntax_set.specs.declared.item.Item.{Item}
 use Rattle.item_pick.specs.PartsSeen.{rules_in}
-use Rattle.pattern_screens.specs.Behind.{fails_behind}
-use Rattle.item_pick.specs.Firsts.{first_asked}
+use Rattle.item_pick.specs.Firsts.{first_asked, rest_asked}
 use Rattle.item_pick.proofs.KeptLaws.{first_by, first_told}
-use Rattle.item_pick.proofs.memory.PickMemory.is_vain_seeing_before.Goals as goal
+use Rattle.item_pick.proofs.memory.PickMemory.is_vain_behind.Goals as goal
 
 pub returns-in-Some-clause-vain : goal.returns-in-Some-clause-vain
 returns-in-Some-clause-vain c e =
     let r = rules_in c.args.asked.now.parts.now c.args.asked.now.budget in
-    first_by fails_behind r c.args.id c.args.number (c.known.ensures (first_asked fails_behind r) c.requires.stands.behinds (c.in-Some.is ∙ ap (λ (b : Bool). Some b) e))
+    first_by rest_asked r c.args.id c.args.number (c.known.ensures (first_asked rest_asked r) c.requires.stands.behinds (c.in-Some.is ∙ ap (λ (b : Bool). Some b) e))
 
 pub returns-in_err-keep-clause-stands : goal.returns-in_err-keep-clause-stands
 returns-in_err-keep-clause-stands c =
@@ -19,12 +18,13 @@ returns-in_err-keep-clause-stands c =
       rows = c.requires.stands.rows;
       outs = c.requires.stands.outs;
       vains = c.requires.stands.vains;
-      behinds = c.keep.ensures (first_asked fails_behind r) c.requires.stands.behinds
-          (first_told fails_behind r c.args.id c.args.number c.item_of.result.now.ignore (ap (λ (x : Item). x.ignore) c.item_of.ensures) c.args.pattern.now c.requires.first c.fails_behind-is.result c.fails_behind-is.ensures);
+      behinds = c.keep.ensures (first_asked rest_asked r) c.requires.stands.behinds
+          (first_told rest_asked r c.args.id c.args.number c.item_of.result.now.ignore (ap (λ (x : Item). x.ignore) c.item_of.ensures) c.args.pattern.now c.requires.first c.rest_fails-is.result c.rest_fails-is.ensures);
       afters = c.requires.stands.afters;
       idles = c.requires.stands.idles;
       shut = c.requires.stands.shut;
       anchors = c.requires.stands.anchors;
+      longest = c.requires.stands.longest;
     }
 
 pub returns-clause-stands : goal.returns-clause-stands
@@ -34,16 +34,17 @@ returns-clause-stands c =
       rows = c.requires.stands.rows;
       outs = c.requires.stands.outs;
       vains = c.requires.stands.vains;
-      behinds = c.keep.ensures (first_asked fails_behind r) c.requires.stands.behinds
-          (first_told fails_behind r c.args.id c.args.number c.item_of.result.now.ignore (ap (λ (x : Item). x.ignore) c.item_of.ensures) c.args.pattern.now c.requires.first c.fails_behind-is.result c.fails_behind-is.ensures);
+      behinds = c.keep.ensures (first_asked rest_asked r) c.requires.stands.behinds
+          (first_told rest_asked r c.args.id c.args.number c.item_of.result.now.ignore (ap (λ (x : Item). x.ignore) c.item_of.ensures) c.args.pattern.now c.requires.first c.rest_fails-is.result c.rest_fails-is.ensures);
       afters = c.requires.stands.afters;
       idles = c.requires.stands.idles;
       shut = c.requires.stands.shut;
       anchors = c.requires.stands.anchors;
+      longest = c.requires.stands.longest;
     }
 
 pub returns-clause-vain : goal.returns-clause-vain
 returns-clause-vain c e =
     let r = rules_in c.args.asked.now.parts.now c.args.asked.now.budget in
-    first_by fails_behind r c.args.id c.args.number
-    (first_told fails_behind r c.args.id c.args.number c.item_of.result.now.ignore (ap (λ (x : Item). x.ignore) c.item_of.ensures) c.args.pattern.now c.requires.first c.fails_behind-is.result c.fails_behind-is.ensures e)
+    first_by rest_asked r c.args.id c.args.number
+    (first_told rest_asked r c.args.id c.args.number c.item_of.result.now.ignore (ap (λ (x : Item). x.ignore) c.item_of.ensures) c.args.pattern.now c.requires.first c.rest_fails-is.result c.rest_fails-is.ensures e)
