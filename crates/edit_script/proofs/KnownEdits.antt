@@ -1,6 +1,7 @@
 -- Commands, and what they do to texts.
-use Rattle.std.proofs.Common.{◌≡◌, ℕ, List, [], ◌∷◌, refl}
+use Rattle.std.proofs.Common.{◌≡◌, ◌≤◌, ℕ, List, [], ◌∷◌, refl, arith}
 use Rattle.std.specs.Prelude.{codes, Option, Some, None, Result, Ok, Err}
+use Rattle.std.proofs.lemmas.Bool.Decides.{nat_tests}
 use Rattle.edit_script.specs.declared.commands.EditCommand.{EditCommand}
 use Rattle.edit_script.specs.declared.commands.Last.{Last}
 use Rattle.edit_script.specs.declared.commands.Last.TheVariants.{Number, End}
@@ -8,7 +9,7 @@ use Rattle.edit_script.specs.declared.commands.Resolved.TheVariants as does
 use Rattle.edit_script.specs.declared.commands.ResolveError.{ResolveError}
 use Rattle.edit_script.specs.declared.commands.ResolveError.TheVariants.{NoLine, Backwards, MoveIntoSelf, TooManyLines}
 use Rattle.edit_script.specs.declared.commands.Verb.{Verb}
-use Rattle.edit_script.specs.declared.commands.Verb.TheVariants.{Append, Insert, Change, Delete, Move, CopyTo, Print, Page}
+use Rattle.edit_script.specs.declared.commands.Verb.TheVariants.{Append, Insert, Change, Delete, Move, CopyTo, Print, Page, Folds}
 use Rattle.edit_script.specs.Edits.{Replacement, edit_of, replaced, resolved_of}
 
 abbrev of : Last → Last → Verb → EditCommand
@@ -75,6 +76,10 @@ all_lines = refl
 a_page : resolved_of (of End End Page) 1 ≡ Ok does.Page
 a_page = refl
 
+-- of each text the folds are told
+folds : (count : ℕ) → 1 ≤ count → resolved_of (of End End Folds) count ≡ Ok does.Folds
+folds count some = grind (arith, nat_tests)
+
 lines_printed : resolved_of (of (Number 2) End Print) 3 ≡ Ok (does.Print 1 3)
 lines_printed = refl
 
@@ -137,6 +142,9 @@ copied = refl
 
 printed : edit_of three (of (Number 1) (Number 2) Print) ≡ Ok None
 printed = refl
+
+folded : edit_of three (of End End Folds) ≡ Ok None
+folded = refl
 
 swapped : replaced three (record { a = 1; b = 3; new = c ∷ b ∷ [] }) ≡ a ∷ c ∷ b ∷ []
 swapped = refl

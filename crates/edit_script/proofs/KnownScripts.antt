@@ -9,7 +9,7 @@ use Rattle.edit_script.specs.declared.commands.Last.TheVariants.{Number, End}
 use Rattle.edit_script.specs.declared.commands.ScriptFault.{ScriptFault}
 use Rattle.edit_script.specs.declared.commands.ScriptFault.TheVariants.{BadCommand, BadAddress, UnfinishedText, BadUtf8}
 use Rattle.edit_script.specs.declared.commands.Verb.{Verb}
-use Rattle.edit_script.specs.declared.commands.Verb.TheVariants.{Append, Insert, Change, Delete, Move, CopyTo, Print, Page}
+use Rattle.edit_script.specs.declared.commands.Verb.TheVariants.{Append, Insert, Change, Delete, Move, CopyTo, Print, Page, Folds}
 use Rattle.edit_script.specs.Entries.{broken, entries_at_end, entries_of, kept_of}
 
 -- all entries of a script with these lines
@@ -49,6 +49,11 @@ a_copy_and_a_page : all (codes "1t0" ∷ codes "H" ∷ codes "%p" ∷ [])
     ≡ told 0 (Number 1) (Number 1) (CopyTo (Number 0)) [] ∷ told 1 End End Page [] ∷ told 2 (Number 1) End Print [] ∷ []
 unfolding chars encode is_utf8
 a_copy_and_a_page = refl
+
+-- the folds are told of the whole text, and take no text of their own
+folds : all (codes "F" ∷ codes "1p" ∷ []) ≡ told 0 End End Folds [] ∷ told 1 (Number 1) (Number 1) Print [] ∷ []
+unfolding chars encode is_utf8
+folds = refl
 
 the_last_line : all (codes "$i" ∷ codes "x" ∷ codes "." ∷ codes "1,$t$" ∷ [])
     ≡ told 0 End End Insert (codes "x" ∷ []) ∷ told 3 (Number 1) End (CopyTo End) [] ∷ []
@@ -98,6 +103,11 @@ no_destination : all (codes "1m" ∷ codes "1t%" ∷ codes "1m2,3" ∷ codes "HH
     ≡ refused 0 BadCommand ∷ refused 1 BadCommand ∷ refused 2 BadCommand ∷ refused 3 BadCommand ∷ refused 4 BadCommand ∷ []
 unfolding chars encode is_utf8
 no_destination = refl
+
+no_folds_of_a_range : all (codes "1F" ∷ codes "%F" ∷ codes "F " ∷ codes "FF" ∷ codes "F1" ∷ codes "f" ∷ [])
+    ≡ refused 0 BadCommand ∷ refused 1 BadCommand ∷ refused 2 BadCommand ∷ refused 3 BadCommand ∷ refused 4 BadCommand ∷ refused 5 BadCommand ∷ []
+unfolding chars encode is_utf8
+no_folds_of_a_range = refl
 
 -- what is no command takes no text
 no_command_no_text : all (codes "1,2a" ∷ codes "1d" ∷ codes "." ∷ [])

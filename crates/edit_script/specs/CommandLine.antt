@@ -1,4 +1,4 @@
--- The line of a command: `H`, or a range, the letter of a verb and for `m` and `t` one address
+-- The line of a command: `H`, `F`, or a range, the letter of a verb and for `m` and `t` one address
 -- more, with nothing behind. Before `a` and `i` stands one address. The form is asked for first,
 -- with addresses of any number of digits.
 use Rattle.std.specs.Prelude.{ℕ, ◌==◌, nat_lt, not, Bool, true, false, List, [], ◌∷◌, length, codes, Option, Some, None, Result, Ok, Err, option_map, if◌then◌else◌}
@@ -69,13 +69,16 @@ abbrev pub with_range : Option (Range × List ℕ) → Option Head
 with_range None = None
 with_range (Some found) = verb_behind found.0 found.1
 
--- `H` has the last line as its range
-abbrev pub page_head : Head
-page_head = record { takes_text = false; order = order_of (Some End) (Some End) (Some does.Page) }
+-- a verb that is the whole line has the last line as its range
+abbrev pub alone : Verb → Head
+alone verb = record { takes_text = false; order = order_of (Some End) (Some End) (Some verb) }
 
 -- what the characters of a line say, if they are the line of a command
 abbrev pub head_of : List ℕ → Option Head
-head_of text = if bytes_eq text (codes "H") then Some page_head else with_range (range_at text)
+head_of text =
+    if bytes_eq text (codes "H") then Some (alone does.Page)
+    else if bytes_eq text (codes "F") then Some (alone does.Folds)
+    else with_range (range_at text)
 
 abbrev pub head_or_bad : Option Head → Result Head ScriptFault
 head_or_bad None = Err BadCommand

@@ -10,7 +10,7 @@ pub enum Last {
 }
 
 /// What a command does (`:append`, `:insert`, `:change`, `:delete`, `:move`, `:copy`). In a script
-/// these are `a`, `i`, `c`, `d`, `m`, `t`, `p` and `H`.
+/// these are `a`, `i`, `c`, `d`, `m`, `t`, `p`, `H` and `F`.
 #[derive(Drop)]
 pub enum Verb {
     /// Puts the text behind the line.
@@ -28,12 +28,15 @@ pub enum Verb {
     Print,
     /// Prints the page.
     Page,
+    /// Prints the folds of the text (`:syn-fold`).
+    Folds,
 }
 
 /// A command of a script.
 #[derive(Drop)]
 pub struct EditCommand {
-    /// The first line. A command with one address has it as `first` and `last`; `Page` has `End`.
+    /// The first line. A command with one address has it as `first` and `last`; `Page` and `Folds`
+    /// have `End`.
     pub first: Last,
     pub last: Last,
     pub verb: Verb,
@@ -76,6 +79,7 @@ pub enum Resolved {
     CopyTo { a: usize, b: usize, dest: usize },
     Print { a: usize, b: usize },
     Page,
+    Folds,
 }
 
 /// Why a command can't be carried out on a text of so many lines. Of several that meet the first is

@@ -104,17 +104,26 @@ fn verb_behind(range: Range, text: &[char]) -> Option<Head>
     }
 }
 
+/// A verb that is the whole line.
+fn alone(verb: Verb) -> Head
+    ensures { result ≡ spec.alone verb }
+{
+    Head {
+        takes_text: false,
+        order: order_of(Some(Last::End), Some(Last::End), Some(verb)),
+    }
+}
+
 /// What the characters of a line say, if they are the line of a command.
 pub(crate) fn head_of(text: &[char]) -> Option<Head>
     ensures { result ≡ spec.head_of text.now }
 {
-    if let ['H'] = text {
-        let order = order_of(Some(Last::End), Some(Last::End), Some(Verb::Page));
-        return Some(Head {
-            takes_text: false,
-            order,
-        });
+    match text {
+        ['H'] => Some(alone(Verb::Page)),
+        ['F'] => Some(alone(Verb::Folds)),
+        _ => {
+            let (range, rest) = range_at(text)?;
+            verb_behind(range, rest)
+        }
     }
-    let (range, rest) = range_at(text)?;
-    verb_behind(range, rest)
 }

@@ -6,7 +6,7 @@ use Rattle.edit_script.specs.declared.commands.EditCommand.{EditCommand}
 use Rattle.edit_script.specs.declared.commands.Entry.{Entry}
 use Rattle.edit_script.specs.declared.commands.ResolveError.{ResolveError}
 use Rattle.edit_script.specs.declared.commands.Resolved.{Resolved}
-use Rattle.edit_script.specs.declared.commands.Resolved.TheVariants.{Replace, Move, CopyTo, Print, Page}
+use Rattle.edit_script.specs.declared.commands.Resolved.TheVariants.{Replace, Move, CopyTo, Print, Page, Folds}
 use Rattle.edit_script.specs.declared.commands.ScriptFault.{ScriptFault}
 use Rattle.edit_script.specs.Edits.{Replacement, moved, put_in_place, replaced, replacement_or_cause, resolved_of}
 use Rattle.edit_session.specs.Laws.{AreCarriedOut, GoesThrough, IsCarriedOut}
@@ -25,6 +25,7 @@ obeyed_well p s line lines (Ok (Move a b dest)) is =
 obeyed_well p s line lines (Ok (CopyTo a b dest)) is = painted_well p s line _ _ is
 obeyed_well p s line lines (Ok (Print a b)) is = refl
 obeyed_well p s line lines (Ok Page) is = refl
+obeyed_well p s line lines (Ok Folds) is = refl
 obeyed_well p s line lines (Err misfit) is = absurd is
 
 answered_well : (p : Painter) (s : Standing) (line : ℕ) (what : Result EditCommand ScriptFault) → IsCarriedOut p s.painted.text what → (answers p s line what).stands.refused ≡ s.refused

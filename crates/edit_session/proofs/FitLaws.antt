@@ -6,7 +6,7 @@ use Rattle.std.proofs.lemmas.Bool.Decides.{nat_tests}
 use Rattle.text_buffer.specs.TextOfBytes.{most_lines}
 use Rattle.edit_script.specs.declared.commands.Last.{Last}
 use Rattle.edit_script.specs.declared.commands.Verb.{Verb}
-use Rattle.edit_script.specs.declared.commands.Verb.TheVariants.{Append, Insert, Change, Delete, Move, CopyTo, Print, Page}
+use Rattle.edit_script.specs.declared.commands.Verb.TheVariants.{Append, Insert, Change, Delete, Move, CopyTo, Print, Page, Folds}
 use Rattle.edit_script.specs.declared.commands.EditCommand.{EditCommand}
 use Rattle.edit_script.specs.declared.commands.Resolved.{Resolved}
 use Rattle.edit_script.specs.declared.commands.ResolveError.{ResolveError}
@@ -46,6 +46,7 @@ fits_does (CopyTo to) first last count new in_first in_last dest ordered few =
     (omega arith, in_last, (within_of 0 to count dest).1, few_of _ few)
 fits_does Print first last count new in_first in_last dest ordered few = (omega arith, in_last)
 fits_does Page first last count new in_first in_last dest ordered few = tt
+fits_does Folds first last count new in_first in_last dest ordered few = tt
 
 pub fits_of : (command : EditCommand) (count : ℕ) (resolved : Resolved) → resolved_of command count ≡ Ok resolved → FitsText count (length command.lines) resolved
 fits_of command count resolved is =

@@ -20,6 +20,7 @@ painter = record {
   costs = λ text r. length (replaced text r);
   line = λ number spans. [];
   page = λ text spans. [];
+  folds = λ text. [];
 }
 
 abbrev one_line : Painted
@@ -39,6 +40,6 @@ unfolding chars encode is_utf8
 behind_refusal = refl
 
 -- what fits no text or is no command, and what only prints, counts nothing
-nothing_painted : costs_of (codes "9d\n2,1d\nq\n1p\nH\n$a\n") ≡ 0
+nothing_painted : costs_of (codes "9d\n2,1d\nq\n1p\nH\nF\n$a\n") ≡ 0
 unfolding chars encode is_utf8
 nothing_painted = refl

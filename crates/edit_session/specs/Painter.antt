@@ -18,6 +18,8 @@ pub record Painter : Type 0 where
   pub line : ℕ → List Span → List ℕ
   -- the page of a painted text
   pub page : List (List ℕ) → List (List Span) → List ℕ
+  -- the folds of a text, painted from its first line on, a line for each
+  pub folds : List (List ℕ) → List ℕ
 
 -- the lines that are told of a replacement
 abbrev pub told_lines : Painter → List (List Span) → List (List Span) → Replacement → List ℕ

@@ -8,7 +8,7 @@ use Rattle.edit_script.specs.declared.commands.EditCommand.{EditCommand}
 use Rattle.edit_script.specs.declared.commands.Entry.{Entry}
 use Rattle.edit_script.specs.declared.commands.ResolveError.{ResolveError}
 use Rattle.edit_script.specs.declared.commands.Resolved.{Resolved}
-use Rattle.edit_script.specs.declared.commands.Resolved.TheVariants.{Replace, Move, CopyTo, Print, Page}
+use Rattle.edit_script.specs.declared.commands.Resolved.TheVariants.{Replace, Move, CopyTo, Print, Page, Folds}
 use Rattle.edit_script.specs.declared.commands.ScriptFault.{ScriptFault}
 use Rattle.edit_script.specs.Edits.{Replacement, edit_of, moved, put_in_place, replaced, resolved_of}
 use Rattle.edit_script.specs.Entries.{entries_at_end, entries_of}
@@ -67,6 +67,7 @@ carries_out p s line lines (Move a b dest) = edits p s line (moved s.painted.tex
 carries_out p s line lines (CopyTo a b dest) = edits p s line (record { a = dest; b = dest; new = slice_range s.painted.text a b })
 carries_out p s line lines (Print a b) = prints s s.painted (lines_text p s.painted.spans (range_with_len a (b - a)))
 carries_out p s line lines Page = prints s s.painted (p.page s.painted.text s.painted.spans)
+carries_out p s line lines Folds = prints s s.painted (p.folds s.painted.text)
 
 -- where it doesn't fit, it is refused
 abbrev pub obeys : Painter → Standing → ℕ → List (List ℕ) → Result Resolved ResolveError → Answer

@@ -9,7 +9,7 @@ use Rattle.edit_session.specs.declared.reading.End.TheVariants.{Done, Refused, T
 use Rattle.text_buffer.specs.TextOfBytes.{most_lines}
 use Rattle.edit_script.specs.declared.commands.Entry.{Entry}
 use Rattle.edit_script.specs.declared.commands.Resolved.{Resolved}
-use Rattle.edit_script.specs.declared.commands.Resolved.TheVariants.{Replace, Move, CopyTo, Print, Page}
+use Rattle.edit_script.specs.declared.commands.Resolved.TheVariants.{Replace, Move, CopyTo, Print, Page, Folds}
 use Rattle.edit_script.specs.Entries.{entries_of, kept_of}
 use Rattle.edit_script.specs.Kept.{Kept}
 use Rattle.edit_session.specs.Ends.{FailsBehind, ReadsOver, ReadsToEnd, SinkChange, SourceChange, Takes, TakesFew}
@@ -31,6 +31,7 @@ FitsText count new (Move a b dest) = (a ≤ b) × (b ≤ count) × (dest ≤ cou
 FitsText count new (CopyTo a b dest) = (a ≤ b) × (b ≤ count) × (dest ≤ count) × (count + (b - a) ≤ most_lines)
 FitsText count new (Print a b) = (a ≤ b) × (b ≤ count)
 FitsText count new Page = ⊤
+FitsText count new Folds = ⊤
 
 -- the text is that of the answer, and so is what stands now; or memory ran out
 abbrev pub GivesAnswer : {E : Type 0} → Result (List ℕ) E → Standing → Answer → Type 0

@@ -158,6 +158,7 @@ impl<D: Document + Drop> Commands<D> {
             }
             Resolved::Print { a, b } => self.print_range(alloc, a, b),
             Resolved::Page => self.print_page(alloc),
+            Resolved::Folds => self.print_folds(alloc),
         }
     }
 
@@ -241,6 +242,19 @@ impl<D: Document + Drop> Commands<D> {
         let mut out = self.head(alloc)?;
         let page = self.document.page(alloc)?;
         push_bytes(&mut out, page.as_slice())?;
+        Ok(List::from_vec(out))
+    }
+
+    /// The head of a command, and the folds.
+    fn print_folds(&mut self, alloc: Global) -> Result<List<u8>, Memory>
+        ensures document { self.new.document ≡ self.old.document }
+        ensures answer { GivesAnswer result (standing D.lines D.shown self.new)
+            (prints (standing D.lines D.shown self.old) (standing D.lines D.shown self.old).painted
+            ((D.painter self.old.document).folds (D.lines self.old.document))) }
+    {
+        let mut out = self.head(alloc)?;
+        let folds = self.document.folds(alloc)?;
+        push_bytes(&mut out, folds.as_slice())?;
         Ok(List::from_vec(out))
     }
 

@@ -36,6 +36,10 @@ pub trait Document: Lines {
         ensures { IfOk result (λ bytes.
             bytes ≡ (painter self.now).page (Self.lines self.now) (shown self.now)) };
 
+    /// The folds of the text, a line for each.
+    fn folds(&self, alloc: Global) -> Result<List<u8>, Memory>
+        ensures { IfOk result (λ bytes. bytes ≡ (painter self.now).folds (Self.lines self.now)) };
+
     /// Replaces the lines and paints the text, and answers the lines to tell, least first. On
     /// each refusal all is as it was.
     fn edit<L: Ledger>(
