@@ -4,7 +4,7 @@ _vimsyn() {
   local word=${COMP_WORDS[COMP_CWORD]} before=${COMP_WORDS[COMP_CWORD - 1]}
   COMPREPLY=()
   if ((COMP_CWORD == 1)); then
-    mapfile -t COMPREPLY < <(compgen -W 'check spans html edit large' -- "$word")
+    mapfile -t COMPREPLY < <(compgen -W 'check spans html edit large folds' -- "$word")
     return
   fi
   # bash cuts words at '=', so a value may be a word of its own
@@ -18,13 +18,14 @@ _vimsyn() {
     mapfile -t COMPREPLY < <(compgen -d -- "$word")
     return
   fi
-  if [[ $before == --budget= ]]; then
+  if [[ $before == --budget= || $before == --close= ]]; then
     return
   fi
   local options='' most=2
   case ${COMP_WORDS[1]} in
     check) options='--assume-fromstart --folder=' most=1 ;;
     spans) options='--assume-fromstart --folder= --budget=' ;;
+    folds) options='--assume-fromstart --folder= --budget= --close=' ;;
     html | edit) options='--assume-fromstart --folder= --budget= --number --no-pre' ;;
     large) options='--budget=' most=0 ;;
     *) return ;;

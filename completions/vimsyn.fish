@@ -44,12 +44,14 @@ complete -c vimsyn -n __fish_use_subcommand -a spans -d 'Print the coloured span
 complete -c vimsyn -n __fish_use_subcommand -a html -d 'Print a text as a page'
 complete -c vimsyn -n __fish_use_subcommand -a edit -d 'Carry out a script of edits on a text'
 complete -c vimsyn -n __fish_use_subcommand -a large -d 'Make a text, edit it and count, for measuring'
+complete -c vimsyn -n __fish_use_subcommand -a folds -d 'Print the folds of a text, or the text with folds closed'
 
 complete -c vimsyn -n '__vimsyn_lacks_names 1 check' -F
-complete -c vimsyn -n '__vimsyn_lacks_names 2 spans html edit' -F
+complete -c vimsyn -n '__vimsyn_lacks_names 2 spans html edit folds' -F
 
-complete -c vimsyn -n '__vimsyn_takes --assume-fromstart check spans html edit' -a --assume-fromstart -d 'Pass over sync methods'
-complete -c vimsyn -n '__vimsyn_takes --folder= check spans html edit' -a '(__vimsyn_folders)'
-complete -c vimsyn -n '__vimsyn_takes --budget= spans html edit large' -a '--budget=' -d 'The most work of one attempt to match'
+complete -c vimsyn -n '__vimsyn_takes --assume-fromstart check spans html edit folds' -a --assume-fromstart -d 'Pass over sync methods'
+complete -c vimsyn -n '__vimsyn_takes --folder= check spans html edit folds' -a '(__vimsyn_folders)'
+complete -c vimsyn -n '__vimsyn_takes --budget= spans html edit large folds' -a '--budget=' -d 'The most work of one attempt to match'
+complete -c vimsyn -n '__vimsyn_takes --close= folds' -a '--close=' -d 'Close folds above a level'
 complete -c vimsyn -n '__vimsyn_takes --number html edit' -a --number -d 'Number the lines'
 complete -c vimsyn -n '__vimsyn_takes --no-pre html edit' -a --no-pre -d 'A page without <pre>'

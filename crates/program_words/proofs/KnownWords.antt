@@ -2,9 +2,9 @@
 use Rattle.std.proofs.Common.{◌≡◌, ℕ, Bool, List, true, false, [], ◌∷◌, refl}
 use Rattle.std.specs.Prelude.{codes, Some, None}
 use Rattle.program_words.specs.declared.words.Asked.TheVariants.{Edit, Large, Print}
-use Rattle.program_words.specs.declared.words.Printing.TheVariants.{Check, Html, Spans}
+use Rattle.program_words.specs.declared.words.Printing.TheVariants.{Check, Folds, Html, Spans}
 use Rattle.program_words.specs.Given.{CheckWords, LargeWords, PaintWords}
-use Rattle.program_words.specs.Words.{asked_of, budget_of, lines_of, seed_of}
+use Rattle.program_words.specs.Words.{asked_of, budget_of, close_of, lines_of, seed_of}
 
 abbrev checked : List ℕ → List ℕ → Bool → CheckWords
 checked syntax folder fromstart = record { syntax = syntax; folder = folder; assume_fromstart = fromstart }
@@ -125,3 +125,34 @@ a_large_folder = refl
 
 a_large_sync : asked_of (codes "large" ∷ codes "--assume-fromstart" ∷ codes "7" ∷ codes "2000" ∷ []) ≡ None
 a_large_sync = refl
+
+-- folds, and where they are closed
+listed_folds : asked_of (codes "folds" ∷ codes "--budget=3" ∷ codes "s" ∷ codes "t" ∷ []) ≡ Some (Print (Folds (record { painting = painted plain (codes "t") 3; close = None })))
+listed_folds = refl
+
+closed_folds : asked_of (codes "folds" ∷ codes "--close=0" ∷ codes "s" ∷ codes "t" ∷ []) ≡ Some (Print (Folds (record { painting = painted plain (codes "t") 1000000; close = Some 0 })))
+closed_folds = refl
+
+the_greatest_close : close_of (codes "20") ≡ Some 20
+the_greatest_close = refl
+
+a_close_more : close_of (codes "21") ≡ None
+a_close_more = refl
+
+a_close_with_a_zero : close_of (codes "01") ≡ None
+a_close_with_a_zero = refl
+
+no_close : asked_of (codes "folds" ∷ codes "--close=" ∷ codes "s" ∷ codes "t" ∷ []) ≡ None
+no_close = refl
+
+closed_twice : asked_of (codes "folds" ∷ codes "--close=1" ∷ codes "--close=1" ∷ codes "s" ∷ codes "t" ∷ []) ≡ None
+closed_twice = refl
+
+numbered_folds : asked_of (codes "folds" ∷ codes "--number" ∷ codes "s" ∷ codes "t" ∷ []) ≡ None
+numbered_folds = refl
+
+closed_spans : asked_of (codes "spans" ∷ codes "--close=1" ∷ codes "s" ∷ codes "t" ∷ []) ≡ None
+closed_spans = refl
+
+a_closed_page : asked_of (codes "html" ∷ codes "--close=1" ∷ codes "s" ∷ codes "t" ∷ []) ≡ None
+a_closed_page = refl

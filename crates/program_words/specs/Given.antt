@@ -13,9 +13,11 @@ pub record Options : Type 0 where
   pub number : Bool
   -- the page has no `<pre>` element
   pub no_pre : Bool
+  -- the level above which folds are closed
+  pub close : Option ℕ
 
 abbrev pub no_options : Options
-no_options = record { fromstart = false; folder = None; budget = None; number = false; no_pre = false }
+no_options = record { fromstart = false; folder = None; budget = None; number = false; no_pre = false; close = None }
 
 -- the syntax file, the folder in which included files are looked for, and whether sync methods other
 -- than `fromstart` are passed over
@@ -35,6 +37,11 @@ pub record PageWords : Type 0 where
   pub painting : PaintWords
   pub number : Bool
   pub pre : Bool
+
+-- what is painted, and the level above which folds are closed, if they are to be
+pub record FoldWords : Type 0 where
+  pub painting : PaintWords
+  pub close : Option ℕ
 
 -- the large mode: the seed of its draws, how many lines its text has at the start, and the most ticks of
 -- one attempt

@@ -9,8 +9,8 @@ use Rattle.std.specs.String.{string_bytes}
 use Rattle.program_words.specs.declared.words.Asked.{Asked}
 use Rattle.program_words.specs.declared.words.Asked.TheVariants.{Edit, Large, Print}
 use Rattle.program_words.specs.declared.words.Printing.{Printing}
-use Rattle.program_words.specs.declared.words.Printing.TheVariants.{Check, Html, Spans}
-use Rattle.program_words.specs.Given.{CheckWords, LargeWords, Options, PageWords, PaintWords, no_options}
+use Rattle.program_words.specs.declared.words.Printing.TheVariants.{Check, Folds, Html, Spans}
+use Rattle.program_words.specs.Given.{CheckWords, FoldWords, LargeWords, Options, PageWords, PaintWords, no_options}
 
 -- the bytes of the words
 abbrev pub texts_of : {Z : Type 0} → List (String Z) → List (List ℕ)
@@ -65,6 +65,10 @@ folder_in word = if starts_with nat_eq word (codes "--folder=") then not_empty (
 abbrev pub budget_value : List ℕ → Option (List ℕ)
 budget_value word = if starts_with nat_eq word (codes "--budget=") then Some (drop 9 word) else None
 
+-- and that of the folds' option
+abbrev pub close_value : List ℕ → Option (List ℕ)
+close_value word = if starts_with nat_eq word (codes "--close=") then Some (drop 8 word) else None
+
 -- 0 to 9 are the bytes 48 to 57
 abbrev pub is_digit : ℕ → Bool
 is_digit byte = nat_le 48 byte && nat_le byte 57
@@ -92,17 +96,25 @@ positive_of most [] = None
 positive_of most (byte ∷ bytes) =
     if byte == 48 then None else at_least_one (number_after most (Some 0) (byte ∷ bytes))
 
+-- a number from 0 to the greatest one
+abbrev pub natural_of : ℕ → List ℕ → Option ℕ
+natural_of most bytes = if bytes_eq bytes (codes "0") then Some 0 else positive_of most bytes
+
 -- a budget: 1 to 1,000,000,000
 abbrev pub budget_of : List ℕ → Option ℕ
 budget_of bytes = positive_of 1000000000 bytes
 
 -- a seed: 0 to 4,294,967,295
 abbrev pub seed_of : List ℕ → Option ℕ
-seed_of bytes = if bytes_eq bytes (codes "0") then Some 0 else positive_of 4294967295 bytes
+seed_of bytes = natural_of 4294967295 bytes
 
 -- a number of lines: 1 to 100,000
 abbrev pub lines_of : List ℕ → Option ℕ
 lines_of bytes = positive_of 100000 bytes
+
+-- a level above which folds are closed: 0 to 20
+abbrev pub close_of : List ℕ → Option ℕ
+close_of bytes = natural_of 20 bytes
 
 -- ---- all options
 
@@ -120,8 +132,17 @@ with_budget options None = None
 with_budget options (Some budget) =
     if is_some options.budget then None else Some (record options { budget = Some budget })
 
+abbrev pub with_close : Options → Option ℕ → Option Options
+with_close options None = None
+with_close options (Some level) =
+    if is_some options.close then None else Some (record options { close = Some level })
+
+abbrev pub with_close_or_folder : Options → List ℕ → Option (List ℕ) → Option Options
+with_close_or_folder options word None = with_folder options (folder_in word)
+with_close_or_folder options word (Some value) = with_close options (close_of value)
+
 abbrev pub with_value : Options → List ℕ → Option (List ℕ) → Option Options
-with_value options word None = with_folder options (folder_in word)
+with_value options word None = with_close_or_folder options word (close_value word)
 with_value options word (Some value) = with_budget options (budget_of value)
 
 -- options with this word, unless it is none or stands already
@@ -147,16 +168,22 @@ options_said words = with_options (Some no_options) words
 
 -- ---- commands
 
--- those that `check` has, those that `spans` has, and the one that `large` has; `html` and `edit` have
--- them all
+-- those that `folds` has, `spans`, `check` and `large`
+abbrev pub are_for_folds : Options → Bool
+are_for_folds options = not options.number && not options.no_pre
+
 abbrev pub are_for_spans : Options → Bool
-are_for_spans options = not options.number && not options.no_pre
+are_for_spans options = are_for_folds options && is_none options.close
 
 abbrev pub are_for_check : Options → Bool
 are_for_check options = are_for_spans options && is_none options.budget
 
 abbrev pub are_for_large : Options → Bool
 are_for_large options = are_for_spans options && not options.fromstart && is_none options.folder
+
+-- `html` and `edit` have all but one
+abbrev pub are_for_html : Options → Bool
+are_for_html options = is_none options.close
 
 -- the folder is the one where the program runs unless one is named
 abbrev pub syntax_words : Options → List ℕ → CheckWords
@@ -180,6 +207,9 @@ page_words options syntax text = record {
   number = options.number;
   pre = not options.no_pre;
 }
+
+abbrev pub fold_words : Options → List ℕ → List ℕ → FoldWords
+fold_words options syntax text = record { painting = paint_words options syntax text; close = options.close }
 
 -- exactly one name, or two
 abbrev pub one_name : Option (List (List ℕ)) → Option (List ℕ)
@@ -206,7 +236,14 @@ spans_of (Some options) (Some names) =
 abbrev pub html_of : Option Options → Option (List ℕ × List ℕ) → Option PageWords
 html_of None names = None
 html_of (Some options) None = None
-html_of (Some options) (Some names) = Some (page_words options names.0 names.1)
+html_of (Some options) (Some names) =
+    if are_for_html options then Some (page_words options names.0 names.1) else None
+
+abbrev pub folds_of : Option Options → Option (List ℕ × List ℕ) → Option FoldWords
+folds_of None names = None
+folds_of (Some options) None = None
+folds_of (Some options) (Some names) =
+    if are_for_folds options then Some (fold_words options names.0 names.1) else None
 
 -- the two numbers of the large mode, if both are in form
 abbrev pub large_words : Options → Option ℕ → Option ℕ → Option LargeWords
@@ -239,6 +276,7 @@ printing_with command options names =
     if bytes_eq command (codes "check") then option_map Check (check_of options (one_name names))
     else if bytes_eq command (codes "spans") then option_map Spans (spans_of options (two_names names))
     else if bytes_eq command (codes "html") then option_map Html (html_of options (two_names names))
+    else if bytes_eq command (codes "folds") then option_map Folds (folds_of options (two_names names))
     else None
 
 -- what the words ask, if they are in the table of words

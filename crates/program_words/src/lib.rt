@@ -7,4 +7,4 @@
 mod options;
 mod words;
 
-pub use words::{Asked, CheckWords, LargeWords, PageWords, PaintWords, Printing};
+pub use words::{Asked, CheckWords, FoldWords, LargeWords, PageWords, PaintWords, Printing};

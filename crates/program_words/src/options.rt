@@ -3,13 +3,16 @@ ghost use Rattle.std.specs.Prelude.{◌≡◌, ◌≤◌, length, None, Some, tr
 ghost use Rattle.std.specs.List.{prefix_len};
 ghost use Rattle.std.specs.String.{string_bytes};
 ghost use Rattle.program_words.specs.Given.{no_options};
-ghost use Rattle.program_words.specs.Words.{are_for_check, are_for_large, are_for_spans, behind_options, budget_of, budget_value, folder_in, is_option, lines_of, not_empty, at_least_one, number_after, options_of, options_said, positive_of, seed_of, texts_of, with_budget, with_digit, with_flag, with_folder, with_option};
+ghost use Rattle.program_words.specs.Words.{are_for_check, are_for_folds, are_for_html, are_for_large, are_for_spans, behind_options, budget_of, budget_value, close_of, close_value, folder_in, is_option, lines_of, natural_of, not_empty, at_least_one, number_after, options_of, options_said, positive_of, seed_of, texts_of, with_budget, with_close, with_close_or_folder, with_digit, with_flag, with_folder, with_option, with_value};
 
 use crate::words::{has_dash, is_dashes};
 use std::marker::Model;
 
 /// The most ticks that an attempt may be given.
 const MOST_BUDGET: u64 = 1_000_000_000;
+
+/// The greatest level above which folds are closed.
+const MOST_CLOSE: u64 = 20;
 
 /// The greatest seed of the large mode.
 const MOST_SEED: u64 = 4_294_967_295;
@@ -52,6 +55,7 @@ pub(crate) struct Options<'a> {
     pub(crate) budget: Option<u64>,
     pub(crate) number: bool,
     pub(crate) no_pre: bool,
+    pub(crate) close: Option<usize>,
 }
 
 impl<'a> Model for Options<'a> {
@@ -66,11 +70,13 @@ impl<'a> Model for Options<'a> {
       budget = o.budget;
       number = o.number;
       no_pre = o.no_pre;
+      close = o.close;
     } };
 
     ghost use Rattle.std.specs.Prelude.{◌≤◌, IfSome};
 
-    ghost invariant = { λ o. IfSome o.budget (λ budget. 1 ≤ budget) };
+    ghost invariant = { λ o. IfSome o.budget (λ budget. 1 ≤ budget)
+        × IfSome o.close (λ close. close ≤ 20) };
 }
 
 impl<'a> Options<'a> {
@@ -83,6 +89,7 @@ impl<'a> Options<'a> {
             budget: None,
             number: false,
             no_pre: false,
+            close: None,
         }
     }
 
@@ -110,8 +117,24 @@ impl<'a> Options<'a> {
         if word == "--no-pre" {
             return self.with_no_pre();
         }
+        self.with_value(word)
+    }
+
+    /// With this option too, which has a value.
+    fn with_value(self, word: &'a str) -> Option<Options<'a>>
+        ensures { result ≡ with_value self.entry word.now (budget_value word.now) }
+    {
         match budget_value(word) {
             Some(value) => self.with_budget(budget_of(value)?),
+            None => self.with_close_or_folder(word),
+        }
+    }
+
+    fn with_close_or_folder(self, word: &'a str) -> Option<Options<'a>>
+        ensures { result ≡ with_close_or_folder self.entry word.now (close_value word.now) }
+    {
+        match close_value(word) {
+            Some(value) => self.with_close(close_of(value)?),
             None => self.with_folder(folder_in(word)?),
         }
     }
@@ -167,11 +190,36 @@ impl<'a> Options<'a> {
         Some(self)
     }
 
+    fn with_close(mut self, close: usize) -> Option<Options<'a>>
+        requires { close ≤ 20 }
+        ensures { result ≡ with_close self.entry (Some close) }
+    {
+        if self.close.is_some() {
+            return None;
+        }
+        self.close = Some(close);
+        Some(self)
+    }
+
+    /// Whether `folds` has all of them.
+    pub(crate) fn are_for_folds(&self) -> bool
+        ensures { result ≡ are_for_folds self.now }
+    {
+        !self.number && !self.no_pre
+    }
+
     /// Whether `spans` has all of them.
     pub(crate) fn are_for_spans(&self) -> bool
         ensures { result ≡ are_for_spans self.now }
     {
-        !self.number && !self.no_pre
+        self.are_for_folds() && self.close.is_none()
+    }
+
+    /// Whether `html` and `edit` have all of them.
+    pub(crate) fn are_for_html(&self) -> bool
+        ensures { result ≡ are_for_html self.now }
+    {
+        self.close.is_none()
     }
 
     /// Whether `large` has all of them.
@@ -223,15 +271,29 @@ fn budget_of(value: &str) -> Option<u64>
     positive_of(value, MOST_BUDGET)
 }
 
+/// The value of the folds' option, if the word is this one.
+fn close_value(word: &str) -> Option<&str>
+    ensures { MatchOption result (close_value word.now ≡ None)
+        (λ value. close_value word.now ≡ Some value.now) }
+{
+    word.strip_prefix("--close=")
+}
+
+/// The level above which folds are closed: 0 to 20.
+fn close_of(value: &str) -> Option<usize>
+    ensures is { result ≡ close_of value.now }
+    ensures few { IfSome result (λ close. close ≤ 20) }
+{
+    let close = natural_of(value, MOST_CLOSE)?;
+    Some(close as usize)
+}
+
 /// The seed that the name gives: 0 to 4,294,967,295.
 pub(crate) fn seed_of(name: &str) -> Option<u64>
     ensures is { result ≡ seed_of name.now }
     ensures few { IfSome result (λ seed. seed ≤ 4294967295) }
 {
-    if name == "0" {
-        return Some(0);
-    }
-    positive_of(name, MOST_SEED)
+    natural_of(name, MOST_SEED)
 }
 
 /// The number of lines that the name gives: 1 to 100,000.
@@ -241,6 +303,18 @@ pub(crate) fn lines_of(name: &str) -> Option<u64>
     ensures few { IfSome result (λ lines. lines ≤ 100000) }
 {
     positive_of(name, MOST_LARGE_LINES)
+}
+
+/// A number from 0 to the greatest one: decimal digits without a leading zero, or `0` itself.
+fn natural_of(text: &str, most: u64) -> Option<u64>
+    requires { most ≤ 4294967295 }
+    ensures is { result ≡ natural_of most text.now }
+    ensures few { IfSome result (λ number. number ≤ most) }
+{
+    if text == "0" {
+        return Some(0);
+    }
+    positive_of(text, most)
 }
 
 /// A number from 1 to the greatest one: decimal digits without a leading zero.

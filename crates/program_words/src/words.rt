@@ -1,8 +1,8 @@
 //! Commands and names.
-ghost use Rattle.std.specs.Prelude.{◌≡◌, ◌≤◌, None, Some, MatchOption};
+ghost use Rattle.std.specs.Prelude.{◌≡◌, ◌≤◌, None, Some, IfSome, MatchOption};
 ghost use Rattle.std.specs.List.{list_all};
 ghost use Rattle.std.specs.String.{string_bytes};
-ghost use Rattle.program_words.specs.Words.{asked_of, check_of, has_dash, html_of, is_dashes, is_full, is_name, large_of, large_page, large_words, lines_of, names_in, one_name, options_said, paint_words, printing_with, seed_of, spans_of, syntax_words, texts_of, two_names};
+ghost use Rattle.program_words.specs.Words.{asked_of, check_of, fold_words, folds_of, has_dash, html_of, is_dashes, is_full, is_name, large_of, large_page, large_words, lines_of, names_in, one_name, options_said, paint_words, printing_with, seed_of, spans_of, syntax_words, texts_of, two_names};
 ghost use Rattle.std.specs.Prelude.{option_map};
 
 use crate::options::{Options, lines_of, seed_of, split_options};
@@ -34,6 +34,7 @@ pub enum Printing<'a> {
     Check(CheckWords<'a>),
     Spans(PaintWords<'a>),
     Html(PageWords<'a>),
+    Folds(FoldWords<'a>),
 }
 
 /// Which syntax is read: the name of its file, the folder in which included files are looked for (`.`
@@ -95,6 +96,26 @@ impl<'a> Model for PageWords<'a> {
     ghost view = { λ w. record { painting = w.painting; number = w.number; pre = w.pre } };
 }
 
+/// The folds that are told: those of what is painted, and if they are to be closed, above which level,
+/// which is 20 at most.
+#[derive(Drop)]
+pub struct FoldWords<'a> {
+    painting: PaintWords<'a>,
+    close: Option<usize>,
+}
+
+impl<'a> Model for FoldWords<'a> {
+    ghost use Rattle.program_words.specs.Given as given;
+
+    ghost Value = { given.FoldWords };
+
+    ghost use Rattle.std.specs.Prelude.{◌≤◌, IfSome};
+
+    ghost view = { λ w. record { painting = w.painting; close = w.close } };
+
+    ghost invariant = { λ w. IfSome w.close (λ close. close ≤ 20) };
+}
+
 /// The large mode: the seed of its draws, how many lines its text has at the start, and the most ticks of
 /// one attempt, which are 1 at least.
 #[derive(Drop)]
@@ -151,6 +172,9 @@ impl<'a> Printing<'a> {
         }
         if command == "html" {
             return Some(Printing::Html(PageWords::read(front, rest)?));
+        }
+        if command == "folds" {
+            return Some(Printing::Folds(FoldWords::read(front, rest)?));
         }
         None
     }
@@ -259,6 +283,9 @@ impl<'a> PageWords<'a> {
     {
         let options = Options::read(front)?;
         let (syntax, text) = two_names(rest)?;
+        if !options.are_for_html() {
+            return None;
+        }
         Some(PageWords {
             painting: PaintWords::of(&options, syntax, text),
             number: options.number,
@@ -285,6 +312,46 @@ impl<'a> PageWords<'a> {
         ensures { result ≡ self.now.pre }
     {
         self.pre
+    }
+}
+
+impl<'a> FoldWords<'a> {
+    /// What the words behind `folds` ask.
+    fn read(front: &'a [String], rest: &'a [String]) -> Option<FoldWords<'a>>
+        ensures { result ≡ folds_of (options_said (texts_of front.now))
+            (two_names (names_in (texts_of rest.now))) }
+    {
+        let options = Options::read(front)?;
+        let (syntax, text) = two_names(rest)?;
+        if !options.are_for_folds() {
+            return None;
+        }
+        Some(FoldWords::of(&options, syntax, text))
+    }
+
+    /// The folds of this text.
+    fn of(options: &Options<'a>, syntax: &'a str, text: &'a str) -> FoldWords<'a>
+        ensures { result ≡ fold_words options.now syntax.now text.now }
+    {
+        FoldWords {
+            painting: PaintWords::of(options, syntax, text),
+            close: options.close,
+        }
+    }
+
+    /// What is painted.
+    pub fn painting(&self) -> &PaintWords<'a>
+        ensures { result.now ≡ self.now.painting }
+    {
+        &self.painting
+    }
+
+    /// The level above which folds are closed, if they are to be.
+    pub fn close(&self) -> Option<usize>
+        ensures is { result ≡ self.now.close }
+        ensures few { IfSome result (λ close. close ≤ 20) }
+    {
+        self.close
     }
 }
 

@@ -1,5 +1,7 @@
 mod EditLaws
+mod FoldLaws
 mod KeptLaws
+mod KnownFolds
 mod LargeLaws
 mod PaintLaws
 mod PlanLaws

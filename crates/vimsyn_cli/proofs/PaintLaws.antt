@@ -1,7 +1,7 @@
 -- The painting of a file, step by step.
 use Rattle.std.proofs.Common.{◌≡◌, ℕ, ◌+◌, ◌≤◌, Bool, List, length, refl, subst, sym, inl, inr}
 use Rattle.std.specs.Prelude.{Option, Some, None, IfSome, Result, Ok, Err}
-use Rattle.program_words.specs.Given.{CheckWords, PageWords, PaintWords}
+use Rattle.program_words.specs.Given.{CheckWords, PaintWords}
 use Rattle.state_cache.specs.PaintedText.{PaintedText}
 use Rattle.syn_base.specs.Outside.{FileMap}
 use Rattle.syn_reader.specs.declared.syntax.Syntax.{Syntax}
@@ -13,7 +13,6 @@ use Rattle.vimsyn_cli.specs.declared.file_fault.NamedFault.TheVariants.{Unread}
 use Rattle.vimsyn_cli.specs.FileStop.{IsUnreadNamed}
 use Rattle.vimsyn_cli.specs.Painting.{IsPaintFault, IsUnreadPaint, painted_told, painting_told, text_told}
 use Rattle.vimsyn_cli.specs.Plans.{FollowsFiles, IfFault, IsExpected, RaisesItsCount, and_then}
-use Rattle.vimsyn_cli.specs.Printing.{html_told, page_bytes}
 use Rattle.vimsyn_cli.specs.Reading.{IsUnreadAsked, syntax_told}
 use Rattle.vimsyn_cli.specs.Report.{IsFaultOf, fault_line}
 use Rattle.vimsyn_cli.specs.Session.{lines_in}
@@ -87,24 +86,26 @@ text_counted (Some known) after words name text before now kept named read few =
     let told : text_told words.text known ≡ Ok text = subst (λ (o : Option FileMap). P o words.text) kept (subst (P after) named read) in
     subst (λ (r : Result (List (List ℕ)) FaultOf). now ≤ before + lines_in r) (sym told) few
 
--- ---- the page of a painting
+-- ---- what is printed of a painting
 
-page_painting : (told : Option FileMap) (words : PageWords) (asked : PaintWords) (painted : Result PaintedText Stop) → asked ≡ words.painting → FollowsFiles told (painting_told asked) (IsUnreadPaint asked) painted → FollowsFiles told (painting_told words.painting) (IsUnreadPaint words.painting) painted
-page_painting told words asked painted same is =
+abbrev printed_of : PaintWords → (PaintedText → List ℕ) → FileMap → Result (List ℕ) FaultOf
+printed_of words print files = and_then (painting_told words files) (λ painted. Ok (print painted))
+
+painting_of : (told : Option FileMap) (words asked : PaintWords) (painted : Result PaintedText Stop) → asked ≡ words → FollowsFiles told (painting_told asked) (IsUnreadPaint asked) painted → FollowsFiles told (painting_told words) (IsUnreadPaint words) painted
+painting_of told words asked painted same is =
     let P : PaintWords → Type 0 = λ a. FollowsFiles told (painting_told a) (IsUnreadPaint a) painted in
     subst P same is
 
-pub page_stopped : (told : Option FileMap) (words : PageWords) (asked : PaintWords) (why : Stop) (result : Result (List ℕ) Stop) → asked ≡ words.painting → FollowsFiles told (painting_told asked) (IsUnreadPaint asked) (Err why) → result ≡ Err why → FollowsFiles told (html_told words) (IsUnreadPaint words.painting) result
-page_stopped told words asked why result same is at =
-    stopped told (painting_told words.painting) (λ files painted. Ok (page_bytes words painted)) (IsUnreadPaint words.painting) (IsUnreadPaint words.painting) why result
-    (λ files line u. u) (page_painting told words asked (Err why) same is) at
+pub print_stopped : (told : Option FileMap) (words asked : PaintWords) (print : PaintedText → List ℕ) (why : Stop) (result : Result (List ℕ) Stop) → asked ≡ words → FollowsFiles told (painting_told asked) (IsUnreadPaint asked) (Err why) → result ≡ Err why → FollowsFiles told (printed_of words print) (IsUnreadPaint words) result
+print_stopped told words asked print why result same is at =
+    stopped told (painting_told words) (λ files painted. Ok (print painted)) (IsUnreadPaint words) (IsUnreadPaint words) why result
+    (λ files line u. u) (painting_of told words asked (Err why) same is) at
 
-pub page_printed : (told : Option FileMap) (words : PageWords) (asked : PaintWords) (painted : PaintedText) (bytes : List ℕ) → asked ≡ words.painting → FollowsFiles told (painting_told asked) (IsUnreadPaint asked) (Ok painted) → bytes ≡ page_bytes words painted → FollowsFiles told (html_told words) (IsUnreadPaint words.painting) (Ok bytes)
-page_printed told words asked painted bytes same is at =
-    value told (painting_told words.painting) (page_bytes words) (IsUnreadPaint words.painting) painted bytes
-    (page_painting told words asked (Ok painted) same is) at
+pub printed : (told : Option FileMap) (words asked : PaintWords) (print : PaintedText → List ℕ) (painted : PaintedText) (bytes : List ℕ) → asked ≡ words → FollowsFiles told (painting_told asked) (IsUnreadPaint asked) (Ok painted) → bytes ≡ print painted → FollowsFiles told (printed_of words print) (IsUnreadPaint words) (Ok bytes)
+printed told words asked print painted bytes same is at =
+    value told (painting_told words) print (IsUnreadPaint words) painted bytes (painting_of told words asked (Ok painted) same is) at
 
-pub page_counted : (told : Option FileMap) (words : PageWords) (asked : PaintWords) (before now : ℕ) → asked ≡ words.painting → IfSome told (λ known. now ≤ before + lines_in (text_told asked.text known)) → IfSome told (λ known. now ≤ before + lines_in (text_told words.painting.text known))
-page_counted told words asked before now same is =
+pub print_counted : (told : Option FileMap) (words asked : PaintWords) (before now : ℕ) → asked ≡ words → IfSome told (λ known. now ≤ before + lines_in (text_told asked.text known)) → IfSome told (λ known. now ≤ before + lines_in (text_told words.text known))
+print_counted told words asked before now same is =
     let P : PaintWords → Type 0 = λ a. IfSome told (λ known. now ≤ before + lines_in (text_told a.text known)) in
     subst P same is

@@ -6,8 +6,8 @@ use Rattle.edit_session.specs.Laws.{AreCarriedOut}
 use Rattle.edit_session.specs.Session.{Answer, entries_read, is_too_long, most_bytes, start}
 use Rattle.edit_session.proofs.CarriedOutLaws.{none_of_script}
 use Rattle.program_words.specs.declared.words.Asked.TheVariants.{Edit, Print}
-use Rattle.program_words.specs.declared.words.Printing.TheVariants.{Html, Spans}
-use Rattle.program_words.specs.Given.{PageWords, PaintWords}
+use Rattle.program_words.specs.declared.words.Printing.TheVariants.{Folds, Html, Spans}
+use Rattle.program_words.specs.Given.{FoldWords, PageWords, PaintWords}
 use Rattle.program_words.specs.Words.{asked_of}
 use Rattle.syn_base.specs.Outside.{FileMap, file_named}
 use Rattle.syn_reader.specs.declared.syntax.Syntax.{Syntax}
@@ -22,6 +22,7 @@ use Rattle.vimsyn_cli.specs.declared.fault.Fault.{Fault}
 use Rattle.vimsyn_cli.specs.declared.file_fault.NamedFault.{NamedFault}
 use Rattle.vimsyn_cli.specs.Check.{syntax_counts}
 use Rattle.vimsyn_cli.specs.Editing.{edit_told, painter_of, script_answer, script_end, script_status, shown_of, with_words}
+use Rattle.vimsyn_cli.specs.Folds.{folds_shown}
 use Rattle.vimsyn_cli.specs.Laws.{AcceptedSyntaxFile, IsAccepted}
 use Rattle.vimsyn_cli.specs.Painting.{bytes_told, file_bytes, lines_told, painted_told, painting_told, text_limit, text_told, with_spans}
 use Rattle.vimsyn_cli.specs.Plans.{and_then}
@@ -69,6 +70,12 @@ pub accepted_pages : (typed : List (List ℕ)) (files : FileMap) (script : List 
 accepted_pages typed files script words painted asked is =
     ap (with_asked files script) asked
     ∙ ap (λ (e : Result PaintedText Fault). session_told (and_then e (λ p. Ok (page_bytes words p)))) (painting_is words.painting files painted is)
+
+-- or the folds
+pub accepted_folded : (typed : List (List ℕ)) (files : FileMap) (script : List ℕ) (words : FoldWords) (painted : PaintedText) → asked_of typed ≡ Some (Print (Folds words)) → IsAccepted words.painting files painted → session typed files script ≡ shows (folds_shown words.close painted)
+accepted_folded typed files script words painted asked is =
+    ap (with_asked files script) asked
+    ∙ ap (λ (e : Result PaintedText Fault). session_told (and_then e (λ p. Ok (folds_shown words.close p)))) (painting_is words.painting files painted is)
 
 -- or what the commands of a script print
 pub accepted_edited : (typed : List (List ℕ)) (files : FileMap) (script : List ℕ) (words : PageWords) (painted : PaintedText) → asked_of typed ≡ Some (Edit words) → IsAccepted words.painting files painted → session typed files script ≡ script_end (is_too_long script) (script_answer words painted script)

@@ -6,7 +6,7 @@ use Rattle.edit_session.specs.Ends.{SinkChange, SourceChange}
 use Rattle.program_words.specs.declared.words.Asked.{Asked}
 use Rattle.program_words.specs.declared.words.Asked.TheVariants.{Edit, Large, Print}
 use Rattle.program_words.specs.declared.words.Printing.{Printing}
-use Rattle.program_words.specs.declared.words.Printing.TheVariants.{Check, Html, Spans}
+use Rattle.program_words.specs.declared.words.Printing.TheVariants.{Check, Folds, Html, Spans}
 use Rattle.program_words.specs.Given.{PageWords}
 use Rattle.syn_base.specs.Causes.{Rose}
 use Rattle.syn_base.specs.Outside.{appended, AppendsPrefix, FileMap}
@@ -44,6 +44,7 @@ abbrev pub IsFaultOfPrint : Printing → FaultOf → Type 0
 IsFaultOfPrint (Check words) fault = IsReadFault fault
 IsFaultOfPrint (Spans words) fault = IsPaintFault words fault
 IsFaultOfPrint (Html words) fault = IsPaintFault words.painting fault
+IsFaultOfPrint (Folds words) fault = IsPaintFault words.painting fault
 
 -- the same of any command: `edit` tells what `html` tells, and `large` that the painting of its text is
 -- refused
@@ -57,6 +58,7 @@ abbrev pub IsUnreadPrint : Printing → FileMap → List ℕ → Type 0
 IsUnreadPrint (Check words) files line = IsUnreadAsked words files line
 IsUnreadPrint (Spans words) files line = IsUnreadPaint words files line
 IsUnreadPrint (Html words) files line = IsUnreadPaint words.painting files line
+IsUnreadPrint (Folds words) files line = IsUnreadPaint words.painting files line
 
 -- the script is asked for: there is a painted text
 pub record AsksForScript (words : PageWords) (files : FileMap) : Type 0 where

@@ -17,6 +17,7 @@ use Rattle.state_cache.specs.Spans.{syntax_rules, text_spans}
 use Rattle.vimsyn_cli.specs.declared.fault.Fault.{Fault}
 use Rattle.vimsyn_cli.specs.declared.status.Status.{Status}
 use Rattle.vimsyn_cli.specs.declared.status.Status.TheVariants.{Done, Refused}
+use Rattle.vimsyn_cli.specs.Folds.{folds_text}
 use Rattle.vimsyn_cli.specs.Painting.{group_name, painting_told}
 use Rattle.vimsyn_cli.specs.Printing.{page_options}
 use Rattle.vimsyn_cli.specs.Report.{long_script}
@@ -47,6 +48,7 @@ painter_of words syntax budget = record {
   costs = λ text r. lines_to_paint (syntax_rules syntax budget) text r.a r.b r.new;
   line = λ number spans. line_text syntax.groups syntax.links number spans true;
   page = λ text spans. page_text (words.painting).text text spans syntax.groups syntax.links (page_options words);
+  folds = λ text. folds_text syntax budget text;
 }
 
 abbrev pub shown_of : PaintedText → Painted

@@ -5,8 +5,8 @@ use Rattle.edit_session.specs.Session.{entries_read, is_too_long, start}
 use Rattle.large_session.specs.Laws.{ArePainted}
 use Rattle.large_session.specs.LargeSession.{edit_count, five_lines, large_text, number_behind, start as large_start}
 use Rattle.program_words.specs.declared.words.Asked.TheVariants.{Edit, Large, Print}
-use Rattle.program_words.specs.declared.words.Printing.TheVariants.{Check, Html, Spans}
-use Rattle.program_words.specs.Given.{CheckWords, LargeWords, PageWords, PaintWords}
+use Rattle.program_words.specs.declared.words.Printing.TheVariants.{Check, Folds, Html, Spans}
+use Rattle.program_words.specs.Given.{CheckWords, FoldWords, LargeWords, PageWords, PaintWords}
 use Rattle.program_words.specs.Words.{asked_of, large_page}
 use Rattle.syn_base.specs.Outside.{FileMap, file_named}
 use Rattle.syn_reader.specs.declared.syntax.Syntax.{Syntax}
@@ -17,6 +17,7 @@ use Rattle.state_cache.specs.Spans.{syntax_rules, text_spans}
 use Rattle.text_buffer.specs.TextOfBytes.{text_of}
 use Rattle.vimsyn_cli.specs.Check.{syntax_counts}
 use Rattle.vimsyn_cli.specs.Editing.{painter_of, script_answer, script_end, shown_of}
+use Rattle.vimsyn_cli.specs.Folds.{folds_shown}
 use Rattle.vimsyn_cli.specs.Large.{large_files, large_painter, large_standing, large_told}
 use Rattle.vimsyn_cli.specs.Printing.{page_bytes, spans_bytes}
 use Rattle.vimsyn_cli.specs.Reading.{options_of}
@@ -34,7 +35,7 @@ pub record IsAccepted (words : PaintWords) (files : FileMap) (painted : PaintedT
   pub budget_is : painted.budget ≡ words.budget
   pub spans_are : text_spans painted.syntax words.budget painted.text ≡ Ok painted.spans
 
--- such a run prints the spans of the text, or its page
+-- such a run prints the spans of the text, its page, or its folds
 abbrev pub AcceptedFilesArePainted : Type 0
 AcceptedFilesArePainted =
     (typed : List (List ℕ)) (files : FileMap) (script : List ℕ) (words : PaintWords) (painted : PaintedText)
@@ -44,6 +45,12 @@ abbrev pub AcceptedFilesArePages : Type 0
 AcceptedFilesArePages =
     (typed : List (List ℕ)) (files : FileMap) (script : List ℕ) (words : PageWords) (painted : PaintedText)
     → asked_of typed ≡ Some (Print (Html words)) → IsAccepted words.painting files painted → session typed files script ≡ shows (page_bytes words painted)
+
+abbrev pub AcceptedFilesAreFolded : Type 0
+AcceptedFilesAreFolded =
+    (typed : List (List ℕ)) (files : FileMap) (script : List ℕ) (words : FoldWords) (painted : PaintedText)
+    → asked_of typed ≡ Some (Print (Folds words)) → IsAccepted words.painting files painted
+    → session typed files script ≡ shows (folds_shown words.close painted)
 
 -- or, for `edit`, prints what the commands of the script print, one after the other
 abbrev pub AcceptedTextsAreEdited : Type 0

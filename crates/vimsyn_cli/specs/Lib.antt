@@ -3,6 +3,7 @@ pub mod Answers
 pub mod Changes
 pub mod Check
 pub mod Editing
+pub mod Folds
 pub mod Large
 pub mod LargeRun
 pub mod Laws
@@ -18,4 +19,5 @@ pub mod TextFault
 pub mod Written
 -- what only code and proofs cite
 pub mod FileStop
+pub mod FoldRows
 pub mod Refusal

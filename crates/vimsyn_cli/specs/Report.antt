@@ -10,7 +10,7 @@ use Rattle.vimsyn_cli.specs.declared.file_fault.NamedFault.TheVariants.{Missing,
 
 -- the line for words that aren't in the table
 abbrev pub usage_line : List ℕ
-usage_line = codes "usage: vimsyn check|spans|html|edit|large [options] names\n"
+usage_line = codes "usage: vimsyn check|spans|html|edit|large|folds [options] names\n"
 
 -- the line for a script of too many bytes
 abbrev pub long_script : List ℕ

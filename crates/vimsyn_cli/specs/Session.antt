@@ -6,7 +6,7 @@ use Rattle.program_words.specs.Given.{PageWords}
 use Rattle.program_words.specs.declared.words.Asked.{Asked}
 use Rattle.program_words.specs.declared.words.Asked.TheVariants.{Edit, Large, Print}
 use Rattle.program_words.specs.declared.words.Printing.{Printing}
-use Rattle.program_words.specs.declared.words.Printing.TheVariants.{Check, Html, Spans}
+use Rattle.program_words.specs.declared.words.Printing.TheVariants.{Check, Folds, Html, Spans}
 use Rattle.program_words.specs.Words.{asked_of}
 use Rattle.state_cache.specs.PaintedText.{PaintedText}
 use Rattle.syn_base.specs.Outside.{FileMap}
@@ -14,6 +14,7 @@ use Rattle.vimsyn_cli.specs.declared.fault.Fault.{Fault}
 use Rattle.vimsyn_cli.specs.declared.status.Status.TheVariants.{Usage}
 use Rattle.vimsyn_cli.specs.Check.{check_told}
 use Rattle.vimsyn_cli.specs.Editing.{edit_session, painter_of, shown_of}
+use Rattle.vimsyn_cli.specs.Folds.{folds_told}
 use Rattle.vimsyn_cli.specs.Large.{large_run}
 use Rattle.vimsyn_cli.specs.Painting.{painting_told, text_told}
 use Rattle.vimsyn_cli.specs.Printing.{html_told, spans_told}
@@ -25,6 +26,7 @@ abbrev pub print_told : Printing → FileMap → Result (List ℕ) Fault
 print_told (Check words) files = check_told words files
 print_told (Spans words) files = spans_told words files
 print_told (Html words) files = html_told words files
+print_told (Folds words) files = folds_told words files
 
 abbrev pub session_told : Result (List ℕ) Fault → Session
 session_told (Ok bytes) = shows bytes
@@ -60,6 +62,7 @@ abbrev pub print_lines : Printing → FileMap → ℕ
 print_lines (Check words) files = 0
 print_lines (Spans words) files = lines_in (text_told words.text files)
 print_lines (Html words) files = lines_in (text_told (words.painting).text files)
+print_lines (Folds words) files = lines_in (text_told (words.painting).text files)
 
 -- and how many for the commands of a script: those of each change that they come to
 abbrev pub script_lines : PageWords → List ℕ → Result PaintedText Fault → ℕ

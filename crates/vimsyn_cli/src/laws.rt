@@ -1,13 +1,14 @@
 //! Laws of the definitions: the contracts of functions that have no code.
-ghost use Rattle.vimsyn_cli.specs.Laws.{AcceptedFilesArePages, AcceptedFilesArePainted, AcceptedLargeTextsAreEdited};
+ghost use Rattle.vimsyn_cli.specs.Laws.{AcceptedFilesAreFolded, AcceptedFilesArePages, AcceptedFilesArePainted, AcceptedLargeTextsAreEdited};
 ghost use Rattle.vimsyn_cli.specs.Laws.{AcceptedSyntaxFilesAreCounted, AcceptedTextsAreEdited, CarriedOutScriptsAreDone};
 ghost use Rattle.vimsyn_cli.specs.Laws.{KeptSyntaxIsAccepted, PaintedLargeTextsAreDone, TextsWithinLimitsArePainted};
 
-/// Where the syntax is accepted and the text is painted whole, `spans` prints its spans and `html`
-/// its page, and the status is Done; `edit` carries out its script.
+/// Where the syntax is accepted and the text is painted whole, `spans` prints its spans, `html`
+/// its page and `folds` its folds, and the status is Done; `edit` carries out its script.
 pub fn accepted_files_are_painted()
     ensures spans { AcceptedFilesArePainted }
     ensures page { AcceptedFilesArePages }
+    ensures folds { AcceptedFilesAreFolded }
     ensures edits { AcceptedTextsAreEdited }
 {}
 

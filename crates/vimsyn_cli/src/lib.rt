@@ -11,6 +11,7 @@ mod deliver;
 mod edit;
 mod fault;
 mod file_fault;
+mod folds;
 mod html;
 mod kept_files;
 mod large;

@@ -6,6 +6,7 @@ ghost use Rattle.vimsyn_cli.specs.Session.{print_lines, print_told};
 
 use crate::check::check;
 use crate::fault::Stop;
+use crate::folds::print_folds;
 use crate::html::print_page;
 use crate::spans::print_spans;
 use program_words::Printing;
@@ -33,5 +34,6 @@ pub(crate) fn print<F: Files, L: Ledger>(
         Printing::Check(words) => check(alloc, files, words),
         Printing::Spans(words) => print_spans(alloc, files, words, steps),
         Printing::Html(words) => print_page(alloc, files, words, steps),
+        Printing::Folds(words) => print_folds(alloc, files, words, steps),
     }
 }

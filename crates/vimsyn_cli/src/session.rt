@@ -25,7 +25,7 @@ use std::alloc::Global;
 use syn_base::{Files, Ledger, Sink, Source, Steps};
 
 /// The line for words that aren't in the table.
-const USAGE: &[u8; 58] = b"usage: vimsyn check|spans|html|edit|large [options] names\n";
+const USAGE: &[u8; 64] = b"usage: vimsyn check|spans|html|edit|large|folds [options] names\n";
 
 /// Runs the program on its words, which are those behind its name.
 ///

@@ -4,6 +4,7 @@ ghost use Rattle.std.specs.List.{sum_by};
 ghost use Rattle.vimsyn_cli.specs.Editing.{cause_words, painter_of, place_words};
 ghost use Rattle.vimsyn_cli.specs.Refusal.{IsUnedited};
 
+use crate::folds::folds_bytes;
 use crate::html::page_bytes;
 use crate::refusal::group_of;
 use crate::spans::{push_line, spans_at};
@@ -48,6 +49,10 @@ impl<'a> Document for Sheet<'a> {
 
     fn page(&self, alloc: Global) -> Result<List<u8>, Memory> {
         page_bytes(alloc, self.words, &self.painted)
+    }
+
+    fn folds(&self, alloc: Global) -> Result<List<u8>, Memory> {
+        folds_bytes(alloc, &self.painted)
     }
 
     fn edit<L: Ledger>(

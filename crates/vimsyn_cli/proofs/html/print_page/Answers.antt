@@ -3,8 +3,8 @@ use Rattle.std.specs.Prelude.{Err}
 use Rattle.std.proofs.lemmas.Result.{err_from_is_err_and}
 use Rattle.vimsyn_cli.specs.Painting.{IsPaintFault, IsUnreadPaint}
 use Rattle.vimsyn_cli.specs.Plans.{is_missing, is_too_long, is_unread}
-use Rattle.vimsyn_cli.specs.Printing.{html_told}
-use Rattle.vimsyn_cli.proofs.PaintLaws.{memory_uncounted, memory_untold, page_counted, page_printed, page_stopped}
+use Rattle.vimsyn_cli.specs.Printing.{html_told, page_bytes}
+use Rattle.vimsyn_cli.proofs.PaintLaws.{memory_uncounted, memory_untold, print_counted, print_stopped, printed}
 use Rattle.vimsyn_cli.proofs.PlanLaws.{out_of_memory}
 use Rattle.vimsyn_cli.proofs.html.print_page.Goals as goal
 
@@ -31,7 +31,7 @@ returns-in_err-print_painted-clause-longs g c =
 pub returns-in_err-painted-clause-planned : goal.returns-in_err-painted-clause-planned
 returns-in_err-painted-clause-planned g c =
     let p = err_from_is_err_and c.from_residual.result c.from_residual.ensures.1 in
-    page_stopped (g.F.Files.told c.args.files.now) c.args.words.now c.painting.result.now c.in_err-painted.field-0.0 c.from_residual.result
+    print_stopped (g.F.Files.told c.args.files.now) c.args.words.now.painting c.painting.result.now (page_bytes c.args.words.now) c.in_err-painted.field-0.0 c.from_residual.result
     c.painting.ensures c.in_err-painted.ensures.planned (p.1 ∙ ap Err p.2)
 
 pub returns-in_err-print_painted-clause-planned : goal.returns-in_err-print_painted-clause-planned
@@ -41,15 +41,15 @@ returns-in_err-print_painted-clause-planned g c =
 
 pub returns-in_err-print_painted-clause-steps : goal.returns-in_err-print_painted-clause-steps
 returns-in_err-print_painted-clause-steps g c =
-    page_counted (g.F.Files.told c.args.files.now) c.args.words.now c.painting.result.now c.args.steps.now c.paint.new.steps
+    print_counted (g.F.Files.told c.args.files.now) c.args.words.now.painting c.painting.result.now c.args.steps.now c.paint.new.steps
     c.painting.ensures c.in_ok-painted.ensures.steps
 
 pub returns-clause-planned : goal.returns-clause-planned
 returns-clause-planned g c =
-    page_printed (g.F.Files.told c.args.files.now) c.args.words.now c.painting.result.now c.in_ok-painted.painted _
+    printed (g.F.Files.told c.args.files.now) c.args.words.now.painting c.painting.result.now (page_bytes c.args.words.now) c.in_ok-painted.painted _
     c.painting.ensures c.in_ok-painted.ensures.planned c.in_ok-print_painted.ensures
 
 pub returns-clause-steps : goal.returns-clause-steps
 returns-clause-steps g c =
-    page_counted (g.F.Files.told c.args.files.now) c.args.words.now c.painting.result.now c.args.steps.now c.paint.new.steps
+    print_counted (g.F.Files.told c.args.files.now) c.args.words.now.painting c.painting.result.now c.args.steps.now c.paint.new.steps
     c.painting.ensures c.in_ok-painted.ensures.steps
