@@ -1,10 +1,14 @@
-//! The program `library_rows`: it reads calls of the libraries from standard input, one a line, and prints
-//! what each answers.
+//! The program `library_rows`: it reads calls of the libraries from standard input, one a line,
+//! each with what it gives in the line behind it, and tells those that give something else
+//! (`row_tally`).
 //!
-//! A line is the name of a call and its arguments, with a tab between any two; each module of this crate
-//! tells its own. `pattern_rows` asks for patterns and attempts so, and `vimsyn_rows` for runs of the whole
-//! program. Bytes are printed with escapes for all that isn't printable ASCII. A line that is no call is
-//! answered by `bad case`.
+//! A line is the name of a call and its arguments, with a tab between any two; each module of this
+//! crate tells its own. `pattern_rows` asks for patterns and attempts so, and `vimsyn_rows` for
+//! runs of the whole program. Bytes have escapes for all that isn't printable ASCII. A line that is
+//! no call gives `bad case`. With blanks for the tabs:
+//!
+//!     range  A  Z  ſ  ignore
+//!     gives yes
 #![tactic(auto)]
 
 mod answer;
@@ -20,26 +24,34 @@ mod streams;
 mod texts;
 
 use fault::Fault;
+use row_tally::{Answering, check_lines};
 use std::alloc::Global;
 use std::io;
-use std::io::{BufRead, BufReader, BufWriter, Write};
+use std::io::{BufReader, BufWriter, Write};
+use std::process::ExitCode;
 
-fn main(rt: HostRuntime) -> io::Result<()> {
+fn main(rt: HostRuntime) -> io::Result<ExitCode> {
     let input = BufReader::new(rt.alloc(), rt.reader())?;
     let mut output = BufWriter::new(rt.alloc(), io::writer(&rt))?;
-    for line in input.lines(rt.alloc()) {
-        write_answer(&rt, &mut output, line?.as_str())?;
-    }
-    output.flush()
+    let status = check_lines(rt.alloc(), input, &mut output, &mut Calls { rt: &rt })?;
+    output.flush()?;
+    Ok(status)
 }
 
-/// Writes the line of what a call answers.
-fn write_answer<W: Write>(rt: &HostRuntime, output: &mut W, line: &str) -> io::Result<()> {
-    let mut answer = String::new(rt.alloc());
-    match answer_line(rt, line, &mut answer) {
-        Ok(()) => writeln!(output, "{answer}"),
-        Err(Fault::BadCase) => writeln!(output, "bad case"),
-        Err(Fault::Memory) => Err(io::Error::from(io::ErrorKind::OutOfMemory)),
+/// Makes calls.
+#[derive(Clone, Copy)]
+struct Calls<'r> {
+    rt: &'r HostRuntime,
+}
+
+impl<'r> Answering for Calls<'r> {
+    fn answer(&mut self, alloc: Global, case: &str) -> io::Result<Vec<u8>> {
+        let mut answer = String::new(alloc);
+        match answer_line(self.rt, case, &mut answer) {
+            Ok(()) => Ok(answer.into_bytes()),
+            Err(Fault::BadCase) => Ok(Vec::from_slice(alloc, b"bad case")?),
+            Err(Fault::Memory) => Err(io::Error::from(io::ErrorKind::OutOfMemory)),
+        }
     }
 }
 

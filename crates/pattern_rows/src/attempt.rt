@@ -1,4 +1,4 @@
-//! What an attempt answers, as a line.
+//! What an attempt answers, as a line without its end.
 
 ghost use Rattle.vim_pattern.specs.GroupNumbers.{HasNumbers};
 
@@ -25,7 +25,7 @@ pub(crate) fn write_attempt<W: Write>(
     requires { HasNumbers tree.now.node }
 {
     if !trial.is_possible() {
-        return writeln!(out, "bad case");
+        return write!(out, "bad case");
     }
     let mut programs = Programs::new(alloc);
     let Ok(id) = programs.add(tree) else {
@@ -43,7 +43,7 @@ pub(crate) fn write_attempt<W: Write>(
             write!(out, "absent")?;
             write_looked(out, looked)
         }
-        Ok(Attempt::TooCostly) => writeln!(out, "too costly"),
+        Ok(Attempt::TooCostly) => write!(out, "too costly"),
         Err(_) => Err(out_of_memory()),
     }
 }
@@ -52,9 +52,9 @@ pub(crate) fn write_attempt<W: Write>(
 fn write_looked<W: Write>(out: &mut W, looked: Looked) -> io::Result<()> {
     let (low, high) = (looked.low, looked.high);
     if looked.numbered {
-        writeln!(out, " looked={low}..{high} numbered")
+        write!(out, " looked={low}..{high} numbered")
     } else {
-        writeln!(out, " looked={low}..{high}")
+        write!(out, " looked={low}..{high}")
     }
 }
 

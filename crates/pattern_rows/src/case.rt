@@ -4,6 +4,7 @@ ghost use Rattle.vim_pattern.specs.GroupNumbers.{HasNumbers};
 
 use crate::attempt::write_attempt;
 use crate::trial::Trial;
+use row_tally::Answering;
 use std::alloc::{AllocError, Global};
 use std::io;
 use std::io::Write;
@@ -41,10 +42,22 @@ impl<'a> Case<'a> {
     }
 }
 
-/// Writes a line that tells how the pattern of a case is read, or what an attempt answers.
-pub(crate) fn write_case<W: Write>(alloc: Global, out: &mut W, line: &str) -> io::Result<()> {
+/// Answers cases.
+#[derive(Clone, Copy)]
+pub(crate) struct Cases;
+
+impl Answering for Cases {
+    fn answer(&mut self, alloc: Global, case: &str) -> io::Result<Vec<u8>> {
+        let mut answer = Vec::new(alloc);
+        write_case(alloc, &mut answer, case)?;
+        Ok(answer)
+    }
+}
+
+/// Writes how the pattern of a case is read, or what an attempt answers.
+fn write_case<W: Write>(alloc: Global, out: &mut W, line: &str) -> io::Result<()> {
     let Some(case) = Case::read(line) else {
-        return writeln!(out, "bad case");
+        return write!(out, "bad case");
     };
     let characters = characters(alloc, case.pattern)?;
     match read_pattern(alloc, characters.as_slice(), case.usage) {
@@ -67,7 +80,7 @@ fn write_answer<W: Write>(
     };
     match Trial::read(alloc, fields) {
         Ok(Some(trial)) => write_attempt(alloc, out, tree, &trial),
-        Ok(None) => writeln!(out, "bad case"),
+        Ok(None) => write!(out, "bad case"),
         Err(Memory) => Err(out_of_memory()),
     }
 }
@@ -77,7 +90,7 @@ fn write_fault<W: Write>(out: &mut W, fault: PatternError) -> io::Result<()> {
     match fault {
         PatternError::At { at, cause } => {
             let place = at.saturating_add(1);
-            writeln!(out, "fault {cause} at {place}")
+            write!(out, "fault {cause} at {place}")
         }
         PatternError::Memory => Err(out_of_memory()),
     }
@@ -103,7 +116,7 @@ fn write_tree<W: Write>(out: &mut W, tree: &Tree) -> io::Result<()> {
     };
     let moves_start = u8::from(tree.moves_start);
     let line_end = u8::from(tree.line_end);
-    writeln!(
+    write!(
         out,
         "read groups={groups} externals={externals} case={case} zs={moves_start} eol={line_end}"
     )

@@ -75,6 +75,13 @@ impl<T: Drop> From<AllocFailed<T>> for Unread {
     }
 }
 
+impl From<io::Error> for Unread {
+    /// What is written goes into memory, which fails for want of it alone.
+    fn from(_: io::Error) -> Unread {
+        Unread::Memory
+    }
+}
+
 /// Want of memory, as a fault of a program.
 pub(crate) fn out_of_memory() -> io::Error {
     io::Error::from(io::ErrorKind::OutOfMemory)

@@ -1,5 +1,6 @@
 //! Sessions, as their lines give them.
 
+use crate::answer::respelled;
 use crate::behaviour::{Behaviour, Said};
 use crate::mistake::{Mistake, Unread, out_of_memory};
 use crate::text::{push_text, push_words};
@@ -11,6 +12,14 @@ use std::io;
 pub(crate) struct NamedFile {
     pub(crate) name: Vec<u8>,
     pub(crate) bytes: Vec<u8>,
+}
+
+/// An answer that a session tells of itself, as `answer::respelled` spells it, and the number of
+/// its line in the input.
+#[derive(Drop)]
+pub(crate) struct Told {
+    pub(crate) line: u64,
+    pub(crate) answer: Vec<u8>,
 }
 
 /// To what further lines belong: to the last file, to the script, or to nothing yet.
@@ -31,14 +40,19 @@ pub(crate) struct Session {
     pub(crate) script: Behaviour,
     pub(crate) out: Behaviour,
     pub(crate) err: Behaviour,
-    /// For each run, the call that fails where a behaviour says so; if there are none, there is one run.
+    /// For each run, the call that fails where a behaviour says so; if there are none, there is one
+    /// run.
     pub(crate) each: Vec<u64>,
     /// Whether the count of painted lines is asked for.
     pub(crate) counts_steps: bool,
     /// Whether it has any line but remarks.
     pub(crate) is_begun: bool,
-    /// The first mistake, with the number of its line.
+    /// The first mistake, with the number of its line within the session.
     pub(crate) mistake: Option<(u64, Mistake)>,
+    /// What its runs give, in order.
+    pub(crate) told: Vec<Told>,
+    /// How many lines of the input stand before it.
+    before: u64,
     /// How many lines there are, with remarks.
     lines: u64,
     last: Last,
@@ -47,8 +61,8 @@ pub(crate) struct Session {
 }
 
 impl Session {
-    /// Nothing is given yet.
-    pub(crate) fn new(alloc: Global) -> Session {
+    /// Nothing is given yet. So many lines of the input stand before the session.
+    pub(crate) fn new(alloc: Global, before: u64) -> Session {
         Session {
             words: Vec::new(alloc),
             named: Vec::new(alloc),
@@ -61,23 +75,32 @@ impl Session {
             counts_steps: false,
             is_begun: false,
             mistake: None,
+            told: Vec::new(alloc),
+            before,
             lines: 0,
             last: Last::Nothing,
             has_line: false,
         }
     }
 
-    /// Takes one more line. Behind a mistake nothing is read.
+    /// The number of its last line in the input.
+    pub(crate) fn last_line(&self) -> u64 {
+        self.before.saturating_add(self.lines)
+    }
+
+    /// Takes one more line. Behind a mistake only answers are read.
     pub(crate) fn read(&mut self, alloc: Global, line: &[u8]) -> io::Result<()> {
         self.lines = self.lines.saturating_add(1);
-        if line.starts_with(b"#") || self.mistake.is_some() {
+        if line.starts_with(b"#") {
             return Ok(());
         }
         self.is_begun = true;
         match self.read_line(alloc, line) {
             Ok(()) => Ok(()),
             Err(Unread::Mistake(mistake)) => {
-                self.mistake = Some((self.lines, mistake));
+                if self.mistake.is_none() {
+                    self.mistake = Some((self.lines, mistake));
+                }
                 Ok(())
             }
             Err(Unread::Memory) => Err(out_of_memory()),
@@ -85,6 +108,12 @@ impl Session {
     }
 
     fn read_line(&mut self, alloc: Global, line: &[u8]) -> Result<(), Unread> {
+        if let Some(answer) = line.strip_prefix(b"gives ") {
+            return self.add_told(alloc, answer);
+        }
+        if self.mistake.is_some() {
+            return Ok(());
+        }
         if let Some(further) = line.strip_prefix(b"|") {
             return self.add_line(further);
         }
@@ -100,6 +129,13 @@ impl Session {
             b"count" => self.set_count(text),
             _ => Err(Unread::Mistake(Mistake::Verb)),
         }
+    }
+
+    fn add_told(&mut self, alloc: Global, text: &[u8]) -> Result<(), Unread> {
+        let line = self.last_line();
+        let answer = respelled(alloc, text)?;
+        self.told.push(Told { line, answer })?;
+        Ok(())
     }
 
     fn add_file(&mut self, alloc: Global, text: &[u8]) -> Result<(), Unread> {
