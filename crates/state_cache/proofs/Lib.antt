@@ -5,4 +5,6 @@ pub mod PatchLaws
 pub mod ReachLaws
 pub mod RefusalLaws
 pub mod SameLaws
+pub mod ShownLaws
+mod ShownRows
 pub mod StretchLaws

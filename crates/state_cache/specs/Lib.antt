@@ -2,6 +2,7 @@
 pub mod Spans
 pub mod PaintedText
 pub mod Notes
+pub mod Shown
 -- what code and proofs alone cite
 pub mod Brushes
 pub mod Refusals

@@ -13,11 +13,14 @@ mod commit;
 mod edit;
 mod edit_walk;
 mod kept;
+mod laws;
 mod line;
 mod painted;
 mod reach;
 mod refusal;
+mod shown;
 mod walk;
 
-pub use painted::{Painted, Repainted, Unpainted};
+pub use laws::{another_syntax_tells_what_shows_otherwise, what_shows_the_same_is_not_told};
+pub use painted::{Painted, Repainted, SyntaxRefused, Unpainted};
 pub use refusal::EditError;

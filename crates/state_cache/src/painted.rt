@@ -7,8 +7,10 @@ ghost use Rattle.paint_reuse.specs.Reuse.{lines_to_paint};
 ghost use Rattle.state_cache.specs.Notes.{IsNoteAt};
 ghost use Rattle.state_cache.specs.PaintedText.{AreNotes, IsPainted, IsPaintingOf, IsRefusal};
 ghost use Rattle.paint_reuse.specs.Kept.{text_notes};
+ghost use Rattle.paint_reuse.specs.Work.{kept_spans};
 ghost use Rattle.state_cache.specs.Edits.{IsMadeOf, changed_text, to_paint_in};
 ghost use Rattle.state_cache.specs.Refusals.{RefusesAs};
+ghost use Rattle.state_cache.specs.Shown.{lines_shown_otherwise, text_shown};
 ghost use Rattle.state_cache.specs.Spans.{syntax_rules, text_spans};
 ghost use Rattle.text_buffer.specs.TextOfBytes.{most_lines};
 
@@ -19,6 +21,7 @@ use crate::commit::{commit, make_room};
 use crate::edit::{Edit, Made};
 use crate::kept::Kept;
 use crate::reach::reach_of;
+use crate::shown::Exchange;
 use crate::walk::paint_all;
 use chunk_list::ChunkList;
 use item_pick::PickMemory;
@@ -29,7 +32,8 @@ use syn_base::{Colours, Ledger, Lines, List, Looked, Span, Steps};
 use syn_reader::Syntax;
 use text_buffer::{Line, Text};
 
-/// The lines that an edit tells: those that are new, and those that show other spans than before.
+/// The lines that are told: of an edit those that are new and those that show other spans than before,
+/// of another syntax those that show otherwise by name.
 #[derive(Drop)]
 pub struct Repainted {
     /// Their numbers in the changed text, from 0, least first.
@@ -74,6 +78,13 @@ impl Model for Painted {
 /// Why a text isn't painted, and the syntax, by which a message may name the item.
 #[derive(Drop)]
 pub struct Unpainted {
+    pub error: EditError,
+    pub syntax: Syntax,
+}
+
+/// Why a text isn't painted by another syntax, and that syntax.
+#[derive(Drop)]
+pub struct SyntaxRefused {
     pub error: EditError,
     pub syntax: Syntax,
 }
@@ -196,6 +207,84 @@ impl Painted {
         Ok(Repainted { lines: report })
     }
 
+    /// Paints the text by another syntax, which is in force from then on, and tells the lines that show
+    /// otherwise by it: a span has other columns, its group has another name, or the group that its
+    /// links lead to has. Numbers of groups don't count. For a refusal, and for want of memory, all is
+    /// as it was, and the syntax is handed back.
+    pub fn replace_syntax<L: Ledger>(
+        &mut self,
+        syntax: Syntax,
+        steps: &mut Steps<L>,
+    ) -> Result<Repainted, SyntaxRefused>
+        ensures painted { OnOk result (IsPaintingOf syntax self.old.text self.old.budget self.new) }
+        ensures told { IfOk result (λ told. told.lines ≡ lines_shown_otherwise
+            (text_shown self.old.syntax self.old.spans) (text_shown syntax self.new.spans)) }
+        ensures refused { IfErr result (λ refused.
+            IsRefusal (text_spans syntax self.old.budget self.old.text) refused.error) }
+        ensures handed { IfErr result (λ refused. refused.syntax ≡ syntax) }
+        ensures unchanged { OnErr result (self.new ≡ self.old) }
+        ensures steps { steps.new ≤ steps.old + length self.old.text }
+    {
+        match self.painted_by(&syntax, steps) {
+            Ok(
+                Repainting {
+                    notes,
+                    reach,
+                    memory,
+                    lines,
+                },
+            ) => {
+                self.syntax = syntax;
+                self.notes = notes;
+                self.reach = reach;
+                self.memory = memory;
+                Ok(Repainted { lines })
+            }
+            Err(error) => Err(SyntaxRefused { error, syntax }),
+        }
+    }
+
+    /// Paints the text by another syntax, of which nothing is remembered yet. What is kept stays.
+    fn painted_by<L: Ledger>(
+        &self,
+        syntax: &Syntax,
+        steps: &mut Steps<L>,
+    ) -> Result<Repainting, EditError>
+        ensures noted { IfOk result (λ made.
+            AreNotes (syntax_rules syntax.now self.now.budget) (length syntax.now.items) self.now.text
+            made.notes.0 made.reach) }
+        ensures memory { IfOk result (λ made.
+            TablesStand (syntax_rules syntax.now self.now.budget) made.memory) }
+        ensures told { IfOk result (λ made. made.lines ≡ lines_shown_otherwise
+            (text_shown self.now.syntax self.now.spans)
+            (text_shown syntax.now (kept_spans made.notes.0))) }
+        ensures refused { IfErr result
+            (RefusesAs (text_notes (syntax_rules syntax.now self.now.budget) self.now.text)) }
+        ensures steps { steps.new ≤ steps.old + length self.now.text }
+    {
+        let alloc = self.alloc;
+        let mut memory = PickMemory::new(alloc);
+        let Noted { notes, reach } = notes_of(
+            alloc,
+            syntax,
+            &self.text,
+            self.budget,
+            &mut memory,
+            steps,
+        )?;
+        let exchange = Exchange {
+            old: &self.syntax,
+            new: syntax,
+        };
+        let lines = exchange.lines(alloc, &self.notes, &notes)?;
+        Ok(Repainting {
+            notes,
+            reach,
+            memory,
+            lines,
+        })
+    }
+
     /// The syntax by which it is painted. Each line has its spans by it, which fit the line.
     pub fn syntax(&self) -> &Syntax
         ensures is { result.now ≡ self.now.syntax }
@@ -230,6 +319,16 @@ impl Colours for Painted {
 struct Noted {
     notes: ChunkList<Kept>,
     reach: Looked,
+}
+
+/// The painting of a text by another syntax, what the painter remembers of that, and the lines that
+/// show otherwise by it.
+#[derive(Drop)]
+struct Repainting {
+    notes: ChunkList<Kept>,
+    reach: Looked,
+    memory: PickMemory,
+    lines: List<usize>,
 }
 
 /// The notes of all lines of a text.
