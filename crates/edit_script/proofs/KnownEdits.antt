@@ -9,7 +9,7 @@ use Rattle.edit_script.specs.declared.commands.Resolved.TheVariants as does
 use Rattle.edit_script.specs.declared.commands.ResolveError.{ResolveError}
 use Rattle.edit_script.specs.declared.commands.ResolveError.TheVariants.{NoLine, Backwards, MoveIntoSelf, TooManyLines}
 use Rattle.edit_script.specs.declared.commands.Verb.{Verb}
-use Rattle.edit_script.specs.declared.commands.Verb.TheVariants.{Append, Insert, Change, Delete, Move, CopyTo, Print, Page, Folds}
+use Rattle.edit_script.specs.declared.commands.Verb.TheVariants.{Append, Insert, Change, Delete, Move, CopyTo, Print, Page, Folds, Syntax}
 use Rattle.edit_script.specs.Edits.{Replacement, edit_of, replaced, resolved_of}
 
 abbrev of : Last → Last → Verb → EditCommand
@@ -80,6 +80,13 @@ a_page = refl
 folds : (count : ℕ) → 1 ≤ count → resolved_of (of End End Folds) count ≡ Ok does.Folds
 folds count some = grind (arith, nat_tests)
 
+-- no text stands against another syntax, whatever its file is called
+syntaxes : (name : List ℕ) (count : ℕ) → 1 ≤ count → resolved_of (of End End (Syntax name)) count ≡ Ok does.Syntax
+syntaxes name count some = grind (arith, nat_tests)
+
+a_syntax_in_a_full_text : resolved_of (of End End (Syntax (codes "s2"))) 2000000 ≡ Ok does.Syntax
+a_syntax_in_a_full_text = refl
+
 lines_printed : resolved_of (of (Number 2) End Print) 3 ≡ Ok (does.Print 1 3)
 lines_printed = refl
 
@@ -145,6 +152,9 @@ printed = refl
 
 folded : edit_of three (of End End Folds) ≡ Ok None
 folded = refl
+
+under_another_syntax : edit_of three (of End End (Syntax (codes "s2"))) ≡ Ok None
+under_another_syntax = refl
 
 swapped : replaced three (record { a = 1; b = 3; new = c ∷ b ∷ [] }) ≡ a ∷ c ∷ b ∷ []
 swapped = refl

@@ -1,16 +1,18 @@
 -- Scripts, and what stands in them.
-use Rattle.std.proofs.Common.{◌≡◌, ℕ, List, [], ◌∷◌, ◌++◌, refl}
-use Rattle.std.specs.Prelude.{codes, Ok, Err}
-use Rattle.std.specs.Str.{chars, is_utf8}
+use Rattle.std.proofs.Common.{◌≡◌, ◌<◌, ℕ, List, [], ◌∷◌, ◌++◌, length, refl, ap}
+use Rattle.std.specs.Prelude.{codes, Some, Ok, Err}
+use Rattle.std.specs.Str.{chars, is_utf8, IsUtf8}
 use Rattle.std.proofs.Math.Utf8.{encode}
 use Rattle.edit_script.specs.declared.commands.Entry.{Entry}
 use Rattle.edit_script.specs.declared.commands.Last.{Last}
 use Rattle.edit_script.specs.declared.commands.Last.TheVariants.{Number, End}
 use Rattle.edit_script.specs.declared.commands.ScriptFault.{ScriptFault}
-use Rattle.edit_script.specs.declared.commands.ScriptFault.TheVariants.{BadCommand, BadAddress, UnfinishedText, BadUtf8}
+use Rattle.edit_script.specs.declared.commands.ScriptFault.TheVariants.{BadCommand, BadAddress, UnfinishedText, BadUtf8, LongLine}
 use Rattle.edit_script.specs.declared.commands.Verb.{Verb}
-use Rattle.edit_script.specs.declared.commands.Verb.TheVariants.{Append, Insert, Change, Delete, Move, CopyTo, Print, Page, Folds}
+use Rattle.edit_script.specs.declared.commands.Verb.TheVariants.{Append, Insert, Change, Delete, Move, CopyTo, Print, Page, Folds, Syntax}
+use Rattle.edit_script.specs.CommandLine.{alone, head_of, line_head, with_chars}
 use Rattle.edit_script.specs.Entries.{broken, entries_at_end, entries_of, kept_of}
+use Rattle.edit_script.proofs.TextLaws.{long_line}
 
 -- all entries of a script with these lines
 abbrev all : List (List ℕ) → List Entry
@@ -54,6 +56,24 @@ a_copy_and_a_page = refl
 folds : all (codes "F" ∷ codes "1p" ∷ []) ≡ told 0 End End Folds [] ∷ told 1 (Number 1) (Number 1) Print [] ∷ []
 unfolding chars encode is_utf8
 folds = refl
+
+-- the name is all that follows the one space
+a_syntax : all (codes "S s2" ∷ codes "1p" ∷ []) ≡ told 0 End End (Syntax (codes "s2")) [] ∷ told 1 (Number 1) (Number 1) Print [] ∷ []
+unfolding chars encode is_utf8
+a_syntax = refl
+
+every_name : (c : ℕ) (name : List ℕ) → head_of (codes "S " ++ c ∷ name) ≡ Some (alone (Syntax (c ∷ name)))
+every_name c name = refl
+
+any_name : all (codes "S -x" ∷ codes "S  x" ∷ codes "S S" ∷ codes "S  " ∷ codes "S a b " ∷ [])
+    ≡ told 0 End End (Syntax (codes "-x")) [] ∷ told 1 End End (Syntax (codes " x")) [] ∷ told 2 End End (Syntax (codes "S")) [] ∷ told 3 End End (Syntax (codes " ")) [] ∷ told 4 End End (Syntax (codes "a b ")) [] ∷ []
+unfolding chars encode is_utf8
+any_name = refl
+
+-- a name is characters: é is C3 A9 as bytes
+a_name_is_characters : all ((codes "S " ++ 195 ∷ 169 ∷ []) ∷ []) ≡ told 0 End End (Syntax (233 ∷ [])) [] ∷ []
+unfolding chars encode is_utf8
+a_name_is_characters = refl
 
 the_last_line : all (codes "$i" ∷ codes "x" ∷ codes "." ∷ codes "1,$t$" ∷ [])
     ≡ told 0 End End Insert (codes "x" ∷ []) ∷ told 3 (Number 1) End (CopyTo End) [] ∷ []
@@ -109,6 +129,11 @@ no_folds_of_a_range : all (codes "1F" ∷ codes "%F" ∷ codes "F " ∷ codes "F
 unfolding chars encode is_utf8
 no_folds_of_a_range = refl
 
+no_syntax_without_a_name : all (codes "S" ∷ codes "S " ∷ codes "1S x" ∷ codes "%S x" ∷ codes " S x" ∷ codes "s x" ∷ (codes "S" ++ 9 ∷ codes "x") ∷ codes "Sx" ∷ [])
+    ≡ refused 0 BadCommand ∷ refused 1 BadCommand ∷ refused 2 BadCommand ∷ refused 3 BadCommand ∷ refused 4 BadCommand ∷ refused 5 BadCommand ∷ refused 6 BadCommand ∷ refused 7 BadCommand ∷ []
+unfolding chars encode is_utf8
+no_syntax_without_a_name = refl
+
 -- what is no command takes no text
 no_command_no_text : all (codes "1,2a" ∷ codes "1d" ∷ codes "." ∷ [])
     ≡ refused 0 BadCommand ∷ told 1 (Number 1) (Number 1) Delete [] ∷ refused 2 BadCommand ∷ []
@@ -134,6 +159,13 @@ text_of_a_bad_address = refl
 no_utf8 : all ((255 ∷ []) ∷ codes "1d" ∷ []) ≡ refused 0 BadUtf8 ∷ told 1 (Number 1) (Number 1) Delete [] ∷ []
 unfolding chars encode is_utf8
 no_utf8 = refl
+
+no_utf8_in_a_name : all ((codes "S x" ++ 255 ∷ []) ∷ codes "S x" ∷ []) ≡ refused 0 BadUtf8 ∷ told 1 End End (Syntax (codes "x")) [] ∷ []
+unfolding chars encode is_utf8
+no_utf8_in_a_name = refl
+
+too_long_a_name : (name : List ℕ) → IsUtf8 (codes "S " ++ name) → 1000000 < length (chars (codes "S " ++ name)) → line_head (codes "S " ++ name) ≡ Err LongLine
+too_long_a_name name good long = ap with_chars (long_line (codes "S " ++ name) good long)
 
 -- a bad byte in the text comes before the address, and both before the missing dot
 order_of_faults : all (codes "0000000000000000001a" ∷ codes "x" ∷ (255 ∷ []) ∷ []) ≡ refused 0 BadUtf8 ∷ []

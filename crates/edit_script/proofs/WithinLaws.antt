@@ -3,7 +3,7 @@ use Rattle.std.proofs.Common.{◌≡◌, ℕ, ◌-◌, ◌<◌, ◌≤◌, Bool,
 use Rattle.std.specs.Prelude.{nat_le, nat_lt, ◌&&◌}
 use Rattle.std.proofs.lemmas.Bool.{le-leb, ltb-false}
 use Rattle.edit_script.specs.declared.commands.Verb.{Verb}
-use Rattle.edit_script.specs.declared.commands.Verb.TheVariants.{Append, Insert, Change, Delete, Move, CopyTo, Print, Page, Folds}
+use Rattle.edit_script.specs.declared.commands.Verb.TheVariants.{Append, Insert, Change, Delete, Move, CopyTo, Print, Page, Folds, Syntax}
 use Rattle.edit_script.specs.Edits.{IsWithin, least_line}
 use Rattle.edit_script.specs.Resolving.{is_into_self, resolved_at}
 
@@ -26,3 +26,4 @@ lies_within (CopyTo line) first last dest count least range within to none = (om
 lies_within Print first last dest count least range within to none = (omega arith, within)
 lies_within Page first last dest count least range within to none = tt
 lies_within Folds first last dest count least range within to none = tt
+lies_within (Syntax name) first last dest count least range within to none = tt

@@ -1,7 +1,8 @@
--- The line of a command: `H`, `F`, or a range, the letter of a verb and for `m` and `t` one address
--- more, with nothing behind. Before `a` and `i` stands one address. The form is asked for first,
--- with addresses of any number of digits.
-use Rattle.std.specs.Prelude.{ℕ, ◌==◌, nat_lt, not, Bool, true, false, List, [], ◌∷◌, length, codes, Option, Some, None, Result, Ok, Err, option_map, if◌then◌else◌}
+-- The line of a command: `H`; `F`; `S`, one space and the name of a syntax file, which goes up to
+-- the line's end; or a range, the letter of a verb and for `m` and `t` one address more, with
+-- nothing behind. Before `a` and `i` stands one address. The form is asked for first, with addresses
+-- of any number of digits.
+use Rattle.std.specs.Prelude.{ℕ, ◌==◌, nat_lt, not, ◌&&◌, Bool, true, false, List, [], ◌∷◌, length, codes, Option, Some, None, Result, Ok, Err, option_map, if◌then◌else◌}
 use Rattle.std.specs.Str.{bytes_eq, chars, is_utf8}
 use Rattle.text_buffer.specs.TextOfBytes.{most_chars}
 use Rattle.edit_script.specs.declared.commands.Last.{Last}
@@ -69,16 +70,32 @@ abbrev pub with_range : Option (Range × List ℕ) → Option Head
 with_range None = None
 with_range (Some found) = verb_behind found.0 found.1
 
+abbrev pub ranged : List ℕ → Option Head
+ranged text = with_range (range_at text)
+
+-- the name behind `S` and one space, which are 83 and 32: all that follows, if anything does
+abbrev pub syntax_name : List ℕ → Option (List ℕ)
+syntax_name [] = None
+syntax_name (letter ∷ []) = None
+syntax_name (letter ∷ space ∷ []) = None
+syntax_name (letter ∷ space ∷ c ∷ name) =
+    if letter == 83 && space == 32 then Some (c ∷ name) else None
+
 -- a verb that is the whole line has the last line as its range
 abbrev pub alone : Verb → Head
 alone verb = record { takes_text = false; order = order_of (Some End) (Some End) (Some verb) }
+
+-- a line that names a syntax file, or else one with a range
+abbrev pub syntax_or_range : Option (List ℕ) → List ℕ → Option Head
+syntax_or_range (Some name) text = Some (alone (does.Syntax name))
+syntax_or_range None text = ranged text
 
 -- what the characters of a line say, if they are the line of a command
 abbrev pub head_of : List ℕ → Option Head
 head_of text =
     if bytes_eq text (codes "H") then Some (alone does.Page)
     else if bytes_eq text (codes "F") then Some (alone does.Folds)
-    else with_range (range_at text)
+    else syntax_or_range (syntax_name text) text
 
 abbrev pub head_or_bad : Option Head → Result Head ScriptFault
 head_or_bad None = Err BadCommand

@@ -6,7 +6,7 @@ use Rattle.text_buffer.specs.TextOfBytes.{most_lines}
 use Rattle.edit_script.specs.declared.commands.Last.{Last}
 use Rattle.edit_script.specs.declared.commands.Last.TheVariants.{Number, End}
 use Rattle.edit_script.specs.declared.commands.Verb.{Verb}
-use Rattle.edit_script.specs.declared.commands.Verb.TheVariants.{Append, Insert, Change, Delete, Move, CopyTo, Print, Page, Folds}
+use Rattle.edit_script.specs.declared.commands.Verb.TheVariants.{Append, Insert, Change, Delete, Move, CopyTo, Print, Page, Folds, Syntax}
 use Rattle.edit_script.specs.declared.commands.EditCommand.{EditCommand}
 use Rattle.edit_script.specs.declared.commands.Resolved.{Resolved}
 use Rattle.edit_script.specs.declared.commands.Resolved.TheVariants as does
@@ -64,6 +64,7 @@ does_of (CopyTo to) first last count = does.CopyTo (first - 1) last (line_named 
 does_of Print first last count = does.Print (first - 1) last
 does_of Page first last count = does.Page
 does_of Folds first last count = does.Folds
+does_of (Syntax name) first last count = does.Syntax
 
 -- a text of so many lines would have too many afterwards
 abbrev pub too_many : ℕ → Option ResolveError
@@ -76,6 +77,7 @@ too_many_lines (does.CopyTo a b dest) new count = too_many (count + (b - a))
 too_many_lines (does.Print a b) new count = None
 too_many_lines does.Page new count = None
 too_many_lines does.Folds new count = None
+too_many_lines does.Syntax new count = None
 
 -- the first cause: the addresses from the left, then the range, the destination in it, the count
 abbrev pub first_cause : EditCommand → ℕ → Option ResolveError
@@ -108,6 +110,7 @@ IsWithin (does.CopyTo a b dest) count = (a < b) × (b ≤ count) × (dest ≤ co
 IsWithin (does.Print a b) count = (a < b) × (b ≤ count)
 IsWithin does.Page count = Unit {0}
 IsWithin does.Folds count = Unit {0}
+IsWithin does.Syntax count = Unit {0}
 
 -- ---- the one replacement that an edit is
 
@@ -142,6 +145,7 @@ replacement text (does.CopyTo a b dest) new = Some (lines_become dest dest (slic
 replacement text (does.Print a b) new = None
 replacement text does.Page new = None
 replacement text does.Folds new = None
+replacement text does.Syntax new = None
 
 abbrev pub replacement_or_cause :
     List (List ℕ) → Result Resolved ResolveError → List (List ℕ)

@@ -2,7 +2,7 @@
 use Rattle.std.specs.Prelude.{ℕ, ◌+◌, ◌-◌, nat_le, nat_lt, Bool, true, false, ◌&&◌, Option, Some, None}
 use Rattle.text_buffer.specs.TextOfBytes.{most_lines}
 use Rattle.edit_script.specs.declared.commands.Verb.{Verb}
-use Rattle.edit_script.specs.declared.commands.Verb.TheVariants.{Append, Insert, Change, Delete, Move, CopyTo, Print, Page, Folds}
+use Rattle.edit_script.specs.declared.commands.Verb.TheVariants.{Append, Insert, Change, Delete, Move, CopyTo, Print, Page, Folds, Syntax}
 use Rattle.edit_script.specs.declared.commands.Resolved.{Resolved}
 use Rattle.edit_script.specs.declared.commands.Resolved.TheVariants as does
 use Rattle.edit_script.specs.declared.commands.ResolveError.{ResolveError}
@@ -29,6 +29,7 @@ resolved_at (CopyTo to) first last dest = does.CopyTo (first - 1) last dest
 resolved_at Print first last dest = does.Print (first - 1) last
 resolved_at Page first last dest = does.Page
 resolved_at Folds first last dest = does.Folds
+resolved_at (Syntax name) first last dest = does.Syntax
 
 abbrev pub has_too_many : ℕ → ℕ → Bool
 has_too_many kept new = nat_lt most_lines (kept + new)

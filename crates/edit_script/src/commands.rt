@@ -10,7 +10,7 @@ pub enum Last {
 }
 
 /// What a command does (`:append`, `:insert`, `:change`, `:delete`, `:move`, `:copy`). In a script
-/// these are `a`, `i`, `c`, `d`, `m`, `t`, `p`, `H` and `F`.
+/// these are `a`, `i`, `c`, `d`, `m`, `t`, `p`, `H`, `F` and `S`.
 #[derive(Drop)]
 pub enum Verb {
     /// Puts the text behind the line.
@@ -30,13 +30,15 @@ pub enum Verb {
     Page,
     /// Prints the folds of the text (`:syn-fold`).
     Folds,
+    /// Puts the syntax of the file with this name in force. The name isn't empty.
+    Syntax(List<char>),
 }
 
 /// A command of a script.
 #[derive(Drop)]
 pub struct EditCommand {
-    /// The first line. A command with one address has it as `first` and `last`; `Page` and `Folds`
-    /// have `End`.
+    /// The first line. A command with one address has it as `first` and `last`; `Page`, `Folds` and
+    /// `Syntax` have `End`.
     pub first: Last,
     pub last: Last,
     pub verb: Verb,
@@ -80,6 +82,8 @@ pub enum Resolved {
     Print { a: usize, b: usize },
     Page,
     Folds,
+    /// The syntax of the file that the command names is put in force.
+    Syntax,
 }
 
 /// Why a command can't be carried out on a text of so many lines. Of several that meet the first is

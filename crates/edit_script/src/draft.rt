@@ -48,7 +48,7 @@ pub(crate) fn line_head(alloc: Global, bytes: &[u8]) -> Result<Result<Head, Scri
 {
     match line_chars(alloc, bytes)? {
         Err(fault) => Ok(Err(fault)),
-        Ok(text) => match head_of(text.as_slice()) {
+        Ok(text) => match head_of(alloc, text.as_slice())? {
             None => Ok(Err(ScriptFault::BadCommand)),
             Some(head) => Ok(Ok(head)),
         },

@@ -1,9 +1,11 @@
 //! The line of a command.
-ghost use Rattle.std.specs.Prelude.{◌≡◌, Some, None, MatchOption};
+ghost use Rattle.std.specs.Prelude.{◌≡◌, Some, None, IfOk, MatchOption};
 ghost use Rattle.edit_script.specs.CommandLine as spec;
 
 use crate::addresses::{Range, address_at, range_at};
 use crate::{Last, Verb};
+use std::alloc::Global;
+use syn_base::{List, Memory};
 use text_scan::front;
 
 /// A command beside its text.
@@ -114,16 +116,42 @@ fn alone(verb: Verb) -> Head
     }
 }
 
-/// What the characters of a line say, if they are the line of a command.
-pub(crate) fn head_of(text: &[char]) -> Option<Head>
-    ensures { result ≡ spec.head_of text.now }
+/// A range and its verb, up to the end of the line.
+fn ranged(text: &[char]) -> Option<Head>
+    ensures { result ≡ spec.ranged text.now }
+{
+    let (range, rest) = range_at(text)?;
+    verb_behind(range, rest)
+}
+
+/// The name of a syntax file behind `S` and one space. It isn't empty.
+fn syntax_name(text: &[char]) -> Option<&[char]>
+    ensures { MatchOption result (spec.syntax_name text.now ≡ None)
+        (λ name. spec.syntax_name text.now ≡ Some name.now) }
 {
     match text {
-        ['H'] => Some(alone(Verb::Page)),
-        ['F'] => Some(alone(Verb::Folds)),
-        _ => {
-            let (range, rest) = range_at(text)?;
-            verb_behind(range, rest)
-        }
+        ['S', ' ', name @ ..] if !name.is_empty() => Some(name),
+        _ => None,
+    }
+}
+
+/// The command that puts the syntax of this file in force.
+fn with_syntax(alloc: Global, name: &[char]) -> Result<Head, Memory>
+    ensures { IfOk result (λ head. head ≡ spec.alone (spec.does.Syntax name.now)) }
+{
+    Ok(alone(Verb::Syntax(List::from_slice(alloc, name)?)))
+}
+
+/// What the characters of a line say, if they are the line of a command.
+pub(crate) fn head_of(alloc: Global, text: &[char]) -> Result<Option<Head>, Memory>
+    ensures { IfOk result (λ head. head ≡ spec.head_of text.now) }
+{
+    match text {
+        ['H'] => Ok(Some(alone(Verb::Page))),
+        ['F'] => Ok(Some(alone(Verb::Folds))),
+        _ => match syntax_name(text) {
+            Some(name) => Ok(Some(with_syntax(alloc, name)?)),
+            None => Ok(ranged(text)),
+        },
     }
 }

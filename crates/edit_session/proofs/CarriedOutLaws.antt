@@ -1,42 +1,55 @@
 -- Commands that are carried out refuse nothing.
 use Rattle.std.proofs.Common.{◌≡◌, ℕ, List, [], ◌∷◌, length, false, refl, ◌∙◌}
-use Rattle.std.specs.Prelude.{Result, Ok, Err, IsOk}
+use Rattle.std.specs.Prelude.{Option, Some, None, Result, Ok, Err, IsOk}
 use Rattle.syn_base.specs.declared.places.Span.{Span}
 use Rattle.edit_script.specs.declared.commands.EditCommand.{EditCommand}
 use Rattle.edit_script.specs.declared.commands.Entry.{Entry}
 use Rattle.edit_script.specs.declared.commands.ResolveError.{ResolveError}
 use Rattle.edit_script.specs.declared.commands.Resolved.{Resolved}
-use Rattle.edit_script.specs.declared.commands.Resolved.TheVariants.{Replace, Move, CopyTo, Print, Page, Folds}
+use Rattle.edit_script.specs.declared.commands.Resolved.TheVariants.{Replace, Move, CopyTo, Print, Page, Folds, Syntax}
 use Rattle.edit_script.specs.declared.commands.ScriptFault.{ScriptFault}
 use Rattle.edit_script.specs.Edits.{Replacement, moved, put_in_place, replaced, replacement_or_cause, resolved_of}
-use Rattle.edit_session.specs.Laws.{AreCarriedOut, GoesThrough, IsCarriedOut}
-use Rattle.edit_session.specs.Painter.{Painter, Painted}
-use Rattle.edit_session.specs.Session.{Standing, answers, entries_read, obeys, script_session, session, start, with_painting}
+use Rattle.edit_session.specs.Laws.{AreCarriedOut, CommandGoesThrough, GoesThrough, IsCarriedOut, IsTaken}
+use Rattle.edit_session.specs.Painter.{Library, Painter, Painted}
+use Rattle.edit_session.specs.Session.{Standing, answers, does, entries_read, obeys, script_session, session, start, syntax_named, with_painter, with_painting, with_syntax}
 
-painted_well : (p : Painter) (s : Standing) (line : ℕ) (r : Replacement) (painting : Result (List (List Span)) (List ℕ)) → IsOk painting → (with_painting p s line r painting).stands.refused ≡ s.refused
-painted_well p s line r (Ok spans) is = refl
-painted_well p s line r (Err cause) is = absurd (cc)
+painted_well : (s : Standing) (line : ℕ) (r : Replacement) (painting : Result (List (List Span)) (List ℕ)) → IsOk painting → (with_painting s line r painting).stands.refused ≡ s.refused
+painted_well s line r (Ok spans) is = refl
+painted_well s line r (Err cause) is = absurd (cc)
 
-obeyed_well : (p : Painter) (s : Standing) (line : ℕ) (lines : List (List ℕ)) (found : Result Resolved ResolveError) → GoesThrough p s.painted.text (replacement_or_cause s.painted.text found lines) → (obeys p s line lines found).stands.refused ≡ s.refused
-obeyed_well p s line lines (Ok (Replace a b)) is =
-    let r = put_in_place s.painted.text a b lines in painted_well p s line r (p.paint (replaced s.painted.text r)) is
-obeyed_well p s line lines (Ok (Move a b dest)) is =
-    let r = moved s.painted.text a b dest in painted_well p s line r (p.paint (replaced s.painted.text r)) is
-obeyed_well p s line lines (Ok (CopyTo a b dest)) is = painted_well p s line _ _ is
-obeyed_well p s line lines (Ok (Print a b)) is = refl
-obeyed_well p s line lines (Ok Page) is = refl
-obeyed_well p s line lines (Ok Folds) is = refl
-obeyed_well p s line lines (Err misfit) is = absurd is
+obeyed_well : (s : Standing) (line : ℕ) (lines : List (List ℕ)) (found : Result Resolved ResolveError) → GoesThrough s.painter s.painted.text (replacement_or_cause s.painted.text found lines) → (obeys s line lines found).stands.refused ≡ s.refused
+obeyed_well s line lines (Ok (Replace a b)) is =
+    let r = put_in_place s.painted.text a b lines in painted_well s line r (s.painter.paint (replaced s.painted.text r)) is
+obeyed_well s line lines (Ok (Move a b dest)) is =
+    let r = moved s.painted.text a b dest in painted_well s line r (s.painter.paint (replaced s.painted.text r)) is
+obeyed_well s line lines (Ok (CopyTo a b dest)) is = painted_well s line _ _ is
+obeyed_well s line lines (Ok (Print a b)) is = refl
+obeyed_well s line lines (Ok Page) is = refl
+obeyed_well s line lines (Ok Folds) is = refl
+obeyed_well s line lines (Ok Syntax) is = refl
+obeyed_well s line lines (Err misfit) is = absurd is
 
-answered_well : (p : Painter) (s : Standing) (line : ℕ) (what : Result EditCommand ScriptFault) → IsCarriedOut p s.painted.text what → (answers p s line what).stands.refused ≡ s.refused
-answered_well p s line (Ok command) is =
-    obeyed_well p s line command.lines (resolved_of command (length s.painted.text)) is
-answered_well p s line (Err fault) is = absurd is
+painted_by : (s : Standing) (line : ℕ) (q : Painter) (painting : Result (List (List Span)) (List ℕ)) → IsOk painting → (with_painter s line q painting).stands.refused ≡ s.refused
+painted_by s line q (Ok spans) is = refl
+painted_by s line q (Err cause) is = absurd (cc)
 
-pub none_refused : (p : Painter) (s : Standing) (entries : List Entry) → AreCarriedOut p s entries → (session p s entries).stands.refused ≡ s.refused
-none_refused p s [] are = refl
-none_refused p s (entry ∷ entries) are =
-    none_refused p (answers p s entry.line entry.what).stands entries are.1 ∙ answered_well p s entry.line entry.what are.0
+taken_well : (s : Standing) (line : ℕ) (read : Result Painter (List ℕ)) → IsTaken read s.painted.text → (with_syntax s line read).stands.refused ≡ s.refused
+taken_well s line (Ok q) is = painted_by s line q (q.paint s.painted.text) is
+taken_well s line (Err words) is = absurd is
 
-pub none_of_script : (p : Painter) (painted : Painted) (bytes : List ℕ) → AreCarriedOut p (start painted) (entries_read bytes) → (script_session p painted bytes).stands.refused ≡ false
-none_of_script p painted bytes are = none_refused p (start painted) (entries_read bytes) are
+done_well : (library : Library) (s : Standing) (line : ℕ) (command : EditCommand) (named : Option (List ℕ)) → CommandGoesThrough library s command named → (does library s line command named).stands.refused ≡ s.refused
+done_well library s line command (Some name) is = taken_well s line (library.reads name) is
+done_well library s line command None is =
+    obeyed_well s line command.lines (resolved_of command (length s.painted.text)) is
+
+answered_well : (library : Library) (s : Standing) (line : ℕ) (what : Result EditCommand ScriptFault) → IsCarriedOut library s what → (answers library s line what).stands.refused ≡ s.refused
+answered_well library s line (Ok command) is = done_well library s line command (syntax_named command.verb) is
+answered_well library s line (Err fault) is = absurd is
+
+pub none_refused : (library : Library) (s : Standing) (entries : List Entry) → AreCarriedOut library s entries → (session library s entries).stands.refused ≡ s.refused
+none_refused library s [] are = refl
+none_refused library s (entry ∷ entries) are =
+    none_refused library (answers library s entry.line entry.what).stands entries are.1 ∙ answered_well library s entry.line entry.what are.0
+
+pub none_of_script : (library : Library) (p : Painter) (painted : Painted) (bytes : List ℕ) → AreCarriedOut library (start p painted) (entries_read bytes) → (script_session library (start p painted) bytes).stands.refused ≡ false
+none_of_script library p painted bytes are = none_refused library (start p painted) (entries_read bytes) are

@@ -8,8 +8,8 @@ use Rattle.syn_base.specs.Outside.{appended}
 use Rattle.edit_script.specs.declared.commands.Entry.{Entry}
 use Rattle.edit_script.specs.Entries.{entries_at_end, entries_of}
 use Rattle.edit_session.specs.Ends.{ReadsOver, ReadsToEnd, SinkChange, SourceChange, Takes, TakesFew}
-use Rattle.edit_session.specs.Painter.{Painted, Painter}
-use Rattle.edit_session.specs.Session.{Answer, entries_read, is_too_long, most_bytes, script_session, session, start}
+use Rattle.edit_session.specs.Painter.{Library}
+use Rattle.edit_session.specs.Session.{Answer, Standing, entries_read, is_too_long, most_bytes, script_session, session}
 
 -- of a source that is as it was none were taken
 pub untouched_few : (source : SourceChange) → source.after ≡ source.before → TakesFew source
@@ -33,13 +33,13 @@ all_taken bytes all (Some rest) taken ended =
 short : (bytes : List ℕ) → length bytes ≤ most_bytes → is_too_long bytes ≡ false
 short bytes few = grind (arith, nat_tests)
 
-pub whole_told : (p : Painter) (painted : Painted) (refused : Bool) (source : SourceChange) (sink : SinkChange) (all : List ℕ) → ReadsToEnd p (start painted) refused source sink → source.before ≡ Some all → (is_too_long all ≡ false) × (sink.after ≡ appended sink.before (script_session p painted all).text) × ((script_session p painted all).stands.refused ≡ refused)
-whole_told p painted refused source sink all read told =
+pub whole_told : (library : Library) (s : Standing) (refused : Bool) (source : SourceChange) (sink : SinkChange) (all : List ℕ) → ReadsToEnd library s refused source sink → source.before ≡ Some all → (is_too_long all ≡ false) × (sink.after ≡ appended sink.before (script_session library s all).text) × ((script_session library s all).stands.refused ≡ refused)
+whole_told library s refused source sink all read told =
     let T : Option (List ℕ) → Type 0 = λ l. Takes read.bytes l source.after in
     let same : all ≡ read.bytes = all_taken read.bytes all source.after (subst T told read.taken) read.ended in
     let brief : is_too_long all ≡ false = ap is_too_long same ∙ short read.bytes read.few in
     let entries : entries_read all ≡ entries_at_end 0 read.bytes = ap (λ (long : Bool). if long then entries_of 0 (take most_bytes all) else entries_at_end 0 all) brief ∙ ap (entries_at_end 0) same in
-    let answer : script_session p painted all ≡ session p (start painted) (entries_at_end 0 read.bytes) = ap (session p (start painted)) entries in
+    let answer : script_session library s all ≡ session library s (entries_at_end 0 read.bytes) = ap (session library s) entries in
     (brief, read.written ∙ ap (λ (a : Answer). appended sink.before a.text) (sym answer), ap (λ (a : Answer). a.stands.refused) answer ∙ read.refusals)
 
 -- more bytes were taken than are read
@@ -50,8 +50,8 @@ over_taken bytes all (Some rest) taken = (rest, cc)
 long : (bytes : List ℕ) → most_bytes < length bytes → is_too_long bytes ≡ true
 long bytes many = grind (arith, nat_tests)
 
-pub over_told : (p : Painter) (painted : Painted) (source : SourceChange) (sink : SinkChange) (all : List ℕ) → ReadsOver p (start painted) source sink → source.before ≡ Some all → (is_too_long all ≡ true) × (sink.after ≡ appended sink.before (script_session p painted all).text)
-over_told p painted source sink all read told =
+pub over_told : (library : Library) (s : Standing) (source : SourceChange) (sink : SinkChange) (all : List ℕ) → ReadsOver library s source sink → source.before ≡ Some all → (is_too_long all ≡ true) × (sink.after ≡ appended sink.before (script_session library s all).text)
+over_told library s source sink all read told =
     let T : Option (List ℕ) → Type 0 = λ l. Takes (read.bytes ++ read.more) l source.after in
     let taken = over_taken (read.bytes ++ read.more) all source.after (subst T told read.taken) in
     let is : all ≡ read.bytes ++ (read.more ++ taken.0) = taken.1 ∙ append_assoc read.bytes read.more taken.0 in
@@ -62,4 +62,4 @@ over_told p painted source sink all read told =
     let verbose : is_too_long all ≡ true = long all many in
     let front : take most_bytes all ≡ read.bytes = ap (take most_bytes) is ∙ ap (λ n. take n (read.bytes ++ (read.more ++ taken.0))) (sym read.most) ∙ take-append_seam read.bytes (read.more ++ taken.0) in
     let entries : entries_read all ≡ entries_of 0 read.bytes = ap (λ (b : Bool). if b then entries_of 0 (take most_bytes all) else entries_at_end 0 all) verbose ∙ ap (entries_of 0) front in
-    (verbose, read.written ∙ ap (λ (es : List Entry). appended sink.before (session p (start painted) es).text) (sym entries))
+    (verbose, read.written ∙ ap (λ (es : List Entry). appended sink.before (session library s es).text) (sym entries))

@@ -6,11 +6,12 @@ use Rattle.std.proofs.lemmas.Bool.Decides.{nat_tests}
 use Rattle.text_buffer.specs.TextOfBytes.{most_lines}
 use Rattle.edit_script.specs.declared.commands.Last.{Last}
 use Rattle.edit_script.specs.declared.commands.Verb.{Verb}
-use Rattle.edit_script.specs.declared.commands.Verb.TheVariants.{Append, Insert, Change, Delete, Move, CopyTo, Print, Page, Folds}
+use Rattle.edit_script.specs.declared.commands.Verb.TheVariants.{Append, Insert, Change, Delete, Move, CopyTo, Print, Page, Folds, Syntax}
 use Rattle.edit_script.specs.declared.commands.EditCommand.{EditCommand}
 use Rattle.edit_script.specs.declared.commands.Resolved.{Resolved}
 use Rattle.edit_script.specs.declared.commands.ResolveError.{ResolveError}
 use Rattle.edit_script.specs.Edits.{backwards, destination_outside, does_of, first_cause, into_self, least_line, line_named, moved, or_else, outside, Replacement, replaced, resolved_of, too_many, too_many_lines, unless}
+use Rattle.edit_session.specs.Session.{syntax_named}
 use Rattle.edit_session.specs.Steps.{FitsText}
 
 -- no cause stands against it
@@ -35,21 +36,22 @@ ordered_of first last none = grind (arith, nat_tests)
 few_of : (lines : ℕ) → too_many lines ≡ None → lines ≤ most_lines
 few_of lines none = grind (arith, nat_tests)
 
-fits_does : (verb : Verb) (first last count new : ℕ) → first ≤ count → last ≤ count → destination_outside verb count ≡ None → first ≤ last → too_many_lines (does_of verb first last count) new count ≡ None → FitsText count new (does_of verb first last count)
-fits_does Append first last count new in_first in_last dest ordered few = (omega arith, in_last, few_of _ few)
-fits_does Insert first last count new in_first in_last dest ordered few = (omega arith, omega arith, few_of _ few)
-fits_does Change first last count new in_first in_last dest ordered few = (omega arith, in_last, few_of _ few)
-fits_does Delete first last count new in_first in_last dest ordered few = (omega arith, in_last, few_of _ few)
-fits_does (Move to) first last count new in_first in_last dest ordered few =
+fits_does : (verb : Verb) (first last count new : ℕ) → syntax_named verb ≡ None → first ≤ count → last ≤ count → destination_outside verb count ≡ None → first ≤ last → too_many_lines (does_of verb first last count) new count ≡ None → FitsText count new (does_of verb first last count)
+fits_does Append first last count new other in_first in_last dest ordered few = (omega arith, in_last, few_of _ few)
+fits_does Insert first last count new other in_first in_last dest ordered few = (omega arith, omega arith, few_of _ few)
+fits_does Change first last count new other in_first in_last dest ordered few = (omega arith, in_last, few_of _ few)
+fits_does Delete first last count new other in_first in_last dest ordered few = (omega arith, in_last, few_of _ few)
+fits_does (Move to) first last count new other in_first in_last dest ordered few =
     (omega arith, in_last, (within_of 0 to count dest).1, few_of _ few)
-fits_does (CopyTo to) first last count new in_first in_last dest ordered few =
+fits_does (CopyTo to) first last count new other in_first in_last dest ordered few =
     (omega arith, in_last, (within_of 0 to count dest).1, few_of _ few)
-fits_does Print first last count new in_first in_last dest ordered few = (omega arith, in_last)
-fits_does Page first last count new in_first in_last dest ordered few = tt
-fits_does Folds first last count new in_first in_last dest ordered few = tt
+fits_does Print first last count new other in_first in_last dest ordered few = (omega arith, in_last)
+fits_does Page first last count new other in_first in_last dest ordered few = tt
+fits_does Folds first last count new other in_first in_last dest ordered few = tt
+fits_does (Syntax name) first last count new other in_first in_last dest ordered few = absurd (cc)
 
-pub fits_of : (command : EditCommand) (count : ℕ) (resolved : Resolved) → resolved_of command count ≡ Ok resolved → FitsText count (length command.lines) resolved
-fits_of command count resolved is =
+pub fits_of : (command : EditCommand) (count : ℕ) (resolved : Resolved) → syntax_named command.verb ≡ None → resolved_of command count ≡ Ok resolved → FitsText count (length command.lines) resolved
+fits_of command count resolved other is =
     let verb = command.verb in
     let first = line_named command.first count in
     let last = line_named command.last count in
@@ -61,12 +63,12 @@ fits_of command count resolved is =
     let e = none_first (into_self verb first last count) _ d.1 in
     let P : Resolved → Type 0 = FitsText count (length command.lines) in
     subst P whole.1
-    (fits_does verb first last count (length command.lines) (within_of (least_line verb) command.first count a.0).1 (within_of (least_line verb) command.last count b.0).1 c.0 (ordered_of first last d.0) e.1)
+    (fits_does verb first last count (length command.lines) other (within_of (least_line verb) command.first count a.0).1 (within_of (least_line verb) command.last count b.0).1 c.0 (ordered_of first last d.0) e.1)
 
-pub fits_text : (command : EditCommand) (text : List (List ℕ)) (count : ℕ) (resolved : Resolved) → count ≡ length text → resolved_of command count ≡ Ok resolved → FitsText (length text) (length command.lines) resolved
-fits_text command text count resolved counted is =
+pub fits_text : (command : EditCommand) (text : List (List ℕ)) (count : ℕ) (resolved : Resolved) → syntax_named command.verb ≡ None → count ≡ length text → resolved_of command count ≡ Ok resolved → FitsText (length text) (length command.lines) resolved
+fits_text command text count resolved other counted is =
     let P : ℕ → Type 0 = λ n. FitsText n (length command.lines) resolved in
-    subst P counted (fits_of command count resolved is)
+    subst P counted (fits_of command count resolved other is)
 
 -- ---- texts keep some line
 

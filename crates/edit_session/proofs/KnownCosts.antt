@@ -1,13 +1,13 @@
 -- What the commands of a script may paint, where each painting paints the whole of a changed text, and is refused of
 -- more than two lines.
 use Rattle.std.proofs.Common.{◌≡◌, ℕ, List, [], ◌∷◌, length, map, refl}
-use Rattle.std.specs.Prelude.{codes, nat_lt, Ok, Err, if◌then◌else◌}
+use Rattle.std.specs.Prelude.{codes, nat_lt, None, Ok, Err, if◌then◌else◌}
 use Rattle.std.specs.Str.{chars, is_utf8}
 use Rattle.std.proofs.Math.Utf8.{encode}
 use Rattle.syn_base.specs.declared.places.Span.{Span}
 use Rattle.edit_script.specs.Edits.{replaced}
 use Rattle.edit_script.specs.Entries.{entries_at_end}
-use Rattle.edit_session.specs.Painter.{Painted, Painter}
+use Rattle.edit_session.specs.Painter.{Library, Painted, Painter}
 use Rattle.edit_session.specs.Session.{session_costs, start}
 
 abbrev without_spans : List (List ℕ) → List (List Span)
@@ -21,13 +21,18 @@ painter = record {
   line = λ number spans. [];
   page = λ text spans. [];
   folds = λ text. [];
+  shows = λ spans. [];
 }
+
+-- no file is told of
+abbrev library : Library
+library = record { reads = λ name. Err []; unread = λ name number. None }
 
 abbrev one_line : Painted
 one_line = record { text = codes "x" ∷ []; spans = [] ∷ [] }
 
 abbrev costs_of : List ℕ → ℕ
-costs_of script = session_costs painter (start one_line) (entries_at_end 0 script)
+costs_of script = session_costs library (start painter one_line) (entries_at_end 0 script)
 
 -- a text of two lines, and one of three that is refused: both count
 accepted_and_refused : costs_of (codes "$a\ny\n.\n1t0\n") ≡ 5

@@ -1,7 +1,9 @@
 pub mod FitLaws
 pub mod SessionLaws
 pub mod ReadingLaws
+pub mod CauseLaws
 pub mod LineLaws
 pub mod EndLaws
 pub mod CarriedOutLaws
 pub mod KnownCosts
+pub mod KnownSyntaxes

@@ -6,8 +6,8 @@ use Rattle.edit_script.specs.declared.commands.Entry.{Entry}
 use Rattle.edit_script.specs.declared.commands.ResolveError.{ResolveError}
 use Rattle.edit_script.specs.declared.commands.ScriptFault.{ScriptFault}
 use Rattle.edit_script.specs.Edits.{Replacement, edit_of, replaced}
-use Rattle.edit_session.specs.Painter.{Painter, Painted}
-use Rattle.edit_session.specs.Session.{Standing, answers, entries_read, script_session, session, start}
+use Rattle.edit_session.specs.Painter.{Library, Painted, Painter}
+use Rattle.edit_session.specs.Session.{Standing, answers, entries_read, script_session, session, start, syntax_named}
 
 -- a command that was resolved on a text goes through where the painting of the changed text is accepted, and
 -- where it changes none; one that wasn't resolved doesn't
@@ -16,25 +16,35 @@ GoesThrough p text (Ok (Some r)) = IsOk (p.paint (replaced text r))
 GoesThrough p text (Ok None) = ⊤
 GoesThrough p text (Err misfit) = ⊥
 
--- what stands in a line of the script is a command, and it goes through
-abbrev pub IsCarriedOut : Painter → List (List ℕ) → Result EditCommand ScriptFault → Type 0
-IsCarriedOut p text (Ok command) = GoesThrough p text (edit_of text command)
-IsCarriedOut p text (Err fault) = ⊥
+-- a syntax goes through where its file is accepted, and the painting of the text by it
+abbrev pub IsTaken : Result Painter (List ℕ) → List (List ℕ) → Type 0
+IsTaken (Ok q) text = IsOk (q.paint text)
+IsTaken (Err words) text = ⊥
 
--- each of them is, on the text that those before it left
-abbrev pub AreCarriedOut : Painter → Standing → List Entry → Type 0
-AreCarriedOut p s [] = ⊤
-AreCarriedOut p s (entry ∷ entries) =
-    IsCarriedOut p s.painted.text entry.what × AreCarriedOut p (answers p s entry.line entry.what).stands entries
+abbrev pub CommandGoesThrough : Library → Standing → EditCommand → Option (List ℕ) → Type 0
+CommandGoesThrough library s command (Some name) = IsTaken (library.reads name) s.painted.text
+CommandGoesThrough library s command None = GoesThrough s.painter s.painted.text (edit_of s.painted.text command)
+
+-- what stands in a line of the script is a command, and it goes through
+abbrev pub IsCarriedOut : Library → Standing → Result EditCommand ScriptFault → Type 0
+IsCarriedOut library s (Ok command) = CommandGoesThrough library s command (syntax_named command.verb)
+IsCarriedOut library s (Err fault) = ⊥
+
+-- each of them is, on what those before it left
+abbrev pub AreCarriedOut : Library → Standing → List Entry → Type 0
+AreCarriedOut library s [] = ⊤
+AreCarriedOut library s (entry ∷ entries) =
+    IsCarriedOut library s entry.what × AreCarriedOut library (answers library s entry.line entry.what).stands entries
 
 -- then the session refuses none of them
 abbrev pub SessionsRefuseNone : Type 0
 SessionsRefuseNone =
-    (p : Painter) (s : Standing) (entries : List Entry)
-    → AreCarriedOut p s entries → (session p s entries).stands.refused ≡ s.refused
+    (library : Library) (s : Standing) (entries : List Entry)
+    → AreCarriedOut library s entries → (session library s entries).stands.refused ≡ s.refused
 
 -- and at the end of such a script no command was refused
 abbrev pub ScriptsRefuseNone : Type 0
 ScriptsRefuseNone =
-    (p : Painter) (painted : Painted) (bytes : List ℕ)
-    → AreCarriedOut p (start painted) (entries_read bytes) → (script_session p painted bytes).stands.refused ≡ false
+    (library : Library) (p : Painter) (painted : Painted) (bytes : List ℕ)
+    → AreCarriedOut library (start p painted) (entries_read bytes)
+    → (script_session library (start p painted) bytes).stands.refused ≡ false

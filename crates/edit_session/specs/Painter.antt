@@ -1,8 +1,12 @@
--- What a session of edits asks of its painter.
-use Rattle.std.specs.Prelude.{◌≡◌, ℕ, List, length, Result, Ok, Err}
+-- What a session of edits asks of its painter, which stands for the syntax in force, and of the files in
+-- which further syntaxes lie.
+use Rattle.std.specs.Prelude.{◌≡◌, ℕ, List, length, Option, Some, Result, Ok, Err, ⊤}
 use Rattle.syn_base.specs.declared.places.Span.{Span}
+use Rattle.command_print.specs.Shown.{Shown, lines_shown_otherwise}
 use Rattle.edit_session.specs.declared.document.Unedited.{Unedited}
 use Rattle.edit_session.specs.declared.document.Unedited.TheVariants as unedited
+use Rattle.edit_session.specs.declared.document.Untaken.{Untaken}
+use Rattle.edit_session.specs.declared.document.Untaken.TheVariants as untaken
 use Rattle.edit_script.specs.Edits.{Replacement, replaced}
 
 pub record Painter : Type 0 where
@@ -20,6 +24,15 @@ pub record Painter : Type 0 where
   pub page : List (List ℕ) → List (List Span) → List ℕ
   -- the folds of a text, painted from its first line on, a line for each
   pub folds : List (List ℕ) → List ℕ
+  -- what lines of these spans show by name
+  pub shows : List (List Span) → List (List Shown)
+
+-- what the files say of the syntaxes that a script names
+pub record Library : Type 0 where
+  -- the painter by the syntax in the file of this name, or the words that tell why that is refused
+  pub reads : List ℕ → Result Painter (List ℕ)
+  -- the line for a file that can't be read, where reading that syntax comes to it in the fetch of this number
+  pub unread : List ℕ → ℕ → Option (List ℕ)
 
 -- the lines that are told of a replacement
 abbrev pub told_lines : Painter → List (List Span) → List (List Span) → Replacement → List ℕ
@@ -40,3 +53,41 @@ Edits p r before after (Ok told) =
 Edits p r before after (Err (unedited.Refused cause)) =
     (p.paint (replaced before.text r) ≡ Err cause) × (after ≡ before)
 Edits p r before after (Err unedited.Memory) = after ≡ before
+
+-- ---- another syntax
+
+-- the lines that are told where a text is painted by another syntax: those that show otherwise by name
+abbrev pub told_otherwise : Painter → Painter → List (List Span) → List (List Span) → List ℕ
+told_otherwise p q before after = lines_shown_otherwise (p.shows before) (q.shows after)
+
+-- the line tells a file that can't be read, for which the syntax of this name asks
+pub record IsUnread (library : Library) (name line : List ℕ) : Type 0 where
+  pub number : ℕ
+  pub told : library.unread name number ≡ Some line
+
+-- a text painted by another painter: its spans are those, and the lines to tell were answered
+pub record IsPaintedBy (p q : Painter) (before after : Painted) (told : List ℕ) : Type 0 where
+  pub text : after.text ≡ before.text
+  pub spans : q.paint before.text ≡ Ok after.spans
+  pub lines : told ≡ told_otherwise p q before.spans after.spans
+
+-- the words refuse a syntax: its file is refused, or the painting of the text by it
+abbrev pub RefusesSyntax : Result Painter (List ℕ) → List (List ℕ) → List ℕ → Type 0
+RefusesSyntax (Ok q) text words = q.paint text ≡ Err words
+RefusesSyntax (Err cause) text words = words ≡ cause
+
+-- the syntax of this name was put in force; or it was refused, a file couldn't be read, or memory ran out, and all is
+-- as it was
+abbrev pub TakesSyntax :
+    Library → List ℕ → Painter → Painter → Painted → Painted → Result (List ℕ) Untaken → Type 0
+TakesSyntax library name p q before after (Ok told) =
+    (library.reads name ≡ Ok q) × IsPaintedBy p q before after told
+TakesSyntax library name p q before after (Err (untaken.Refused words)) =
+    RefusesSyntax (library.reads name) before.text words
+TakesSyntax library name p q before after (Err (untaken.Unread line)) = IsUnread library name line
+TakesSyntax library name p q before after (Err untaken.Memory) = ⊤
+
+-- how many lines may be painted for it, at most: those of the text, where the file is accepted
+abbrev pub syntax_costs : Result Painter (List ℕ) → List (List ℕ) → ℕ
+syntax_costs (Ok q) text = length text
+syntax_costs (Err words) text = 0

@@ -1,5 +1,6 @@
--- A session of edits: the commands of a script, carried out one after the other on the text as it is. The
--- text is painted anew, from its first line on, at each command that changes it.
+-- A session of edits: the commands of a script, carried out one after the other on the text as it is and by
+-- the syntax then in force. The text is painted anew, from its first line on, at each command that changes
+-- either.
 use Rattle.std.specs.Prelude.{ℕ, ◌+◌, ◌-◌, nat_lt, Bool, true, false, List, [], ◌∷◌, ◌++◌, length, take, slice_range, get_or, Option, Some, None, Result, Ok, Err, if◌then◌else◌}
 use Rattle.std.specs.List.{range_with_len}
 use Rattle.syn_base.specs.declared.places.Span.{Span}
@@ -8,42 +9,49 @@ use Rattle.edit_script.specs.declared.commands.EditCommand.{EditCommand}
 use Rattle.edit_script.specs.declared.commands.Entry.{Entry}
 use Rattle.edit_script.specs.declared.commands.ResolveError.{ResolveError}
 use Rattle.edit_script.specs.declared.commands.Resolved.{Resolved}
-use Rattle.edit_script.specs.declared.commands.Resolved.TheVariants.{Replace, Move, CopyTo, Print, Page, Folds}
+use Rattle.edit_script.specs.declared.commands.Resolved.TheVariants.{Replace, Move, CopyTo, Print, Page, Folds, Syntax}
 use Rattle.edit_script.specs.declared.commands.ScriptFault.{ScriptFault}
+use Rattle.edit_script.specs.declared.commands.Verb.{Verb}
+use Rattle.edit_script.specs.declared.commands.Verb.TheVariants as verb
 use Rattle.edit_script.specs.Edits.{Replacement, edit_of, moved, put_in_place, replaced, resolved_of}
 use Rattle.edit_script.specs.Entries.{entries_at_end, entries_of}
 use Rattle.edit_session.specs.Causes.{fault_label, misfit_text}
-use Rattle.edit_session.specs.Painter.{Painter, Painted, told_lines}
+use Rattle.edit_session.specs.Painter.{Library, Painter, Painted, syntax_costs, told_lines, told_otherwise}
 
 -- ---- one command
 
--- what stands between two commands: how many there were, the painted text, and whether one was refused
+-- what stands between two commands: how many there were, the painter by the syntax in force, the painted
+-- text, and whether a command was refused
 pub record Standing : Type 0 where
   pub number : ℕ
+  pub painter : Painter
   pub painted : Painted
   pub refused : Bool
 
 -- before the first command
-abbrev pub start : Painted → Standing
-start painted = record { number = 0; painted = painted; refused = false }
+abbrev pub start : Painter → Painted → Standing
+start painter painted = record { number = 0; painter = painter; painted = painted; refused = false }
 
--- what a command prints, and what stands behind it
+-- what a command prints, the names of the syntaxes that it asks for, and what stands behind it
 pub record Answer : Type 0 where
   pub text : List ℕ
+  pub asked : List (List ℕ)
   pub stands : Standing
 
 -- a refused command tells its number, the line of the script and the cause, and changes nothing
 abbrev pub refuses : Standing → ℕ → List ℕ → Answer
 refuses s line cause = record {
   text = refusal_text (s.number + 1) line cause;
-  stands = record { number = s.number + 1; painted = s.painted; refused = true };
+  asked = [];
+  stands = record { number = s.number + 1; painter = s.painter; painted = s.painted; refused = true };
 }
 
 -- any other one prints its head, and behind it what it is for
 abbrev pub prints : Standing → Painted → List ℕ → Answer
 prints s painted text = record {
   text = head_text (s.number + 1) ++ text;
-  stands = record { number = s.number + 1; painted = painted; refused = s.refused };
+  asked = [];
+  stands = record { number = s.number + 1; painter = s.painter; painted = painted; refused = s.refused };
 }
 
 -- the span lines of the lines of these numbers
@@ -52,44 +60,90 @@ lines_text p spans [] = []
 lines_text p spans (number ∷ numbers) = p.line number (get_or spans number []) ++ lines_text p spans numbers
 
 -- the text is changed, and painted anew
-abbrev pub with_painting : Painter → Standing → ℕ → Replacement → Result (List (List Span)) (List ℕ) → Answer
-with_painting p s line r (Ok spans) =
-    prints s (record { text = replaced s.painted.text r; spans = spans }) (lines_text p spans (told_lines p s.painted.spans spans r))
-with_painting p s line r (Err cause) = refuses s line cause
+abbrev pub with_painting : Standing → ℕ → Replacement → Result (List (List Span)) (List ℕ) → Answer
+with_painting s line r (Ok spans) =
+    prints s (record { text = replaced s.painted.text r; spans = spans })
+    (lines_text s.painter spans (told_lines s.painter s.painted.spans spans r))
+with_painting s line r (Err cause) = refuses s line cause
 
-abbrev pub edits : Painter → Standing → ℕ → Replacement → Answer
-edits p s line r = with_painting p s line r (p.paint (replaced s.painted.text r))
+abbrev pub edits : Standing → ℕ → Replacement → Answer
+edits s line r = with_painting s line r (s.painter.paint (replaced s.painted.text r))
 
--- a command with this text, which fits the actual text
-abbrev pub carries_out : Painter → Standing → ℕ → List (List ℕ) → Resolved → Answer
-carries_out p s line lines (Replace a b) = edits p s line (put_in_place s.painted.text a b lines)
-carries_out p s line lines (Move a b dest) = edits p s line (moved s.painted.text a b dest)
-carries_out p s line lines (CopyTo a b dest) = edits p s line (record { a = dest; b = dest; new = slice_range s.painted.text a b })
-carries_out p s line lines (Print a b) = prints s s.painted (lines_text p s.painted.spans (range_with_len a (b - a)))
-carries_out p s line lines Page = prints s s.painted (p.page s.painted.text s.painted.spans)
-carries_out p s line lines Folds = prints s s.painted (p.folds s.painted.text)
+-- the text is painted by another painter, which is in force from then on
+abbrev pub with_painter : Standing → ℕ → Painter → Result (List (List Span)) (List ℕ) → Answer
+with_painter s line q (Ok spans) = record {
+  text = head_text (s.number + 1) ++ lines_text q spans (told_otherwise s.painter q s.painted.spans spans);
+  asked = [];
+  stands = record {
+    number = s.number + 1;
+    painter = q;
+    painted = record { text = s.painted.text; spans = spans };
+    refused = s.refused;
+  };
+}
+with_painter s line q (Err cause) = refuses s line cause
+
+-- what its file came to
+abbrev pub with_syntax : Standing → ℕ → Result Painter (List ℕ) → Answer
+with_syntax s line (Ok q) = with_painter s line q (q.paint s.painted.text)
+with_syntax s line (Err cause) = refuses s line cause
+
+-- the syntax of this name is asked for
+abbrev pub asks : List ℕ → Answer → Answer
+asks name answer = record { text = answer.text; asked = name ∷ []; stands = answer.stands }
+
+abbrev pub takes_syntax : Library → Standing → ℕ → List ℕ → Answer
+takes_syntax library s line name = asks name (with_syntax s line (library.reads name))
+
+-- a command with this text, which fits the actual text; the name of a syntax isn't part of what is resolved, so that
+-- command is answered apart
+abbrev pub carries_out : Standing → ℕ → List (List ℕ) → Resolved → Answer
+carries_out s line lines (Replace a b) = edits s line (put_in_place s.painted.text a b lines)
+carries_out s line lines (Move a b dest) = edits s line (moved s.painted.text a b dest)
+carries_out s line lines (CopyTo a b dest) = edits s line (record { a = dest; b = dest; new = slice_range s.painted.text a b })
+carries_out s line lines (Print a b) = prints s s.painted (lines_text s.painter s.painted.spans (range_with_len a (b - a)))
+carries_out s line lines Page = prints s s.painted (s.painter.page s.painted.text s.painted.spans)
+carries_out s line lines Folds = prints s s.painted (s.painter.folds s.painted.text)
+carries_out s line lines Syntax = prints s s.painted []
 
 -- where it doesn't fit, it is refused
-abbrev pub obeys : Painter → Standing → ℕ → List (List ℕ) → Result Resolved ResolveError → Answer
-obeys p s line lines (Ok resolved) = carries_out p s line lines resolved
-obeys p s line lines (Err misfit) = refuses s line (misfit_text misfit)
+abbrev pub obeys : Standing → ℕ → List (List ℕ) → Result Resolved ResolveError → Answer
+obeys s line lines (Ok resolved) = carries_out s line lines resolved
+obeys s line lines (Err misfit) = refuses s line (misfit_text misfit)
+
+-- the syntax that a command names
+abbrev pub syntax_named : Verb → Option (List ℕ)
+syntax_named (verb.Syntax name) = Some name
+syntax_named other = None
+
+abbrev pub does : Library → Standing → ℕ → EditCommand → Option (List ℕ) → Answer
+does library s line command (Some name) = takes_syntax library s line name
+does library s line command None = obeys s line command.lines (resolved_of command (length s.painted.text))
 
 -- what stands in a line of the script: a command, or what is none
-abbrev pub answers : Painter → Standing → ℕ → Result EditCommand ScriptFault → Answer
-answers p s line (Ok command) = obeys p s line command.lines (resolved_of command (length s.painted.text))
-answers p s line (Err fault) = refuses s line (fault_label fault)
+abbrev pub answers : Library → Standing → ℕ → Result EditCommand ScriptFault → Answer
+answers library s line (Ok command) = does library s line command (syntax_named command.verb)
+answers library s line (Err fault) = refuses s line (fault_label fault)
 
 -- ---- a script
 
--- what is printed before it, and an answer
-abbrev pub behind : List ℕ → Answer → Answer
-behind text answer = record { text = text ++ answer.text; stands = answer.stands }
+-- an answer behind what was answered before
+abbrev pub behind : Answer → Answer → Answer
+behind first answer = record {
+  text = first.text ++ answer.text;
+  asked = first.asked ++ answer.asked;
+  stands = answer.stands;
+}
+
+-- before all commands
+abbrev pub nothing_at : Standing → Answer
+nothing_at s = record { text = []; asked = []; stands = s }
 
 -- the commands one after the other, each where the one before it left off
-abbrev pub session : Painter → Standing → List Entry → Answer
-session p s [] = record { text = []; stands = s }
-session p s (entry ∷ entries) =
-    let own = answers p s entry.line entry.what in behind own.text (session p own.stands entries)
+abbrev pub session : Library → Standing → List Entry → Answer
+session library s [] = nothing_at s
+session library s (entry ∷ entries) =
+    let own = answers library s entry.line entry.what in behind own (session library own.stands entries)
 
 -- ---- how many lines it may paint
 
@@ -99,20 +153,24 @@ change_costs p text (Ok (Some r)) = p.costs text r
 change_costs p text (Ok None) = 0
 change_costs p text (Err misfit) = 0
 
+abbrev pub command_costs : Library → Standing → EditCommand → Option (List ℕ) → ℕ
+command_costs library s command (Some name) = syntax_costs (library.reads name) s.painted.text
+command_costs library s command None = change_costs s.painter s.painted.text (edit_of s.painted.text command)
+
 -- what stands in a line of the script: what is no command paints nothing
-abbrev pub what_costs : Painter → List (List ℕ) → Result EditCommand ScriptFault → ℕ
-what_costs p text (Ok command) = change_costs p text (edit_of text command)
-what_costs p text (Err fault) = 0
+abbrev pub what_costs : Library → Standing → Result EditCommand ScriptFault → ℕ
+what_costs library s (Ok command) = command_costs library s command (syntax_named command.verb)
+what_costs library s (Err fault) = 0
 
 -- on the text as it is then; a change whose painting is refused counts too
-abbrev pub entry_costs : Painter → Standing → Entry → ℕ
-entry_costs p s entry = what_costs p s.painted.text entry.what
+abbrev pub entry_costs : Library → Standing → Entry → ℕ
+entry_costs library s entry = what_costs library s entry.what
 
 -- each command on what stands behind those before it
-abbrev pub session_costs : Painter → Standing → List Entry → ℕ
-session_costs p s [] = 0
-session_costs p s (entry ∷ entries) =
-    entry_costs p s entry + session_costs p (answers p s entry.line entry.what).stands entries
+abbrev pub session_costs : Library → Standing → List Entry → ℕ
+session_costs library s [] = 0
+session_costs library s (entry ∷ entries) =
+    entry_costs library s entry + session_costs library (answers library s entry.line entry.what).stands entries
 
 -- ---- its bytes
 
@@ -129,9 +187,9 @@ abbrev pub entries_read : List ℕ → List Entry
 entries_read bytes = if is_too_long bytes then entries_of 0 (take most_bytes bytes) else entries_at_end 0 bytes
 
 -- the session of a script, from its bytes
-abbrev pub script_session : Painter → Painted → List ℕ → Answer
-script_session p painted bytes = session p (start painted) (entries_read bytes)
+abbrev pub script_session : Library → Standing → List ℕ → Answer
+script_session library s bytes = session library s (entries_read bytes)
 
 -- how many lines it may paint
-abbrev pub script_costs : Painter → Painted → List ℕ → ℕ
-script_costs p painted bytes = session_costs p (start painted) (entries_read bytes)
+abbrev pub script_costs : Library → Standing → List ℕ → ℕ
+script_costs library s bytes = session_costs library s (entries_read bytes)

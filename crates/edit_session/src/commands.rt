@@ -1,23 +1,23 @@
 //! The commands of a session, one after the other.
-ghost use Rattle.std.specs.Prelude.{◌≡◌, ◌≤◌, ◌<◌, ◌+◌, ◌-◌, ◌++◌, All, length, IfOk, OnOk};
+ghost use Rattle.std.specs.Prelude.{◌≡◌, ◌≤◌, ◌<◌, ◌+◌, ◌-◌, ◌++◌, All, None, Ok, false, length, IfOk, OnOk};
 ghost use Rattle.std.specs.List.{range_with_len};
 ghost use Rattle.command_print.specs.CommandText.{head_text};
 ghost use Rattle.text_buffer.specs.TextOfBytes.{most_lines};
-ghost use Rattle.edit_script.specs.Edits.{replaced, replacement as replacement_of};
-ghost use Rattle.edit_session.specs.Ends.{sink_change};
-ghost use Rattle.edit_session.specs.Painter.{Painted, Painter};
-ghost use Rattle.edit_session.specs.Session.{answers, carries_out, change_costs, edits, entry_costs, lines_text, obeys, prints, refuses, session, session_costs, what_costs};
-ghost use Rattle.edit_session.specs.Steps.{Answers, FitsText, GivesAnswer, standing};
+ghost use Rattle.edit_script.specs.Edits.{edit_of, replaced, replacement as replacement_of, resolved_of};
+ghost use Rattle.edit_session.specs.Ends.{IfKnown, files_change, sink_change};
+ghost use Rattle.edit_session.specs.Painter.{Painted, Painter, syntax_costs};
+ghost use Rattle.edit_session.specs.Session.{answers, carries_out, change_costs, edits, entry_costs, lines_text, obeys, prints, refuses, session, session_costs, syntax_named, takes_syntax, what_costs};
+ghost use Rattle.edit_session.specs.Steps.{Answers, AreCaused, FitsText, GivesAnswer, GivesOrStops, IsAnswerCaused, standing};
 
 use crate::causes::{fault_label, misfit_text};
 use crate::changes::{Replacement, copied, moved, put_in_place};
-use crate::document::{Document, Unedited};
+use crate::document::{Document, Unedited, Untaken};
 use crate::reading::End;
 use byte_text::push_bytes;
 use command_print::{head_text, refusal_text};
-use edit_script::{EditCommand, Entry, Resolved, ScriptFault, resolve};
+use edit_script::{EditCommand, Entry, Resolved, ScriptFault, Verb, resolve};
 use std::alloc::Global;
-use syn_base::{Ledger, Lines, List, Memory, Sink, Steps, put_all};
+use syn_base::{Files, Ledger, Lines, List, Memory, Sink, Steps, put_all};
 use text_buffer::Line;
 
 /// What stands between two commands: the text as it is, how many commands there were, and whether
@@ -31,47 +31,62 @@ pub(crate) struct Commands<D: Document + Drop> {
 
 impl<D: Document + Drop> Commands<D> {
     /// Carries out the commands, and writes what each of them prints before the next one.
-    pub(crate) fn answer_all<O: Sink, L: Ledger>(
+    pub(crate) fn answer_all<F: Files, O: Sink, L: Ledger>(
         &mut self,
         alloc: Global,
         entries: List<Entry>,
+        files: &mut F,
         out: &mut O,
         steps: &mut Steps<L>,
     ) -> Result<(), End>
-        ensures painter { D.painter self.new.document ≡ D.painter self.old.document }
-        ensures answers { Answers
-            (session (D.painter self.old.document) (standing D.lines D.shown self.old) entries)
-            (standing D.lines D.shown self.new)
+        ensures kept { F.told files.new ≡ F.told files.old }
+        ensures library { D.library self.new.document ≡ D.library self.old.document }
+        ensures answers { IfKnown (F.told files.old) (λ known.
+            Answers (D.library self.old.document known)
+            (session (D.library self.old.document known) (standing D.lines D.shown D.painter self.old) entries)
+            (standing D.lines D.shown D.painter self.new) (sink_change (O.written out.old) (O.written out.new)
+            (O.faults out.old) (O.faults out.new)) result) }
+        ensures steps { IfKnown (F.told files.old) (λ known. steps.new ≤ steps.old
+            + session_costs (D.library self.old.document known) (standing D.lines D.shown D.painter self.old) entries) }
+        ensures causes { AreCaused self.old.refused self.new.refused
+            (files_change (F.told files.old) (F.told files.new)
+            (F.faults files.old) (F.faults files.new) (F.misses files.old) (F.misses files.new)
+            (F.longs files.old) (F.longs files.new))
             (sink_change (O.written out.old) (O.written out.new)
             (O.faults out.old) (O.faults out.new)) result }
-        ensures steps { steps.new ≤ steps.old + session_costs (D.painter self.old.document)
-            (standing D.lines D.shown self.old) entries }
     {
         for entry in entries.into_vec() {
-            self.answer_one(alloc, entry, out, steps)?;
+            self.answer_one(alloc, entry, files, out, steps)?;
         }
         Ok(())
     }
 
     /// Carries out one command, and writes what it prints.
-    fn answer_one<O: Sink, L: Ledger>(
+    fn answer_one<F: Files, O: Sink, L: Ledger>(
         &mut self,
         alloc: Global,
         entry: Entry,
+        files: &mut F,
         out: &mut O,
         steps: &mut Steps<L>,
     ) -> Result<(), End>
-        ensures painter { D.painter self.new.document ≡ D.painter self.old.document }
-        ensures answers { Answers
-            (answers (D.painter self.old.document) (standing D.lines D.shown self.old)
-            entry.line entry.what)
-            (standing D.lines D.shown self.new)
+        ensures kept { F.told files.new ≡ F.told files.old }
+        ensures library { D.library self.new.document ≡ D.library self.old.document }
+        ensures answers { IfKnown (F.told files.old) (λ known.
+            Answers (D.library self.old.document known)
+            (answers (D.library self.old.document known) (standing D.lines D.shown D.painter self.old) entry.line entry.what)
+            (standing D.lines D.shown D.painter self.new) (sink_change (O.written out.old) (O.written out.new)
+            (O.faults out.old) (O.faults out.new)) result) }
+        ensures steps { IfKnown (F.told files.old) (λ known. steps.new ≤ steps.old
+            + entry_costs (D.library self.old.document known) (standing D.lines D.shown D.painter self.old) entry) }
+        ensures causes { AreCaused self.old.refused self.new.refused
+            (files_change (F.told files.old) (F.told files.new)
+            (F.faults files.old) (F.faults files.new) (F.misses files.old) (F.misses files.new)
+            (F.longs files.old) (F.longs files.new))
             (sink_change (O.written out.old) (O.written out.new)
             (O.faults out.old) (O.faults out.new)) result }
-        ensures steps { steps.new ≤ steps.old + entry_costs (D.painter self.old.document)
-            (standing D.lines D.shown self.old) entry }
     {
-        let text = self.answer(alloc, entry, steps)?;
+        let text = self.answer(alloc, entry, files, steps)?;
         if put_all(out, text.as_slice()) {
             Ok(())
         } else {
@@ -80,27 +95,90 @@ impl<D: Document + Drop> Commands<D> {
     }
 
     /// What a command prints.
-    fn answer<L: Ledger>(
+    fn answer<F: Files, L: Ledger>(
         &mut self,
         alloc: Global,
         entry: Entry,
+        files: &mut F,
         steps: &mut Steps<L>,
-    ) -> Result<List<u8>, Memory>
-        ensures painter { D.painter self.new.document ≡ D.painter self.old.document }
-        ensures answer { GivesAnswer result (standing D.lines D.shown self.new)
-            (answers (D.painter self.old.document) (standing D.lines D.shown self.old)
-            entry.line entry.what) }
-        ensures steps { steps.new ≤ steps.old
-            + what_costs (D.painter self.old.document) (D.lines self.old.document) entry.what }
+    ) -> Result<List<u8>, End>
+        ensures kept { F.told files.new ≡ F.told files.old }
+        ensures library { D.library self.new.document ≡ D.library self.old.document }
+        ensures answer { IfKnown (F.told files.old) (λ known.
+            GivesOrStops (D.library self.old.document known) result (standing D.lines D.shown D.painter self.new)
+            (answers (D.library self.old.document known) (standing D.lines D.shown D.painter self.old) entry.line entry.what)) }
+        ensures steps { IfKnown (F.told files.old) (λ known. steps.new ≤ steps.old
+            + what_costs (D.library self.old.document known) (standing D.lines D.shown D.painter self.old) entry.what) }
+        ensures causes { IsAnswerCaused self.old.refused self.new.refused
+            (files_change (F.told files.old) (F.told files.new)
+            (F.faults files.old) (F.faults files.new) (F.misses files.old) (F.misses files.new)
+            (F.longs files.old) (F.longs files.new)) result }
     {
         let Entry { line, what } = entry;
         match what {
-            Ok(command) => self.obey(alloc, line, command, steps),
-            Err(fault) => self.refuse(alloc, line, fault_label(fault).as_bytes()),
+            Ok(command) => self.act(alloc, line, command, files, steps),
+            Err(fault) => Ok(self.refuse(alloc, line, fault_label(fault).as_bytes())?),
         }
     }
 
     /// What a command prints that is none of the faults of a script.
+    fn act<F: Files, L: Ledger>(
+        &mut self,
+        alloc: Global,
+        line: usize,
+        command: EditCommand,
+        files: &mut F,
+        steps: &mut Steps<L>,
+    ) -> Result<List<u8>, End>
+        ensures kept { F.told files.new ≡ F.told files.old }
+        ensures library { D.library self.new.document ≡ D.library self.old.document }
+        ensures answer { IfKnown (F.told files.old) (λ known.
+            GivesOrStops (D.library self.old.document known) result (standing D.lines D.shown D.painter self.new)
+            (answers (D.library self.old.document known) (standing D.lines D.shown D.painter self.old) line (Ok command))) }
+        ensures steps { IfKnown (F.told files.old) (λ known. steps.new ≤ steps.old
+            + what_costs (D.library self.old.document known) (standing D.lines D.shown D.painter self.old) (Ok command)) }
+        ensures causes { IsAnswerCaused self.old.refused self.new.refused
+            (files_change (F.told files.old) (F.told files.new)
+            (F.faults files.old) (F.faults files.new) (F.misses files.old) (F.misses files.new)
+            (F.longs files.old) (F.longs files.new)) result }
+    {
+        if let Verb::Syntax(name) = &command.verb {
+            return self.take_syntax(alloc, line, name.as_slice(), files, steps);
+        }
+        Ok(self.obey(alloc, line, command, steps)?)
+    }
+
+    /// Puts the syntax of this name in force, and tells the lines that show otherwise by it.
+    fn take_syntax<F: Files, L: Ledger>(
+        &mut self,
+        alloc: Global,
+        line: usize,
+        name: &[char],
+        files: &mut F,
+        steps: &mut Steps<L>,
+    ) -> Result<List<u8>, End>
+        ensures kept { F.told files.new ≡ F.told files.old }
+        ensures library { D.library self.new.document ≡ D.library self.old.document }
+        ensures answer { IfKnown (F.told files.old) (λ known.
+            GivesOrStops (D.library self.old.document known) result (standing D.lines D.shown D.painter self.new)
+            (takes_syntax (D.library self.old.document known) (standing D.lines D.shown D.painter self.old) line name.now)) }
+        ensures steps { IfKnown (F.told files.old) (λ known. steps.new ≤ steps.old
+            + syntax_costs ((D.library self.old.document known).reads name.now)
+            (D.lines self.old.document)) }
+        ensures causes { IsAnswerCaused self.old.refused self.new.refused
+            (files_change (F.told files.old) (F.told files.new)
+            (F.faults files.old) (F.faults files.new) (F.misses files.old) (F.misses files.new)
+            (F.longs files.old) (F.longs files.new)) result }
+    {
+        match self.document.take_syntax(alloc, files, name, steps) {
+            Ok(numbers) => Ok(self.print_lines(alloc, numbers.as_slice())?),
+            Err(Untaken::Refused(cause)) => Ok(self.refuse(alloc, line, cause.as_slice())?),
+            Err(Untaken::Unread(told)) => Err(End::Unfetched(told)),
+            Err(Untaken::Memory) => Err(End::Memory),
+        }
+    }
+
+    /// What a command prints that names no syntax.
     fn obey<L: Ledger>(
         &mut self,
         alloc: Global,
@@ -108,12 +186,15 @@ impl<D: Document + Drop> Commands<D> {
         command: EditCommand,
         steps: &mut Steps<L>,
     ) -> Result<List<u8>, Memory>
-        ensures painter { D.painter self.new.document ≡ D.painter self.old.document }
-        ensures answer { GivesAnswer result (standing D.lines D.shown self.new)
-            (answers (D.painter self.old.document) (standing D.lines D.shown self.old)
-            line (Ok command)) }
+        requires other { syntax_named command.verb ≡ None }
+        ensures library { D.library self.new.document ≡ D.library self.old.document }
+        ensures answer { GivesAnswer result (standing D.lines D.shown D.painter self.new)
+            (obeys (standing D.lines D.shown D.painter self.old) line command.lines
+            (resolved_of command (length (D.lines self.old.document)))) }
+        ensures unharmed { OnOk result (self.new.refused ≡ false → self.old.refused ≡ false) }
         ensures steps { steps.new ≤ steps.old
-            + what_costs (D.painter self.old.document) (D.lines self.old.document) (Ok command) }
+            + change_costs (D.painter self.old.document) (D.lines self.old.document)
+            (edit_of (D.lines self.old.document) command) }
     {
         match resolve(&command, self.document.len()) {
             Ok(resolved) => self.carry_out(alloc, line, resolved, command.lines, steps),
@@ -135,9 +216,9 @@ impl<D: Document + Drop> Commands<D> {
     ) -> Result<List<u8>, Memory>
         requires some { 0 < length (D.lines self.old.document) }
         requires fits { FitsText (length (D.lines self.old.document)) (length lines) resolved }
-        ensures painter { D.painter self.new.document ≡ D.painter self.old.document }
-        ensures answer { GivesAnswer result (standing D.lines D.shown self.new)
-            (carries_out (D.painter self.old.document) (standing D.lines D.shown self.old)
+        ensures library { D.library self.new.document ≡ D.library self.old.document }
+        ensures answer { GivesAnswer result (standing D.lines D.shown D.painter self.new)
+            (carries_out (standing D.lines D.shown D.painter self.old)
             line lines resolved) }
         ensures steps { steps.new ≤ steps.old
             + change_costs (D.painter self.old.document) (D.lines self.old.document)
@@ -159,6 +240,7 @@ impl<D: Document + Drop> Commands<D> {
             Resolved::Print { a, b } => self.print_range(alloc, a, b),
             Resolved::Page => self.print_page(alloc),
             Resolved::Folds => self.print_folds(alloc),
+            Resolved::Syntax => unreachable!(),
         }
     }
 
@@ -174,9 +256,9 @@ impl<D: Document + Drop> Commands<D> {
         requires within { replacement.b ≤ length (D.lines self.old.document) }
         requires some { 0 < length (replaced (D.lines self.old.document) replacement) }
         requires few { length (replaced (D.lines self.old.document) replacement) ≤ most_lines }
-        ensures painter { D.painter self.new.document ≡ D.painter self.old.document }
-        ensures answer { GivesAnswer result (standing D.lines D.shown self.new)
-            (edits (D.painter self.old.document) (standing D.lines D.shown self.old)
+        ensures library { D.library self.new.document ≡ D.library self.old.document }
+        ensures answer { GivesAnswer result (standing D.lines D.shown D.painter self.new)
+            (edits (standing D.lines D.shown D.painter self.old)
             line replacement) }
         ensures steps { steps.new ≤ steps.old
             + (D.painter self.old.document).costs (D.lines self.old.document) replacement }
@@ -191,8 +273,8 @@ impl<D: Document + Drop> Commands<D> {
     /// The refusal of a command.
     fn refuse(&mut self, alloc: Global, line: usize, cause: &[u8]) -> Result<List<u8>, Memory>
         ensures document { self.new.document ≡ self.old.document }
-        ensures answer { GivesAnswer result (standing D.lines D.shown self.new)
-            (refuses (standing D.lines D.shown self.old) line cause.now) }
+        ensures answer { GivesAnswer result (standing D.lines D.shown D.painter self.new)
+            (refuses (standing D.lines D.shown D.painter self.old) line cause.now) }
     {
         let number = one_more(self.number)?;
         if line == usize::MAX {
@@ -207,8 +289,8 @@ impl<D: Document + Drop> Commands<D> {
     fn print_lines(&mut self, alloc: Global, numbers: &[usize]) -> Result<List<u8>, Memory>
         requires { All (λ number. number < length (D.lines self.old.document)) numbers.now }
         ensures document { self.new.document ≡ self.old.document }
-        ensures answer { GivesAnswer result (standing D.lines D.shown self.new)
-            (prints (standing D.lines D.shown self.old) (standing D.lines D.shown self.old).painted
+        ensures answer { GivesAnswer result (standing D.lines D.shown D.painter self.new)
+            (prints (standing D.lines D.shown D.painter self.old) (standing D.lines D.shown D.painter self.old).painted
             (lines_text (D.painter self.old.document) (D.shown self.old.document) numbers.now)) }
     {
         let mut out = self.head(alloc)?;
@@ -221,8 +303,8 @@ impl<D: Document + Drop> Commands<D> {
         requires ordered { a ≤ b }
         requires within { b ≤ length (D.lines self.old.document) }
         ensures document { self.new.document ≡ self.old.document }
-        ensures answer { GivesAnswer result (standing D.lines D.shown self.new)
-            (prints (standing D.lines D.shown self.old) (standing D.lines D.shown self.old).painted
+        ensures answer { GivesAnswer result (standing D.lines D.shown D.painter self.new)
+            (prints (standing D.lines D.shown D.painter self.old) (standing D.lines D.shown D.painter self.old).painted
             (lines_text (D.painter self.old.document) (D.shown self.old.document)
             (range_with_len a (b - a)))) }
     {
@@ -234,8 +316,8 @@ impl<D: Document + Drop> Commands<D> {
     /// The head of a command, and the page.
     fn print_page(&mut self, alloc: Global) -> Result<List<u8>, Memory>
         ensures document { self.new.document ≡ self.old.document }
-        ensures answer { GivesAnswer result (standing D.lines D.shown self.new)
-            (prints (standing D.lines D.shown self.old) (standing D.lines D.shown self.old).painted
+        ensures answer { GivesAnswer result (standing D.lines D.shown D.painter self.new)
+            (prints (standing D.lines D.shown D.painter self.old) (standing D.lines D.shown D.painter self.old).painted
             ((D.painter self.old.document).page (D.lines self.old.document)
             (D.shown self.old.document))) }
     {
@@ -248,8 +330,8 @@ impl<D: Document + Drop> Commands<D> {
     /// The head of a command, and the folds.
     fn print_folds(&mut self, alloc: Global) -> Result<List<u8>, Memory>
         ensures document { self.new.document ≡ self.old.document }
-        ensures answer { GivesAnswer result (standing D.lines D.shown self.new)
-            (prints (standing D.lines D.shown self.old) (standing D.lines D.shown self.old).painted
+        ensures answer { GivesAnswer result (standing D.lines D.shown D.painter self.new)
+            (prints (standing D.lines D.shown D.painter self.old) (standing D.lines D.shown D.painter self.old).painted
             ((D.painter self.old.document).folds (D.lines self.old.document))) }
     {
         let mut out = self.head(alloc)?;

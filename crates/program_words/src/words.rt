@@ -212,6 +212,21 @@ impl<'a> CheckWords<'a> {
         self.syntax
     }
 
+    /// The same options for another syntax file, of this name.
+    pub fn naming<'b>(&'b self, syntax: &'b str) -> CheckWords<'b>
+        ensures { result ≡ record {
+          syntax = syntax.now;
+          folder = self.now.folder;
+          assume_fromstart = self.now.assume_fromstart;
+        } }
+    {
+        CheckWords {
+            syntax,
+            folder: self.folder,
+            assume_fromstart: self.assume_fromstart,
+        }
+    }
+
     /// The folder in which included files are looked for, `.` where the words name none.
     pub fn folder(&self) -> &'a str
         ensures { result.now ≡ self.now.folder }

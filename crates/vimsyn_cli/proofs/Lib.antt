@@ -7,6 +7,7 @@ mod PaintLaws
 mod PlanLaws
 mod PrintLaws
 mod ReadingLaws
+mod RenewalLaws
 mod RunLaws
 mod SessionLaws
 mod SheetLaws

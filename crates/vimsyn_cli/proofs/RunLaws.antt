@@ -61,7 +61,7 @@ err_unfailed (Err (stop.Fault fault)) out err answer delivered other = unfailed_
 err_unfailed (Err stop.Memory) out err answer delivered other = delivered.1.1
 
 -- a cause that the files' map decides
-decided : (cause : FaultKind) (unread planned : Type 0) → OrUnread cause unread planned → is_unread cause ≡ false → planned
+pub decided : (cause : FaultKind) (unread planned : Type 0) → OrUnread cause unread planned → is_unread cause ≡ false → planned
 decided Missing unread planned p known = p
 decided Unread unread planned p known = absurd cc
 decided TooLong unread planned p known = p
@@ -114,16 +114,16 @@ err_part_of s IsLine (Err (stop.Fault fault)) out err faults faults_after answer
     line_part s fault err (decided fault.cause (IsLine fault.line) (s ≡ ends fault) planned known) (part_of err fault.line (cause_status fault.cause) answer delivered.1)
 
 -- else it got a part of the line for a file that couldn't be read
-err_part_or : (s : Session) (asked : Asked) (known : FileMap) (result : Result (List ℕ) Stop) (out err : SinkChange) (answer : Status) → Plans s (IsUnreadLine asked known) result → Delivers result out err answer → AppendsPrefix err.before err.after s.err ⊎ TellsUnread asked known err.before err.after
-err_part_or s asked known (Ok bytes) out err answer planned delivered = inl (none_of err s.err delivered.0)
-err_part_or s asked known (Err stop.Memory) out err answer planned delivered = inl (none_of err s.err delivered.1)
-err_part_or s asked known (Err (stop.Fault fault)) out err answer planned delivered =
-    by_line (either fault.cause (IsUnreadLine asked known fault.line) (s ≡ ends fault) planned)
+err_part_or : (s : Session) (asked : Asked) (known : FileMap) (bytes : List ℕ) (result : Result (List ℕ) Stop) (out err : SinkChange) (answer : Status) → Plans s (IsUnreadLine asked known bytes) result → Delivers result out err answer → AppendsPrefix err.before err.after s.err ⊎ TellsUnread asked known bytes err.before err.after
+err_part_or s asked known text (Ok bytes) out err answer planned delivered = inl (none_of err s.err delivered.0)
+err_part_or s asked known text (Err stop.Memory) out err answer planned delivered = inl (none_of err s.err delivered.1)
+err_part_or s asked known text (Err (stop.Fault fault)) out err answer planned delivered =
+    by_line (either fault.cause (IsUnreadLine asked known text fault.line) (s ≡ ends fault) planned)
   where
     part : AppendsPrefix err.before err.after fault.line
     part = part_of err fault.line (cause_status fault.cause) answer delivered.1
 
-    by_line : (s ≡ ends fault) ⊎ ((is_unread fault.cause ≡ true) × IsUnreadLine asked known fault.line) → AppendsPrefix err.before err.after s.err ⊎ TellsUnread asked known err.before err.after
+    by_line : (s ≡ ends fault) ⊎ ((is_unread fault.cause ≡ true) × IsUnreadLine asked known text fault.line) → AppendsPrefix err.before err.after s.err ⊎ TellsUnread asked known text err.before err.after
     by_line (inl is) = inl (line_part s fault err is part)
     by_line (inr unread) = inr (record { line = fault.line; unread = unread.1; part = part })
 
@@ -139,20 +139,20 @@ written_whole : (sink : SinkChange) (line : List ℕ) (planned answer : Status) 
 written_whole sink line planned answer (inl all) is = all.whole
 written_whole sink line planned answer (inr some) is = absurd (cc (is, some.status))
 
-read_fault_told_of : (s : Session) (asked : Asked) (known : FileMap) (result : Result (List ℕ) Stop) (out err : SinkChange) (answer : Status) → Plans s (IsUnreadLine asked known) result → Delivers result out err answer → answer ≡ ReadFault → (err.after ≡ appended err.before s.err) ⊎ TellsAllUnread asked known err.before err.after
-read_fault_told_of s asked known (Ok bytes) out err answer planned delivered is = absurd (printed delivered.1)
+read_fault_told_of : (s : Session) (asked : Asked) (known : FileMap) (bytes : List ℕ) (result : Result (List ℕ) Stop) (out err : SinkChange) (answer : Status) → Plans s (IsUnreadLine asked known bytes) result → Delivers result out err answer → answer ≡ ReadFault → (err.after ≡ appended err.before s.err) ⊎ TellsAllUnread asked known bytes err.before err.after
+read_fault_told_of s asked known text (Ok bytes) out err answer planned delivered is = absurd (printed delivered.1)
   where
     printed : Writes out bytes Done answer → ⊥
     printed (inl all) = cc (is, all.status)
     printed (inr some) = cc (is, some.status)
-read_fault_told_of s asked known (Err stop.Memory) out err answer planned delivered is = absurd (cc (is, delivered.2))
-read_fault_told_of s asked known (Err (stop.Fault fault)) out err answer planned delivered is =
-    by_line (either fault.cause (IsUnreadLine asked known fault.line) (s ≡ ends fault) planned)
+read_fault_told_of s asked known text (Err stop.Memory) out err answer planned delivered is = absurd (cc (is, delivered.2))
+read_fault_told_of s asked known text (Err (stop.Fault fault)) out err answer planned delivered is =
+    by_line (either fault.cause (IsUnreadLine asked known text fault.line) (s ≡ ends fault) planned)
   where
     whole : err.after ≡ appended err.before fault.line
     whole = written_whole err fault.line (cause_status fault.cause) answer delivered.1 is
 
-    by_line : (s ≡ ends fault) ⊎ ((is_unread fault.cause ≡ true) × IsUnreadLine asked known fault.line) → (err.after ≡ appended err.before s.err) ⊎ TellsAllUnread asked known err.before err.after
+    by_line : (s ≡ ends fault) ⊎ ((is_unread fault.cause ≡ true) × IsUnreadLine asked known text fault.line) → (err.after ≡ appended err.before s.err) ⊎ TellsAllUnread asked known text err.before err.after
     by_line (inl same) = let P : Session → Type 0 = λ t. err.after ≡ appended err.before t.err in inl (subst P (sym same) whole)
     by_line (inr unread) = inr (record { line = fault.line; unread = unread.1; whole = whole })
 
@@ -185,10 +185,10 @@ told_all None script Q f = tt
 told_all (Some known) None Q f = tt
 told_all (Some known) (Some bytes) Q f = f known bytes
 
-pub told_both : (files : Option FileMap) (script : Option (List ℕ)) (P : FileMap → Type 0) (Q : FileMap → List ℕ → Type 0) → ((known : FileMap) (bytes : List ℕ) → P known → script ≡ Some bytes → Q known bytes) → IfSome files P → IfTold files script Q
-told_both None script P Q f told = tt
-told_both (Some known) None P Q f told = tt
-told_both (Some known) (Some bytes) P Q f told = f known bytes told refl
+pub told_known : (files : Option FileMap) (script : Option (List ℕ)) (P : FileMap → Type 0) (Q : FileMap → List ℕ → Type 0) → ((known : FileMap) (bytes : List ℕ) → files ≡ Some known → P known → script ≡ Some bytes → Q known bytes) → IfSome files P → IfTold files script Q
+told_known None script P Q f told = tt
+told_known (Some known) None P Q f told = tt
+told_known (Some known) (Some bytes) P Q f told = f known bytes refl told refl
 
 -- ---- faulty words
 
@@ -340,27 +340,27 @@ out_left (Err stop.Memory) out err answer delivered is = untouched out delivered
 out_left (Err (stop.Fault fault)) out err answer delivered is = untouched out delivered.0
 
 pub delivered_runs : (asked : Asked) (result : Result (List ℕ) Stop) (files : FilesChange) (script : SourceChange) (out err : SinkChange) (answer : Status) →
-    IfTold files.told (script_read (Some asked) script.before) (λ known bytes. Plans (asked_session asked known bytes) (IsUnreadLine asked known) result) →
+    IfTold files.told (script_read (Some asked) script.before) (λ known bytes. Plans (asked_session asked known bytes) (IsUnreadLine asked known bytes) result) →
     IfFault result (IsFaultOfAsked asked) → RaisesItsCount is_unread result files.faults files.faults_after → RaisesItsCount is_missing result files.misses files.misses_after → RaisesItsCount is_too_long result files.longs files.longs_after →
     files.told_after ≡ files.told → LeavesFiles (Some asked) files → script.after ≡ script.before → script.faults_after ≡ script.faults → Delivers result out err answer → (answer ≡ Done → EndsScript (Some asked) files.told script out) →
     Runs (Some asked) files script out err answer
 delivered_runs asked result files script out err answer planned told unread missing long kept alone left readable delivered ended =
     let scripts = script_read (Some asked) script.before in
-    let Q : FileMap → List ℕ → Type 0 = λ known bytes. Plans (asked_session asked known bytes) (IsUnreadLine asked known) result in
+    let Q : FileMap → List ℕ → Type 0 = λ known bytes. Plans (asked_session asked known bytes) (IsUnreadLine asked known bytes) result in
     record {
-      session = told_map files.told scripts Q _ (λ known bytes plan r t o e m. gives_of (asked_session asked known bytes) (IsUnreadLine asked known) result out err files.faults files.faults_after answer plan delivered unread r o e m) planned;
-      out_part = told_map files.told scripts Q _ (λ known bytes plan. out_part_of (asked_session asked known bytes) (IsUnreadLine asked known) result out err answer plan delivered) planned;
-      err_part = told_map files.told scripts Q _ (λ known bytes plan r t. err_part_of (asked_session asked known bytes) (IsUnreadLine asked known) result out err files.faults files.faults_after answer plan delivered unread r) planned;
-      err_part_or_unread = told_map files.told scripts Q _ (λ known bytes plan. err_part_or (asked_session asked known bytes) asked known result out err answer plan delivered) planned;
+      session = told_map files.told scripts Q _ (λ known bytes plan r t o e m. gives_of (asked_session asked known bytes) (IsUnreadLine asked known bytes) result out err files.faults files.faults_after answer plan delivered unread r o e m) planned;
+      out_part = told_map files.told scripts Q _ (λ known bytes plan. out_part_of (asked_session asked known bytes) (IsUnreadLine asked known bytes) result out err answer plan delivered) planned;
+      err_part = told_map files.told scripts Q _ (λ known bytes plan r t. err_part_of (asked_session asked known bytes) (IsUnreadLine asked known bytes) result out err files.faults files.faults_after answer plan delivered unread r) planned;
+      err_part_or_unread = told_map files.told scripts Q _ (λ known bytes plan. err_part_or (asked_session asked known bytes) asked known bytes result out err answer plan delivered) planned;
       faulty = λ w. absurd (cc w);
       faulty_told = λ w. absurd (cc w);
       usage = λ is. absurd (delivered_unused result out err answer delivered is);
       refused = λ is. inl (tells_of asked result out err files.longs files.longs_after answer told delivered long (λ w. absurd (cc (is, w))) (λ w. absurd (cc (is, w))) (λ w. absurd (cc (is, w))), (left, readable));
       read_fault = λ is. by_cause (delivered_read result out err files.faults files.faults_after files.misses files.misses_after answer delivered unread missing is);
       read_fault_line = λ is. inl (tells_of asked result out err files.longs files.longs_after answer told delivered long (λ w. absurd (cc (is, w))) (λ w. absurd (cc (is, w))) (λ w. absurd (cc (is, w))), (left, readable));
-      read_fault_told = λ is. told_map files.told scripts Q _ (λ known bytes plan. read_fault_told_of (asked_session asked known bytes) asked known result out err answer plan delivered is) planned;
+      read_fault_told = λ is. told_map files.told scripts Q _ (λ known bytes plan. read_fault_told_of (asked_session asked known bytes) asked known bytes result out err answer plan delivered is) planned;
       write_fault = λ is. delivered_failed result out err answer delivered is;
-      stopped = λ is rose. stops_at_start asked files.told script out left (out_left result out err answer delivered is);
+      stopped = λ is rose. inl (stops_at_start asked files.told script out left (out_left result out err answer delivered is));
       files_unfailed = λ sound. delivered_readable result out err files.faults files.faults_after answer delivered unread sound;
       script_unfailed = λ sound. readable;
       out_unfailed = λ other. out_unfailed result out err answer delivered other;

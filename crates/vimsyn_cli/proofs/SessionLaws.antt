@@ -3,7 +3,7 @@ use Rattle.std.proofs.Common.{◌≡◌, ℕ, Bool, false, List, [], refl, ap, s
 use Rattle.std.proofs.lemmas.Bool.{le-ltb}
 use Rattle.std.specs.Prelude.{Some, Ok, Result, Err, IsOk}
 use Rattle.edit_session.specs.Laws.{AreCarriedOut}
-use Rattle.edit_session.specs.Session.{Answer, entries_read, is_too_long, most_bytes, start}
+use Rattle.edit_session.specs.Session.{Answer, entries_read, is_too_long, most_bytes}
 use Rattle.edit_session.proofs.CarriedOutLaws.{none_of_script}
 use Rattle.program_words.specs.declared.words.Asked.TheVariants.{Edit, Print}
 use Rattle.program_words.specs.declared.words.Printing.TheVariants.{Folds, Html, Spans}
@@ -21,13 +21,15 @@ use Rattle.text_buffer.specs.declared.TextError.{TextError}
 use Rattle.vimsyn_cli.specs.declared.fault.Fault.{Fault}
 use Rattle.vimsyn_cli.specs.declared.file_fault.NamedFault.{NamedFault}
 use Rattle.vimsyn_cli.specs.Check.{syntax_counts}
-use Rattle.vimsyn_cli.specs.Editing.{edit_told, painter_of, script_answer, script_end, script_status, shown_of, with_words}
+use Rattle.vimsyn_cli.specs.Editing.{painter_of, script_status, shown_of, with_words}
+use Rattle.vimsyn_cli.specs.EditRun.{edit_start, edit_told, script_answer, script_end}
 use Rattle.vimsyn_cli.specs.Folds.{folds_shown}
 use Rattle.vimsyn_cli.specs.Laws.{AcceptedSyntaxFile, IsAccepted}
 use Rattle.vimsyn_cli.specs.Painting.{bytes_told, file_bytes, lines_told, painted_told, painting_told, text_limit, text_told, with_spans}
 use Rattle.vimsyn_cli.specs.Plans.{and_then}
 use Rattle.vimsyn_cli.specs.Printing.{page_bytes, spans_bytes}
 use Rattle.vimsyn_cli.specs.Reading.{syntax_told, with_told}
+use Rattle.vimsyn_cli.specs.Renewal.{library_of}
 use Rattle.vimsyn_cli.specs.Report.{fault_of}
 use Rattle.vimsyn_cli.specs.TextFault.{text_fault}
 use Rattle.vimsyn_cli.specs.Session.{session, session_told, with_asked}
@@ -78,9 +80,9 @@ accepted_folded typed files script words painted asked is =
     ∙ ap (λ (e : Result PaintedText Fault). session_told (and_then e (λ p. Ok (folds_shown words.close p)))) (painting_is words.painting files painted is)
 
 -- or what the commands of a script print
-pub accepted_edited : (typed : List (List ℕ)) (files : FileMap) (script : List ℕ) (words : PageWords) (painted : PaintedText) → asked_of typed ≡ Some (Edit words) → IsAccepted words.painting files painted → session typed files script ≡ script_end (is_too_long script) (script_answer words painted script)
+pub accepted_edited : (typed : List (List ℕ)) (files : FileMap) (script : List ℕ) (words : PageWords) (painted : PaintedText) → asked_of typed ≡ Some (Edit words) → IsAccepted words.painting files painted → session typed files script ≡ script_end (is_too_long script) (script_answer words files painted script)
 accepted_edited typed files script words painted asked is =
-    ap (with_asked files script) asked ∙ ap (edit_told words script) (painting_is words.painting files painted is)
+    ap (with_asked files script) asked ∙ ap (edit_told words files script) (painting_is words.painting files painted is)
 
 -- a script that isn't too long, and of which no command was refused
 ends_well : (long : Bool) (answer : Answer) → long ≡ false → answer.stands.refused ≡ false → script_end long answer ≡ shows answer.text
@@ -89,11 +91,11 @@ ends_well long answer short none =
     ∙ ap (λ (r : Bool). let s : Session = record { out = answer.text; err = []; status = script_status r } in s) none
 
 -- where each command is carried out, it ends well
-pub accepted_carried_out : (typed : List (List ℕ)) (files : FileMap) (script : List ℕ) (words : PageWords) (painted : PaintedText) → asked_of typed ≡ Some (Edit words) → IsAccepted words.painting files painted → length script ≤ 67108864 → AreCarriedOut (painter_of words painted.syntax painted.budget) (start (shown_of painted)) (entries_read script) → session typed files script ≡ shows (script_answer words painted script).text
+pub accepted_carried_out : (typed : List (List ℕ)) (files : FileMap) (script : List ℕ) (words : PageWords) (painted : PaintedText) → asked_of typed ≡ Some (Edit words) → IsAccepted words.painting files painted → length script ≤ 67108864 → AreCarriedOut (library_of words painted.budget files) (edit_start words painted) (entries_read script) → session typed files script ≡ shows (script_answer words files painted script).text
 accepted_carried_out typed files script words painted asked is short carried =
     accepted_edited typed files script words painted asked is
-    ∙ ends_well (is_too_long script) (script_answer words painted script) (le-ltb most_bytes (length script) short)
-    (none_of_script (painter_of words painted.syntax painted.budget) (shown_of painted) script carried)
+    ∙ ends_well (is_too_long script) (script_answer words files painted script) (le-ltb most_bytes (length script) short)
+    (none_of_script (library_of words painted.budget files) (painter_of words painted.syntax painted.budget) (shown_of painted) script carried)
 
 -- or the counts
 pub accepted_counted : (words : List (List ℕ)) (files : FileMap) (script : List ℕ) (syntax : Syntax) → AcceptedSyntaxFile words files syntax → session words files script ≡ shows (syntax_counts syntax)

@@ -2,7 +2,7 @@
 use Rattle.std.specs.Prelude.{◌≡◌, ◌⊎◌, ℕ, codes, Bool, true, false, List, Option, Result, Ok, Err}
 use Rattle.edit_session.specs.declared.reading.End.{End}
 use Rattle.edit_session.specs.declared.reading.End.TheVariants as end
-use Rattle.edit_session.specs.Ends.{SinkChange, SourceChange}
+use Rattle.edit_session.specs.Ends.{IsUnreadOf, SinkChange, SourceChange}
 use Rattle.program_words.specs.declared.words.Asked.{Asked}
 use Rattle.program_words.specs.declared.words.Asked.TheVariants.{Edit, Large, Print}
 use Rattle.program_words.specs.declared.words.Printing.{Printing}
@@ -18,8 +18,10 @@ use Rattle.vimsyn_cli.specs.declared.fault.Stop.TheVariants as stop
 use Rattle.vimsyn_cli.specs.declared.status.Status.{Status}
 use Rattle.vimsyn_cli.specs.declared.status.Status.TheVariants.{Done, Refused, Usage, ReadFault, WriteFault, Memory}
 use Rattle.state_cache.specs.PaintedText.{PaintedText}
+use Rattle.vimsyn_cli.specs.EditRun.{script_answer}
 use Rattle.vimsyn_cli.specs.Painting.{IsPaintFault, IsRefusedPainting, IsUnreadPaint, painting_told}
 use Rattle.vimsyn_cli.specs.Reading.{IsReadFault, IsUnreadAsked}
+use Rattle.vimsyn_cli.specs.Renewal.{library_of}
 use Rattle.vimsyn_cli.specs.Report.{cause_status, long_script, unread_script, usage_line}
 use Rattle.vimsyn_cli.specs.Written.{Session}
 
@@ -65,12 +67,21 @@ pub record AsksForScript (words : PageWords) (files : FileMap) : Type 0 where
   pub painted : PaintedText
   pub accepted : painting_told words.painting files ≡ Ok painted
 
--- the same of any command; `edit` has the line for its script too, and `large` reads no file
-abbrev pub IsUnreadLine : Asked → FileMap → List ℕ → Type 0
-IsUnreadLine (Print printing) files line = IsUnreadPrint printing files line
-IsUnreadLine (Edit words) files line =
-    IsUnreadPaint words.painting files line ⊎ (AsksForScript words files × (line ≡ unread_script))
-IsUnreadLine (Large words) files line = ⊥
+-- the line for a file that can't be read and that a syntax asks for which the script names
+pub record IsUnreadNamed (words : PageWords) (files : FileMap) (script line : List ℕ) : Type 0 where
+  pub painted : PaintedText
+  pub accepted : painting_told words.painting files ≡ Ok painted
+  pub unread : IsUnreadOf (library_of words painted.budget files) (script_answer words files painted script).asked line
+
+-- the same of any command; `edit` has the line for its script too, and for the files that it names, and `large` reads no
+-- file
+abbrev pub IsUnreadLine : Asked → FileMap → List ℕ → List ℕ → Type 0
+IsUnreadLine (Print printing) files script line = IsUnreadPrint printing files line
+IsUnreadLine (Edit words) files script line =
+    IsUnreadPaint words.painting files line
+    ⊎ (AsksForScript words files × (line ≡ unread_script))
+    ⊎ IsUnreadNamed words files script line
+IsUnreadLine (Large words) files script line = ⊥
 
 -- `err` got the whole line of a fault, and the answer is the status of that fault; it is of a file too
 -- long only where the count of such files rose
@@ -82,15 +93,17 @@ pub record TellsFault (asked : Asked) (before after : Option (List ℕ)) (longs 
   pub too_long : fault.cause ≡ TooLong → Rose longs longs_after
 
 -- a part of the line for a file, or a script, that couldn't be read
-pub record TellsUnread (asked : Asked) (files : FileMap) (before after : Option (List ℕ)) : Type 0 where
+pub record TellsUnread
+    (asked : Asked) (files : FileMap) (script : List ℕ) (before after : Option (List ℕ)) : Type 0 where
   pub line : List ℕ
-  pub unread : IsUnreadLine asked files line
+  pub unread : IsUnreadLine asked files script line
   pub part : AppendsPrefix before after line
 
 -- the whole of it
-pub record TellsAllUnread (asked : Asked) (files : FileMap) (before after : Option (List ℕ)) : Type 0 where
+pub record TellsAllUnread
+    (asked : Asked) (files : FileMap) (script : List ℕ) (before after : Option (List ℕ)) : Type 0 where
   pub line : List ℕ
-  pub unread : IsUnreadLine asked files line
+  pub unread : IsUnreadLine asked files script line
   pub whole : after ≡ appended before line
 
 -- a sink took all of the bytes, and the answer is the one planned
@@ -133,5 +146,6 @@ Closes end.Done err answer = IsUntouched err × (answer ≡ Done)
 Closes end.Refused err answer = IsUntouched err × (answer ≡ Refused)
 Closes end.TooLong err answer = Writes err long_script Refused answer
 Closes end.Unread err answer = Writes err unread_script ReadFault answer
+Closes (end.Unfetched line) err answer = Writes err line ReadFault answer
 Closes end.Unwritten err answer = IsUntouched err × (answer ≡ WriteFault)
 Closes end.Memory err answer = IsUntouched err × (answer ≡ Memory)

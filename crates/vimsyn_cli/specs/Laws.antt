@@ -1,7 +1,7 @@
 -- Laws of the session in the subject's own terms: what an accepted run gives.
 use Rattle.std.specs.Prelude.{◌≡◌, ℕ, ◌≤◌, List, length, codes, Some, Ok, IsOk}
 use Rattle.edit_session.specs.Laws.{AreCarriedOut}
-use Rattle.edit_session.specs.Session.{entries_read, is_too_long, start}
+use Rattle.edit_session.specs.Session.{entries_read, is_too_long}
 use Rattle.large_session.specs.Laws.{ArePainted}
 use Rattle.large_session.specs.LargeSession.{edit_count, five_lines, large_text, number_behind, start as large_start}
 use Rattle.program_words.specs.declared.words.Asked.TheVariants.{Edit, Large, Print}
@@ -16,11 +16,13 @@ use Rattle.paint_laws.specs.Accepted.{IsWithinLimits}
 use Rattle.state_cache.specs.Spans.{syntax_rules, text_spans}
 use Rattle.text_buffer.specs.TextOfBytes.{text_of}
 use Rattle.vimsyn_cli.specs.Check.{syntax_counts}
-use Rattle.vimsyn_cli.specs.Editing.{painter_of, script_answer, script_end, shown_of}
+use Rattle.vimsyn_cli.specs.Editing.{painter_of, shown_of}
+use Rattle.vimsyn_cli.specs.EditRun.{edit_start, script_answer, script_end}
 use Rattle.vimsyn_cli.specs.Folds.{folds_shown}
 use Rattle.vimsyn_cli.specs.Large.{large_files, large_painter, large_standing, large_told}
 use Rattle.vimsyn_cli.specs.Printing.{page_bytes, spans_bytes}
 use Rattle.vimsyn_cli.specs.Reading.{options_of}
+use Rattle.vimsyn_cli.specs.Renewal.{library_of}
 use Rattle.vimsyn_cli.specs.Session.{session}
 use Rattle.vimsyn_cli.specs.Written.{shows}
 
@@ -57,16 +59,16 @@ abbrev pub AcceptedTextsAreEdited : Type 0
 AcceptedTextsAreEdited =
     (typed : List (List ℕ)) (files : FileMap) (script : List ℕ) (words : PageWords) (painted : PaintedText)
     → asked_of typed ≡ Some (Edit words) → IsAccepted words.painting files painted
-    → session typed files script ≡ script_end (is_too_long script) (script_answer words painted script)
+    → session typed files script ≡ script_end (is_too_long script) (script_answer words files painted script)
 
--- and where each command of a script fits the text as it is then, and the painting of each text that they
--- change is accepted, it ends well, with what the commands print
+-- and where each command of a script fits the text as it is then, each syntax file that they name is accepted, and so
+-- is the painting of each text that they change or paint by another syntax, it ends well, with what the commands print
 abbrev pub CarriedOutScriptsAreDone : Type 0
 CarriedOutScriptsAreDone =
     (typed : List (List ℕ)) (files : FileMap) (script : List ℕ) (words : PageWords) (painted : PaintedText)
     → asked_of typed ≡ Some (Edit words) → IsAccepted words.painting files painted → length script ≤ 67108864
-    → AreCarriedOut (painter_of words painted.syntax painted.budget) (start (shown_of painted)) (entries_read script)
-    → session typed files script ≡ shows (script_answer words painted script).text
+    → AreCarriedOut (library_of words painted.budget files) (edit_start words painted) (entries_read script)
+    → session typed files script ≡ shows (script_answer words files painted script).text
 
 -- a text is painted whole, at first and behind a command, where no attempt that its painting may make costs more
 -- than the budget, and at most 1,000 frames stand wherever something starts

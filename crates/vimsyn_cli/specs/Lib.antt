@@ -3,6 +3,7 @@ pub mod Answers
 pub mod Changes
 pub mod Check
 pub mod Editing
+pub mod EditRun
 pub mod Folds
 pub mod Large
 pub mod LargeRun
@@ -11,6 +12,7 @@ pub mod Painting
 pub mod Plans
 pub mod Printing
 pub mod Reading
+pub mod Renewal
 pub mod Report
 pub mod Runs
 pub mod Session

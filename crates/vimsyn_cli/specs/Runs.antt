@@ -3,8 +3,8 @@
 use Rattle.std.specs.Prelude.{◌≡◌, ◌≢◌, ◌⊎◌, ℕ, ◌+◌, ◌<◌, ◌≤◌, Bool, true, false, List, length, Option, Some, None, IfSome, IsSomeAnd, Ok, Err, ⊤}
 use Rattle.edit_script.specs.Entries.{entries_of}
 use Rattle.edit_session.specs.declared.reading.End.{End}
-use Rattle.edit_session.specs.Ends.{EndsSo, ReadsToEnd, SinkChange, SourceChange, Takes, TakesFew}
-use Rattle.edit_session.specs.Session.{most_bytes, session, start}
+use Rattle.edit_session.specs.Ends.{EndsSo, HasCause, IfKnown, IsReadWhole, ReadsToEnd, SinkChange, SourceChange, Takes, TakesFew, TakesMany}
+use Rattle.edit_session.specs.Session.{session}
 use Rattle.program_words.specs.declared.words.Asked.{Asked}
 use Rattle.program_words.specs.declared.words.Asked.TheVariants.{Edit, Large, Print}
 use Rattle.program_words.specs.Given.{PageWords}
@@ -16,9 +16,10 @@ use Rattle.vimsyn_cli.specs.declared.status.Status.{Status}
 use Rattle.vimsyn_cli.specs.declared.status.Status.TheVariants.{Done, Refused, Usage, ReadFault, WriteFault, Memory}
 use Rattle.vimsyn_cli.specs.Answers.{Closes, GivesSession, IsUntaken, TellsAllUnread, TellsFault, TellsUnread, TellsUsage, is_unfailed}
 use Rattle.vimsyn_cli.specs.Changes.{AreUnasked, FilesChange}
-use Rattle.vimsyn_cli.specs.Editing.{painter_of, script_answer, shown_of}
+use Rattle.vimsyn_cli.specs.EditRun.{edit_start, script_answer}
 use Rattle.vimsyn_cli.specs.Large.{RefusesEdit, large_lines}
 use Rattle.vimsyn_cli.specs.Painting.{painting_told}
+use Rattle.vimsyn_cli.specs.Renewal.{library_of}
 use Rattle.vimsyn_cli.specs.Report.{long_script, unread_script}
 use Rattle.vimsyn_cli.specs.Session.{edit_lines, print_lines, script_read, with_asked}
 
@@ -28,43 +29,51 @@ IfTold None script P = ⊤
 IfTold (Some files) None P = ⊤
 IfTold (Some files) (Some script) P = P files script
 
--- where told, more bytes of the script were taken than are read of one
-abbrev pub IsLongScript : SourceChange → Type 0
-IsLongScript script = (bytes : List ℕ) × Takes bytes script.before script.after × (most_bytes < length bytes)
-
--- a text was painted, by the rules where the files are told; a script was then read to its end, and what its
--- commands print on that text was written; one of them was refused, or none
+-- a text was painted, by the rules where the files are told; a script was then read to its end; and where the files are
+-- told, what its commands print on that text was written, and one of them was refused, or none
 pub record ReadsScript (words : PageWords) (told : Option FileMap) (refused : Bool) (script : SourceChange) (out : SinkChange) : Type 0 where
   pub painted : PaintedText
   pub is_painted : IsPainted painted
   pub of_files : IfSome told (λ known. painting_told words.painting known ≡ Ok painted)
-  pub read : ReadsToEnd (painter_of words painted.syntax painted.budget) (start (shown_of painted)) refused script out
+  pub whole : IsReadWhole script
+  pub read : IfKnown told (λ known.
+      ReadsToEnd (library_of words painted.budget known) (edit_start words painted) refused script out)
 
 -- a script was refused as a whole, or one of its commands was, and then it was read to its end; or, of the
 -- large mode, a drawn edit was refused
 abbrev pub RefusesScript : Asked → Option FileMap → SourceChange → SinkChange → SinkChange → Type 0
 RefusesScript (Edit words) told script out err =
-    ((err.after ≡ appended err.before long_script) × IsLongScript script)
+    ((err.after ≡ appended err.before long_script) × TakesMany script)
     ⊎ ((err.after ≡ err.before) × ReadsScript words told true script out)
 RefusesScript (Large words) told script out err = (err.after ≡ err.before) × RefusesEdit words
 RefusesScript (Print printing) told script out err = ⊥
 
--- a script couldn't be read, which `err` got the line for
-abbrev pub FailsScript : Asked → SourceChange → SinkChange → Type 0
-FailsScript (Edit words) script err = (err.after ≡ appended err.before unread_script) × Rose script.faults script.faults_after
-FailsScript asked script err = ⊥
+-- a file that a script names, or one that this asks for, couldn't be read, which `err` got a line for
+pub record FailsAtFile (files : FilesChange) (err : SinkChange) : Type 0 where
+  pub line : List ℕ
+  pub told : err.after ≡ appended err.before line
+  pub unreadable : Rose files.faults files.faults_after
+
+-- a script couldn't be read, or a file that it names, which `err` got the line for
+abbrev pub FailsScript : Asked → FilesChange → SourceChange → SinkChange → Type 0
+FailsScript (Edit words) files script err =
+    ((err.after ≡ appended err.before unread_script) × Rose script.faults script.faults_after)
+    ⊎ FailsAtFile files err
+FailsScript asked files script err = ⊥
 
 -- a read of the script failed: `out` got what the commands print whose last line is whole in the bytes that
 -- were taken
-pub record PrintsSoFar (words : PageWords) (painted : PaintedText) (script : SourceChange) (out : SinkChange) : Type 0 where
+pub record PrintsSoFar
+    (words : PageWords) (files : FileMap) (painted : PaintedText) (script : SourceChange) (out : SinkChange) : Type 0 where
   pub bytes : List ℕ
   pub taken : Takes bytes script.before script.after
-  pub printed : out.after ≡ appended out.before (session (painter_of words painted.syntax painted.budget) (start (shown_of painted)) (entries_of 0 bytes)).text
+  pub printed : out.after
+      ≡ appended out.before (session (library_of words painted.budget files) (edit_start words painted) (entries_of 0 bytes)).text
 
 -- a read of the script failed, where the files are told: `out` got just that
 abbrev pub StopsSoFar : Option Asked → FileMap → SourceChange → SinkChange → Type 0
 StopsSoFar (Some (Edit words)) files script out =
-    (painted : PaintedText) → painting_told words.painting files ≡ Ok painted → PrintsSoFar words painted script out
+    (painted : PaintedText) → painting_told words.painting files ≡ Ok painted → PrintsSoFar words files painted script out
 StopsSoFar asked files script out = ⊤
 
 -- words that ask for no session of edits leave the script alone; and so does a session of edits where its syntax file,
@@ -101,7 +110,7 @@ pub record Runs (asked : Option Asked) (files : FilesChange) (script : SourceCha
       → AppendsPrefix err.before err.after (with_asked known bytes asked).err)
   pub err_part_or_unread : IfTold files.told (script_read asked script.before) (λ known bytes.
       AppendsPrefix err.before err.after (with_asked known bytes asked).err
-      ⊎ IsSomeAnd asked (λ a. TellsUnread a known err.before err.after))
+      ⊎ IsSomeAnd asked (λ a. TellsUnread a known bytes err.before err.after))
   -- each answer and its cause
   pub usage : answer ≡ Usage → asked ≡ None
   pub faulty : asked ≡ None → (answer ≡ Usage) ⊎ (answer ≡ WriteFault)
@@ -113,13 +122,13 @@ pub record Runs (asked : Option Asked) (files : FilesChange) (script : SourceCha
       Rose files.faults files.faults_after ⊎ Rose files.misses files.misses_after ⊎ Rose script.faults script.faults_after
   pub read_fault_line : answer ≡ ReadFault → IsSomeAnd asked (λ a.
       (TellsFault a err.before err.after files.longs files.longs_after answer × IsUntaken script)
-      ⊎ FailsScript a script err)
+      ⊎ FailsScript a files script err)
   pub read_fault_told : answer ≡ ReadFault → IfTold files.told (script_read asked script.before) (λ known bytes.
       (err.after ≡ appended err.before (with_asked known bytes asked).err)
-      ⊎ IsSomeAnd asked (λ a. TellsAllUnread a known err.before err.after))
+      ⊎ IsSomeAnd asked (λ a. TellsAllUnread a known bytes err.before err.after))
   pub write_fault : answer ≡ WriteFault → Rose out.faults out.faults_after ⊎ Rose err.faults err.faults_after
   pub stopped : answer ≡ ReadFault → Rose script.faults script.faults_after
-      → IfSome files.told (λ known. StopsSoFar asked known script out)
+      → IfSome files.told (λ known. StopsSoFar asked known script out) ⊎ FailsAtFile files err
   -- what stays as it was
   pub files_unfailed : is_unfailed answer ≡ true → files.faults_after ≡ files.faults
   pub script_unfailed : is_unfailed answer ≡ true → script.faults_after ≡ script.faults
@@ -141,10 +150,16 @@ PaintsFew (Some (Edit words)) files script before after = after ≤ before + edi
 PaintsFew (Some (Large words)) files script before after = after ≤ before + large_lines words
 
 -- a script was carried out on a painted text
-pub record EditsPainted (words : PageWords) (painted : PaintedText) (script : SourceChange) (out err : SinkChange) (answer : Status) : Type 0 where
+pub record EditsPainted
+    (words : PageWords) (painted : PaintedText) (files : FilesChange) (script : SourceChange) (out err : SinkChange)
+    (answer : Status) : Type 0 where
   pub is_painted : IsPainted painted
+  pub kept : files.told_after ≡ files.told
   pub end : End
-  pub ends : EndsSo (painter_of words painted.syntax painted.budget) (shown_of painted) script out end
+  pub ends : IfKnown files.told (λ known.
+      EndsSo (library_of words painted.budget known) (edit_start words painted) script out end)
+  pub causes : HasCause script out files end
   pub closes : Closes end err answer
   pub taken : TakesFew script
-  pub part : IfSome script.before (λ bytes. AppendsPrefix out.before out.after (script_answer words painted bytes).text)
+  pub part : IfKnown files.told (λ known. IfSome script.before (λ bytes.
+      AppendsPrefix out.before out.after (script_answer words known painted bytes).text))

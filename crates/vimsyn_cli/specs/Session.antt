@@ -1,7 +1,6 @@
 -- The session: what a run writes on `out` and on `err`, and its status, as a function of the words, the
 -- files and the script.
 use Rattle.std.specs.Prelude.{ℕ, ◌+◌, List, [], length, Option, Some, None, Result, Ok, Err}
-use Rattle.edit_session.specs.Session.{script_costs}
 use Rattle.program_words.specs.Given.{PageWords}
 use Rattle.program_words.specs.declared.words.Asked.{Asked}
 use Rattle.program_words.specs.declared.words.Asked.TheVariants.{Edit, Large, Print}
@@ -13,7 +12,7 @@ use Rattle.syn_base.specs.Outside.{FileMap}
 use Rattle.vimsyn_cli.specs.declared.fault.Fault.{Fault}
 use Rattle.vimsyn_cli.specs.declared.status.Status.TheVariants.{Usage}
 use Rattle.vimsyn_cli.specs.Check.{check_told}
-use Rattle.vimsyn_cli.specs.Editing.{edit_session, painter_of, shown_of}
+use Rattle.vimsyn_cli.specs.EditRun.{edit_session, script_lines}
 use Rattle.vimsyn_cli.specs.Folds.{folds_told}
 use Rattle.vimsyn_cli.specs.Large.{large_run}
 use Rattle.vimsyn_cli.specs.Painting.{painting_told, text_told}
@@ -64,12 +63,12 @@ print_lines (Spans words) files = lines_in (text_told words.text files)
 print_lines (Html words) files = lines_in (text_told (words.painting).text files)
 print_lines (Folds words) files = lines_in (text_told (words.painting).text files)
 
--- and how many for the commands of a script: those of each change that they come to
-abbrev pub script_lines : PageWords → List ℕ → Result PaintedText Fault → ℕ
-script_lines words script (Ok painted) =
-    script_costs (painter_of words painted.syntax painted.budget) (shown_of painted) script
-script_lines words script (Err fault) = 0
+-- and how many for the commands of a script: those of each change and of each syntax that they come to
+abbrev pub told_lines : PageWords → FileMap → List ℕ → Result PaintedText Fault → ℕ
+told_lines words files script (Ok painted) = script_lines words files painted script
+told_lines words files script (Err fault) = 0
 
 abbrev pub edit_lines : PageWords → FileMap → List ℕ → ℕ
 edit_lines words files script =
-    lines_in (text_told (words.painting).text files) + script_lines words script (painting_told words.painting files)
+    lines_in (text_told (words.painting).text files)
+    + told_lines words files script (painting_told words.painting files)

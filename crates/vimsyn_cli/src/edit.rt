@@ -1,10 +1,11 @@
-//! What `edit` does: a text is painted, and a script of edits is carried out on it (this profile).
+//! What `edit` does: a text is painted, and a script of edits and of other syntaxes is carried out on it
+//! (this profile).
 ghost use Rattle.std.specs.Prelude.{◌≤◌, ◌+◌, IfSome};
-ghost use Rattle.edit_session.specs.Session.{script_costs};
+ghost use Rattle.edit_session.specs.Ends.{IfKnown};
 ghost use Rattle.program_words.specs.declared.words.Asked.TheVariants.{Edit};
 ghost use Rattle.vimsyn_cli.specs.Answers.{Closes};
 ghost use Rattle.vimsyn_cli.specs.Changes.{files_change, sink_change, source_change};
-ghost use Rattle.vimsyn_cli.specs.Editing.{painter_of, shown_of};
+ghost use Rattle.vimsyn_cli.specs.EditRun.{script_lines};
 ghost use Rattle.vimsyn_cli.specs.Runs.{EditsPainted, IfTold, Runs};
 ghost use Rattle.vimsyn_cli.specs.Session.{edit_lines};
 
@@ -48,34 +49,37 @@ pub(crate) fn run_edit<F: Files, I: Source, O: Sink, E: Sink, L: Ledger>(
         steps.new ≤ steps.old + edit_lines words.now known bytes) }
 {
     match paint(alloc, files, words.painting(), steps) {
-        Ok(painted) => edit_painted(alloc, words, painted, script, out, err, steps),
+        Ok(painted) => edit_painted(alloc, words, painted, files, script, out, err, steps),
         Err(stop) => deliver(Err(stop), out, err),
     }
 }
 
 /// Carries out the script on a painted text.
-fn edit_painted<I: Source, O: Sink, E: Sink, L: Ledger>(
+fn edit_painted<F: Files, I: Source, O: Sink, E: Sink, L: Ledger>(
     alloc: Global,
     words: &PageWords<'_>,
     painted: Painted,
+    files: &mut F,
     script: &mut I,
     out: &mut O,
     err: &mut E,
     steps: &mut Steps<L>,
 ) -> Status
     ensures edits { EditsPainted words.now painted
+        (files_change (F.told files.old) (F.told files.new)
+        (F.faults files.old) (F.faults files.new) (F.misses files.old) (F.misses files.new)
+        (F.longs files.old) (F.longs files.new))
         (source_change (I.left script.old) (I.left script.new)
         (I.faults script.old) (I.faults script.new))
         (sink_change (O.written out.old) (O.written out.new) (O.faults out.old) (O.faults out.new))
         (sink_change (E.written err.old) (E.written err.new) (E.faults err.old) (E.faults err.new))
         result }
-    ensures steps { IfSome (I.left script.old) (λ bytes. steps.new ≤ steps.old
-        + script_costs (painter_of words.now painted.syntax painted.budget) (shown_of painted)
-        bytes) }
+    ensures steps { IfKnown (F.told files.old) (λ known. IfSome (I.left script.old) (λ bytes.
+        steps.new ≤ steps.old + script_lines words.now known painted bytes)) }
 {
     let _syntax = painted.syntax();
     let sheet = Sheet { painted, words };
-    let end = carry_out_script(alloc, sheet, script, out, steps);
+    let end = carry_out_script(alloc, sheet, files, script, out, steps);
     close(end, err)
 }
 
@@ -90,6 +94,7 @@ fn close<E: Sink>(end: End, err: &mut E) -> Status
         End::Refused => Status::Refused,
         End::TooLong => finish(err, LONG_SCRIPT, Status::Refused),
         End::Unread => finish(err, UNREAD_SCRIPT, Status::ReadFault),
+        End::Unfetched(line) => finish(err, line.as_slice(), Status::ReadFault),
         End::Unwritten => Status::WriteFault,
         End::Memory => Status::Memory,
     }

@@ -20,6 +20,7 @@ mod painting;
 mod print;
 mod reading;
 mod refusal;
+mod renewal;
 mod session;
 mod sheet;
 mod spans;

@@ -12,7 +12,7 @@ ghost use Rattle.syn_base.specs.Outside.{AppendsPrefix, appended};
 ghost use Rattle.vimsyn_cli.specs.Answers.{GivesSession, IsUntaken, TellsAllUnread, TellsFault, TellsUnread, TellsUsage, is_unfailed};
 ghost use Rattle.vimsyn_cli.specs.Changes.{files_change, sink_change, source_change};
 ghost use Rattle.vimsyn_cli.specs.LargeRun.{RunsIfLarge};
-ghost use Rattle.vimsyn_cli.specs.Runs.{EndsScript, FailsScript, IfTold, LeavesFiles, LeavesScript, PaintsFew, RefusesScript, Runs, StopsSoFar};
+ghost use Rattle.vimsyn_cli.specs.Runs.{EndsScript, FailsAtFile, FailsScript, IfTold, LeavesFiles, LeavesScript, PaintsFew, RefusesScript, Runs, StopsSoFar};
 ghost use Rattle.vimsyn_cli.specs.Session.{print_lines, script_read, session};
 
 use crate::Status;
@@ -75,7 +75,7 @@ pub fn run<F: Files, I: Source, O: Sink, E: Sink, L: Ledger>(
         AppendsPrefix (E.written err.old) (E.written err.new)
         (session (texts_of words.now) known bytes).err
         ⊎ IsSomeAnd (asked_of (texts_of words.now)) (λ asked.
-        TellsUnread asked known (E.written err.old) (E.written err.new))) }
+        TellsUnread asked known bytes (E.written err.old) (E.written err.new))) }
 
     // Each answer and its cause.
     ensures usage { result ≡ Status.Usage → asked_of (texts_of words.now) ≡ None }
@@ -107,6 +107,9 @@ pub fn run<F: Files, I: Source, O: Sink, E: Sink, L: Ledger>(
         × IsUntaken (source_change (I.left script.old) (I.left script.new)
         (I.faults script.old) (I.faults script.new)))
         ⊎ FailsScript asked
+        (files_change (F.told files.old) (F.told files.new)
+        (F.faults files.old) (F.faults files.new) (F.misses files.old) (F.misses files.new)
+        (F.longs files.old) (F.longs files.new))
         (source_change (I.left script.old) (I.left script.new)
         (I.faults script.old) (I.faults script.new))
         (sink_change (E.written err.old) (E.written err.new)
@@ -117,19 +120,25 @@ pub fn run<F: Files, I: Source, O: Sink, E: Sink, L: Ledger>(
         (E.written err.new
         ≡ appended (E.written err.old) (session (texts_of words.now) known bytes).err)
         ⊎ IsSomeAnd (asked_of (texts_of words.now)) (λ asked.
-        TellsAllUnread asked known (E.written err.old) (E.written err.new))) }
+        TellsAllUnread asked known bytes (E.written err.old) (E.written err.new))) }
     ensures write_fault { result ≡ Status.WriteFault
         → Rose (O.faults out.old) (O.faults out.new) ⊎ Rose (E.faults err.old) (E.faults err.new) }
 
     // A read of the script failed: `out` got what the commands print that were whole in the bytes
-    // taken.
+    // taken, unless it was a file that the script names.
     ensures stopped { result ≡ Status.ReadFault
         → Rose (I.faults script.old) (I.faults script.new) → IfSome (F.told files.old) (λ known.
         StopsSoFar (asked_of (texts_of words.now)) known
         (source_change (I.left script.old) (I.left script.new)
         (I.faults script.old) (I.faults script.new))
         (sink_change (O.written out.old) (O.written out.new)
-        (O.faults out.old) (O.faults out.new))) }
+        (O.faults out.old) (O.faults out.new)))
+        ⊎ FailsAtFile
+        (files_change (F.told files.old) (F.told files.new)
+        (F.faults files.old) (F.faults files.new) (F.misses files.old) (F.misses files.new)
+        (F.longs files.old) (F.longs files.new))
+        (sink_change (E.written err.old) (E.written err.new)
+        (E.faults err.old) (E.faults err.new)) }
 
     // What stays as it was.
     ensures files_unfailed { is_unfailed result ≡ true → F.faults files.new ≡ F.faults files.old }
@@ -169,7 +178,7 @@ pub fn run<F: Files, I: Source, O: Sink, E: Sink, L: Ledger>(
 
     // Lines that are painted: at most those of the text, and none for words that name no text. For
     // a session of edits, and for the large mode, besides at each edit that fits the text those that
-    // its painting costs.
+    // its painting costs, and at each syntax that is accepted those of the text as it is then.
     ensures steps { IfTold (F.told files.old)
         (script_read (asked_of (texts_of words.now)) (I.left script.old))
         (λ known bytes. PaintsFew (asked_of (texts_of words.now)) known bytes

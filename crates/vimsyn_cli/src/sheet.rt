@@ -3,18 +3,20 @@ ghost use Rattle.std.specs.Prelude.{◌≡◌, ◌≢◌, ◌++◌, codes, lengt
 ghost use Rattle.std.specs.List.{sum_by};
 ghost use Rattle.vimsyn_cli.specs.Editing.{cause_words, painter_of, place_words};
 ghost use Rattle.vimsyn_cli.specs.Refusal.{IsUnedited};
+ghost use Rattle.vimsyn_cli.specs.Renewal.{library_of};
 
 use crate::folds::folds_bytes;
 use crate::html::page_bytes;
 use crate::refusal::group_of;
+use crate::renewal::{read_named, renew};
 use crate::spans::{push_line, spans_at};
 use byte_text::{push_bytes, push_number_from_one};
-use edit_session::{Document, Replacement, Unedited};
+use edit_session::{Document, Replacement, Unedited, Untaken};
 use large_session::LargeDocument;
 use program_words::PageWords;
 use state_cache::{EditError, Painted, Repainted};
 use std::alloc::{AllocError, Global};
-use syn_base::{Ledger, Lines, List, Memory, Steps};
+use syn_base::{Files, Ledger, Lines, List, Memory, Steps};
 use syn_reader::Syntax;
 
 /// A painted text, and how its page is made.
@@ -38,6 +40,8 @@ impl<'a> Lines for Sheet<'a> {
 
 impl<'a> Document for Sheet<'a> {
     ghost painter = { λ s. painter_of s.words.now s.painted.syntax s.painted.budget };
+
+    ghost library = { λ s known. library_of s.words.now s.painted.budget known };
 
     ghost shown = { λ s. s.painted.spans };
 
@@ -67,6 +71,19 @@ impl<'a> Document for Sheet<'a> {
             Err(error) => Err(unedited(alloc, self.painted.syntax(), error)),
         }
     }
+
+    fn take_syntax<F: Files, L: Ledger>(
+        &mut self,
+        alloc: Global,
+        files: &mut F,
+        name: &[char],
+        steps: &mut Steps<L>,
+    ) -> Result<List<usize>, Untaken> {
+        match read_named(alloc, files, self.words.painting().syntax(), name) {
+            Ok(syntax) => renew(alloc, &mut self.painted, syntax, steps),
+            Err(why) => Err(why),
+        }
+    }
 }
 
 impl<'a> LargeDocument for Sheet<'a> {
@@ -89,7 +106,7 @@ fn span_count(painted: &Painted) -> Result<usize, Memory>
 }
 
 /// The lines to tell of a text each of whose lines has its spans.
-fn told(painted: &Painted, lines: List<usize>) -> List<usize>
+pub(crate) fn told(painted: &Painted, lines: List<usize>) -> List<usize>
     ensures is { result ≡ lines }
     ensures counted { length painted.now.spans ≡ length painted.now.text }
 {
@@ -107,7 +124,12 @@ fn unedited(alloc: Global, syntax: &Syntax, error: EditError) -> Unedited
     }
 }
 
-fn cause_words(alloc: Global, syntax: &Syntax, error: EditError) -> Result<List<u8>, Memory>
+/// The words for a refusal.
+pub(crate) fn cause_words(
+    alloc: Global,
+    syntax: &Syntax,
+    error: EditError,
+) -> Result<List<u8>, Memory>
     ensures { IfOk result (λ words. (error ≢ EditError.Memory)
         × (words ≡ cause_words syntax.now error)) }
 {

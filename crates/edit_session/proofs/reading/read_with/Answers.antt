@@ -1,31 +1,248 @@
-use Rattle.edit_session.specs.Steps.{standing}
-use Rattle.edit_session.proofs.ReadingLaws.{finished, over_end, reached_end}
+use Rattle.std.proofs.Common.{Bool, ap, ◌∙◌}
+use Rattle.edit_session.specs.Ends.{files_change, sink_change, source_change}
+use Rattle.edit_session.specs.Steps.{standing, steps_change}
+use Rattle.edit_session.proofs.CauseLaws.{caused_further, script_finished, script_over, script_stopped, took_all, took_few}
+use Rattle.edit_session.proofs.ReadingLaws.{finished, over_end, reached_end, stopped_reading}
 use Rattle.edit_session.proofs.reading.read_with.Goals as goal
 
-pub returns-in-Err-reach_end : goal.returns-in-Err-reach_end
-returns-in-Err-reach_end g c =
-    let lines = g.D.Lines.lines in
-    let shown = g.D.Document.shown in
-    let read = c.in-Ok.ensures.read in
-    let over = over_end (Unit {0}) _ (g.D.Document.painter c.args.commands.now.document)
-    (standing lines shown c.args.commands.now) (standing lines shown c.read_pieces.new.commands) c.read_pieces.new.commands.refused c.in-Ok.ended c.read_pieces.new.kept
-    (g.I.Source.left c.args.script.now) (g.I.Source.left c.read_pieces.new.script) (g.I.Source.left c.reach_end.new.script) (g.O.Sink.written c.args.out.now) (g.O.Sink.written c.read_pieces.new.out) (g.I.Source.faults c.args.script.now) (g.I.Source.faults c.read_pieces.new.script) (g.I.Source.faults c.reach_end.new.script) (g.O.Sink.faults c.args.out.now) (g.O.Sink.faults c.read_pieces.new.out) c.args.steps.now c.read_pieces.new.steps
-    read.0 c.in-Err-reach_end.end read.1 read.2 read.3 c.in-Err-reach_end.ensures in
-    record { ends = over.0; within = over.1 }
+-- ---- reading stopped in the pieces
 
-pub returns-in-Ok-reach_end : goal.returns-in-Ok-reach_end
-returns-in-Ok-reach_end g c =
+pub returns-in-Err-clause-ends : goal.returns-in-Err-clause-ends
+returns-in-Err-clause-ends g c = λ known is.
     let lines = g.D.Lines.lines in
     let shown = g.D.Document.shown in
-    let read = c.in-Ok.ensures.read in
-    let p = g.D.Document.painter c.args.commands.now.document in
-    let s = standing lines shown c.args.commands.now in
-    let now = standing lines shown c.read_pieces.new.commands in
-    let next = standing lines shown c.finish.new.commands in
-    let reached = reached_end _ p s now c.in-Ok.ended c.read_pieces.new.kept
-    (g.I.Source.left c.args.script.now) (g.I.Source.left c.read_pieces.new.script) (g.I.Source.left c.reach_end.new.script) (g.O.Sink.written c.args.out.now) (g.O.Sink.written c.read_pieces.new.out) (g.I.Source.faults c.args.script.now) (g.I.Source.faults c.read_pieces.new.script) (g.I.Source.faults c.reach_end.new.script) (g.O.Sink.faults c.args.out.now) (g.O.Sink.faults c.read_pieces.new.out) c.args.steps.now c.read_pieces.new.steps
-    read.0 c.in-Ok-reach_end.field-0 read.1 read.2 read.3 c.in-Ok-reach_end.ensures in
-    let done = finished _ p (g.D.Document.painter c.read_pieces.new.commands.document) c.in-Ok.ensures.painter s now next c.read_pieces.new.kept
-    (g.I.Source.left c.args.script.now) (g.I.Source.left c.reach_end.new.script) (g.O.Sink.written c.args.out.now) (g.O.Sink.written c.read_pieces.new.out) (g.O.Sink.written c.finish.new.out) (g.I.Source.faults c.args.script.now) (g.I.Source.faults c.reach_end.new.script) (g.O.Sink.faults c.args.out.now) (g.O.Sink.faults c.read_pieces.new.out) (g.O.Sink.faults c.finish.new.out) c.args.steps.now c.read_pieces.new.steps c.finish.new.steps
-    read.0 c.finish.result reached.0 reached.1 reached.2 c.finish.ensures.answers c.finish.ensures.steps in
-    record { ends = done.0; within = done.1 }
+    let painter = g.D.Document.painter in
+    let left = g.I.Source.left in
+    let failed = g.I.Source.faults in
+    let written = g.O.Sink.written in
+    let refused = g.O.Sink.faults in
+    let told = g.F.Files.told in
+    let lost = g.F.Files.faults in
+    let misses = g.F.Files.misses in
+    let longs = g.F.Files.longs in
+    let stopped = stopped_reading (Unit {0}) (g.D.Document.library c.args.commands.now.document known) (standing lines shown painter c.args.commands.now) c.read_pieces.new.commands.refused c.args.commands.now.refused c.read_pieces.new.commands.refused
+    (source_change (left c.args.script.now) (left c.read_pieces.new.script) (failed c.args.script.now) (failed c.read_pieces.new.script)) (files_change (told c.args.files.now) (told c.read_pieces.new.files) (lost c.args.files.now) (lost c.read_pieces.new.files) (misses c.args.files.now) (misses c.read_pieces.new.files) (longs c.args.files.now) (longs c.read_pieces.new.files)) (sink_change (written c.args.out.now) (written c.read_pieces.new.out) (refused c.args.out.now) (refused c.read_pieces.new.out)) (steps_change c.args.steps.now c.read_pieces.new.steps) c.in-Err.end
+    (c.in-Err.ensures.read known is) c.in-Err.ensures.causes in
+    stopped.0
+
+pub returns-in-Err-clause-within : goal.returns-in-Err-clause-within
+returns-in-Err-clause-within g c = λ known is.
+    let lines = g.D.Lines.lines in
+    let shown = g.D.Document.shown in
+    let painter = g.D.Document.painter in
+    let left = g.I.Source.left in
+    let failed = g.I.Source.faults in
+    let written = g.O.Sink.written in
+    let refused = g.O.Sink.faults in
+    let told = g.F.Files.told in
+    let lost = g.F.Files.faults in
+    let misses = g.F.Files.misses in
+    let longs = g.F.Files.longs in
+    let stopped = stopped_reading (Unit {0}) (g.D.Document.library c.args.commands.now.document known) (standing lines shown painter c.args.commands.now) c.read_pieces.new.commands.refused c.args.commands.now.refused c.read_pieces.new.commands.refused
+    (source_change (left c.args.script.now) (left c.read_pieces.new.script) (failed c.args.script.now) (failed c.read_pieces.new.script)) (files_change (told c.args.files.now) (told c.read_pieces.new.files) (lost c.args.files.now) (lost c.read_pieces.new.files) (misses c.args.files.now) (misses c.read_pieces.new.files) (longs c.args.files.now) (longs c.read_pieces.new.files)) (sink_change (written c.args.out.now) (written c.read_pieces.new.out) (refused c.args.out.now) (refused c.read_pieces.new.out)) (steps_change c.args.steps.now c.read_pieces.new.steps) c.in-Err.end
+    (c.in-Err.ensures.read known is) c.in-Err.ensures.causes in
+    stopped.1
+
+pub returns-in-Err-clause-causes : goal.returns-in-Err-clause-causes
+returns-in-Err-clause-causes g c =
+    let lines = g.D.Lines.lines in
+    let shown = g.D.Document.shown in
+    let painter = g.D.Document.painter in
+    let left = g.I.Source.left in
+    let failed = g.I.Source.faults in
+    let written = g.O.Sink.written in
+    let refused = g.O.Sink.faults in
+    let told = g.F.Files.told in
+    let lost = g.F.Files.faults in
+    let misses = g.F.Files.misses in
+    let longs = g.F.Files.longs in
+    let stopped = script_stopped (Unit {0}) c.args.commands.now.refused c.read_pieces.new.commands.refused
+    (source_change (left c.args.script.now) (left c.read_pieces.new.script) (failed c.args.script.now) (failed c.read_pieces.new.script)) (files_change (told c.args.files.now) (told c.read_pieces.new.files) (lost c.args.files.now) (lost c.read_pieces.new.files) (misses c.args.files.now) (misses c.read_pieces.new.files) (longs c.args.files.now) (longs c.read_pieces.new.files)) (sink_change (written c.args.out.now) (written c.read_pieces.new.out) (refused c.args.out.now) (refused c.read_pieces.new.out)) c.in-Err.end c.in-Err.ensures.causes in
+    stopped.0
+
+pub returns-in-Err-clause-taken : goal.returns-in-Err-clause-taken
+returns-in-Err-clause-taken g c =
+    let lines = g.D.Lines.lines in
+    let shown = g.D.Document.shown in
+    let painter = g.D.Document.painter in
+    let left = g.I.Source.left in
+    let failed = g.I.Source.faults in
+    let written = g.O.Sink.written in
+    let refused = g.O.Sink.faults in
+    let told = g.F.Files.told in
+    let lost = g.F.Files.faults in
+    let misses = g.F.Files.misses in
+    let longs = g.F.Files.longs in
+    let stopped = script_stopped (Unit {0}) c.args.commands.now.refused c.read_pieces.new.commands.refused
+    (source_change (left c.args.script.now) (left c.read_pieces.new.script) (failed c.args.script.now) (failed c.read_pieces.new.script)) (files_change (told c.args.files.now) (told c.read_pieces.new.files) (lost c.args.files.now) (lost c.read_pieces.new.files) (misses c.args.files.now) (misses c.read_pieces.new.files) (longs c.args.files.now) (longs c.read_pieces.new.files)) (sink_change (written c.args.out.now) (written c.read_pieces.new.out) (refused c.args.out.now) (refused c.read_pieces.new.out)) c.in-Err.end c.in-Err.ensures.causes in
+    stopped.1
+
+-- ---- at the end of the script, or behind the most bytes of one
+
+pub returns-in-Err-reach_end-clause-ends : goal.returns-in-Err-reach_end-clause-ends
+returns-in-Err-reach_end-clause-ends g c = λ known is.
+    let lines = g.D.Lines.lines in
+    let shown = g.D.Document.shown in
+    let painter = g.D.Document.painter in
+    let left = g.I.Source.left in
+    let failed = g.I.Source.faults in
+    let written = g.O.Sink.written in
+    let refused = g.O.Sink.faults in
+    let read = c.in-Ok.ensures.read known is in
+    let caused = c.in-Ok.ensures.causes in
+    let over = over_end (Unit {0}) _ (g.D.Document.library c.args.commands.now.document known)
+    (standing lines shown painter c.args.commands.now) (standing lines shown painter c.read_pieces.new.commands) c.read_pieces.new.commands.refused c.in-Ok.ended c.read_pieces.new.kept
+    (left c.args.script.now) (left c.read_pieces.new.script) (left c.reach_end.new.script) (written c.args.out.now) (written c.read_pieces.new.out) (failed c.args.script.now) (failed c.read_pieces.new.script) (failed c.reach_end.new.script) (refused c.args.out.now) (refused c.read_pieces.new.out) c.args.steps.now c.read_pieces.new.steps
+    read.0 c.in-Err-reach_end.end read.1 read.2 caused.1.readable caused.3.0 c.in-Err-reach_end.ensures in
+    over.0
+
+pub returns-in-Err-reach_end-clause-within : goal.returns-in-Err-reach_end-clause-within
+returns-in-Err-reach_end-clause-within g c = λ known is.
+    let lines = g.D.Lines.lines in
+    let shown = g.D.Document.shown in
+    let painter = g.D.Document.painter in
+    let left = g.I.Source.left in
+    let failed = g.I.Source.faults in
+    let written = g.O.Sink.written in
+    let refused = g.O.Sink.faults in
+    let read = c.in-Ok.ensures.read known is in
+    let caused = c.in-Ok.ensures.causes in
+    let over = over_end (Unit {0}) _ (g.D.Document.library c.args.commands.now.document known)
+    (standing lines shown painter c.args.commands.now) (standing lines shown painter c.read_pieces.new.commands) c.read_pieces.new.commands.refused c.in-Ok.ended c.read_pieces.new.kept
+    (left c.args.script.now) (left c.read_pieces.new.script) (left c.reach_end.new.script) (written c.args.out.now) (written c.read_pieces.new.out) (failed c.args.script.now) (failed c.read_pieces.new.script) (failed c.reach_end.new.script) (refused c.args.out.now) (refused c.read_pieces.new.out) c.args.steps.now c.read_pieces.new.steps
+    read.0 c.in-Err-reach_end.end read.1 read.2 caused.1.readable caused.3.0 c.in-Err-reach_end.ensures in
+    over.1
+
+pub returns-in-Err-reach_end-clause-causes : goal.returns-in-Err-reach_end-clause-causes
+returns-in-Err-reach_end-clause-causes g c =
+    let lines = g.D.Lines.lines in
+    let shown = g.D.Document.shown in
+    let painter = g.D.Document.painter in
+    let left = g.I.Source.left in
+    let failed = g.I.Source.faults in
+    let written = g.O.Sink.written in
+    let refused = g.O.Sink.faults in
+    let told = g.F.Files.told in
+    let lost = g.F.Files.faults in
+    let misses = g.F.Files.misses in
+    let longs = g.F.Files.longs in
+    let caused = c.in-Ok.ensures.causes in
+    let over = script_over (Unit {0}) _ Bool c.args.commands.now.refused c.read_pieces.new.commands.refused c.in-Ok.ended
+    (left c.args.script.now) (left c.read_pieces.new.script) (left c.reach_end.new.script) (failed c.args.script.now) (failed c.read_pieces.new.script) (failed c.reach_end.new.script)
+    (files_change (told c.args.files.now) (told c.read_pieces.new.files) (lost c.args.files.now) (lost c.read_pieces.new.files) (misses c.args.files.now) (misses c.read_pieces.new.files) (longs c.args.files.now) (longs c.read_pieces.new.files)) (sink_change (written c.args.out.now) (written c.read_pieces.new.out) (refused c.args.out.now) (refused c.read_pieces.new.out)) caused.0 c.in-Ok.ended c.in-Err-reach_end.end caused.1 caused.2 caused.3 c.in-Err-reach_end.ensures in
+    over.0
+
+pub returns-in-Err-reach_end-clause-taken : goal.returns-in-Err-reach_end-clause-taken
+returns-in-Err-reach_end-clause-taken g c =
+    let lines = g.D.Lines.lines in
+    let shown = g.D.Document.shown in
+    let painter = g.D.Document.painter in
+    let left = g.I.Source.left in
+    let failed = g.I.Source.faults in
+    let written = g.O.Sink.written in
+    let refused = g.O.Sink.faults in
+    let told = g.F.Files.told in
+    let lost = g.F.Files.faults in
+    let misses = g.F.Files.misses in
+    let longs = g.F.Files.longs in
+    let caused = c.in-Ok.ensures.causes in
+    let over = script_over (Unit {0}) _ Bool c.args.commands.now.refused c.read_pieces.new.commands.refused c.in-Ok.ended
+    (left c.args.script.now) (left c.read_pieces.new.script) (left c.reach_end.new.script) (failed c.args.script.now) (failed c.read_pieces.new.script) (failed c.reach_end.new.script)
+    (files_change (told c.args.files.now) (told c.read_pieces.new.files) (lost c.args.files.now) (lost c.read_pieces.new.files) (misses c.args.files.now) (misses c.read_pieces.new.files) (longs c.args.files.now) (longs c.read_pieces.new.files)) (sink_change (written c.args.out.now) (written c.read_pieces.new.out) (refused c.args.out.now) (refused c.read_pieces.new.out)) caused.0 c.in-Ok.ended c.in-Err-reach_end.end caused.1 caused.2 caused.3 c.in-Err-reach_end.ensures in
+    over.1
+
+-- ---- and the commands that are left were carried out
+
+pub returns-in-Ok-reach_end-clause-ends : goal.returns-in-Ok-reach_end-clause-ends
+returns-in-Ok-reach_end-clause-ends g c = λ known is.
+    let lines = g.D.Lines.lines in
+    let shown = g.D.Document.shown in
+    let painter = g.D.Document.painter in
+    let left = g.I.Source.left in
+    let failed = g.I.Source.faults in
+    let written = g.O.Sink.written in
+    let refused = g.O.Sink.faults in
+    let told = g.F.Files.told in
+    let lost = g.F.Files.faults in
+    let misses = g.F.Files.misses in
+    let longs = g.F.Files.longs in
+    let library = g.D.Document.library c.args.commands.now.document known in
+    let read = c.in-Ok.ensures.read known is in
+    let caused = c.in-Ok.ensures.causes in
+    let s = standing lines shown painter c.args.commands.now in
+    let now = standing lines shown painter c.read_pieces.new.commands in
+    let next = standing lines shown painter c.finish.new.commands in
+    let reached = reached_end _ library s now c.in-Ok.ended c.read_pieces.new.kept
+    (left c.args.script.now) (left c.read_pieces.new.script) (left c.reach_end.new.script) (written c.args.out.now) (written c.read_pieces.new.out) (failed c.args.script.now) (failed c.read_pieces.new.script) (failed c.reach_end.new.script) (refused c.args.out.now) (refused c.read_pieces.new.out) c.args.steps.now c.read_pieces.new.steps
+    read.0 c.in-Ok-reach_end.field-0 read.1 read.2 c.in-Ok-reach_end.ensures in
+    let all = took_all _ c.in-Ok.ended (left c.args.script.now) (left c.read_pieces.new.script) (left c.reach_end.new.script) (failed c.args.script.now) (failed c.read_pieces.new.script) (failed c.reach_end.new.script) caused.0 c.in-Ok-reach_end.field-0 caused.1 caused.2 c.in-Ok-reach_end.ensures in
+    let told_still = c.in-Ok.ensures.kept ∙ is in
+    let done = finished _ library (g.D.Document.library c.read_pieces.new.commands.document known) (ap (λ f. f known) c.in-Ok.ensures.library) s now next c.read_pieces.new.kept
+    (left c.args.script.now) (left c.reach_end.new.script) (written c.args.out.now) (written c.read_pieces.new.out) (written c.finish.new.out) (failed c.args.script.now) (failed c.reach_end.new.script) (refused c.args.out.now) (refused c.read_pieces.new.out) (refused c.finish.new.out) c.args.steps.now c.read_pieces.new.steps c.finish.new.steps
+    read.0 c.read_pieces.new.commands.refused c.finish.new.commands.refused (files_change (told c.read_pieces.new.files) (told c.finish.new.files) (lost c.read_pieces.new.files) (lost c.finish.new.files) (misses c.read_pieces.new.files) (misses c.finish.new.files) (longs c.read_pieces.new.files) (longs c.finish.new.files)) c.finish.result reached.0 reached.1 all.0.readable caused.3.0
+    (c.finish.ensures.answers known told_still) (c.finish.ensures.steps known told_still) c.finish.ensures.causes in
+    done.0
+
+pub returns-in-Ok-reach_end-clause-within : goal.returns-in-Ok-reach_end-clause-within
+returns-in-Ok-reach_end-clause-within g c = λ known is.
+    let lines = g.D.Lines.lines in
+    let shown = g.D.Document.shown in
+    let painter = g.D.Document.painter in
+    let left = g.I.Source.left in
+    let failed = g.I.Source.faults in
+    let written = g.O.Sink.written in
+    let refused = g.O.Sink.faults in
+    let told = g.F.Files.told in
+    let lost = g.F.Files.faults in
+    let misses = g.F.Files.misses in
+    let longs = g.F.Files.longs in
+    let library = g.D.Document.library c.args.commands.now.document known in
+    let read = c.in-Ok.ensures.read known is in
+    let caused = c.in-Ok.ensures.causes in
+    let s = standing lines shown painter c.args.commands.now in
+    let now = standing lines shown painter c.read_pieces.new.commands in
+    let next = standing lines shown painter c.finish.new.commands in
+    let reached = reached_end _ library s now c.in-Ok.ended c.read_pieces.new.kept
+    (left c.args.script.now) (left c.read_pieces.new.script) (left c.reach_end.new.script) (written c.args.out.now) (written c.read_pieces.new.out) (failed c.args.script.now) (failed c.read_pieces.new.script) (failed c.reach_end.new.script) (refused c.args.out.now) (refused c.read_pieces.new.out) c.args.steps.now c.read_pieces.new.steps
+    read.0 c.in-Ok-reach_end.field-0 read.1 read.2 c.in-Ok-reach_end.ensures in
+    let all = took_all _ c.in-Ok.ended (left c.args.script.now) (left c.read_pieces.new.script) (left c.reach_end.new.script) (failed c.args.script.now) (failed c.read_pieces.new.script) (failed c.reach_end.new.script) caused.0 c.in-Ok-reach_end.field-0 caused.1 caused.2 c.in-Ok-reach_end.ensures in
+    let told_still = c.in-Ok.ensures.kept ∙ is in
+    let done = finished _ library (g.D.Document.library c.read_pieces.new.commands.document known) (ap (λ f. f known) c.in-Ok.ensures.library) s now next c.read_pieces.new.kept
+    (left c.args.script.now) (left c.reach_end.new.script) (written c.args.out.now) (written c.read_pieces.new.out) (written c.finish.new.out) (failed c.args.script.now) (failed c.reach_end.new.script) (refused c.args.out.now) (refused c.read_pieces.new.out) (refused c.finish.new.out) c.args.steps.now c.read_pieces.new.steps c.finish.new.steps
+    read.0 c.read_pieces.new.commands.refused c.finish.new.commands.refused (files_change (told c.read_pieces.new.files) (told c.finish.new.files) (lost c.read_pieces.new.files) (lost c.finish.new.files) (misses c.read_pieces.new.files) (misses c.finish.new.files) (longs c.read_pieces.new.files) (longs c.finish.new.files)) c.finish.result reached.0 reached.1 all.0.readable caused.3.0
+    (c.finish.ensures.answers known told_still) (c.finish.ensures.steps known told_still) c.finish.ensures.causes in
+    done.1
+
+pub returns-in-Ok-reach_end-clause-causes : goal.returns-in-Ok-reach_end-clause-causes
+returns-in-Ok-reach_end-clause-causes g c =
+    let lines = g.D.Lines.lines in
+    let shown = g.D.Document.shown in
+    let painter = g.D.Document.painter in
+    let left = g.I.Source.left in
+    let failed = g.I.Source.faults in
+    let written = g.O.Sink.written in
+    let refused = g.O.Sink.faults in
+    let told = g.F.Files.told in
+    let lost = g.F.Files.faults in
+    let misses = g.F.Files.misses in
+    let longs = g.F.Files.longs in
+    let caused = c.in-Ok.ensures.causes in
+    let all = took_all _ c.in-Ok.ended (left c.args.script.now) (left c.read_pieces.new.script) (left c.reach_end.new.script) (failed c.args.script.now) (failed c.read_pieces.new.script) (failed c.reach_end.new.script) caused.0 c.in-Ok-reach_end.field-0 caused.1 caused.2 c.in-Ok-reach_end.ensures in
+    script_finished _ c.args.commands.now.refused c.finish.new.commands.refused
+    (source_change (left c.args.script.now) (left c.reach_end.new.script) (failed c.args.script.now) (failed c.reach_end.new.script)) (files_change (told c.args.files.now) (told c.finish.new.files) (lost c.args.files.now) (lost c.finish.new.files) (misses c.args.files.now) (misses c.finish.new.files) (longs c.args.files.now) (longs c.finish.new.files)) (sink_change (written c.args.out.now) (written c.finish.new.out) (refused c.args.out.now) (refused c.finish.new.out)) caused.0 c.finish.result all.1 all.0
+    (caused_further Bool _ c.args.commands.now.refused c.read_pieces.new.commands.refused c.finish.new.commands.refused
+    (told c.args.files.now) (told c.read_pieces.new.files) (told c.finish.new.files) (lost c.args.files.now) (lost c.read_pieces.new.files) (lost c.finish.new.files) (misses c.args.files.now) (misses c.read_pieces.new.files) (misses c.finish.new.files) (longs c.args.files.now) (longs c.read_pieces.new.files) (longs c.finish.new.files)
+    (written c.args.out.now) (written c.read_pieces.new.out) (written c.finish.new.out) (refused c.args.out.now) (refused c.read_pieces.new.out) (refused c.finish.new.out) c.in-Ok.ended c.finish.result caused.3 c.finish.ensures.causes)
+
+pub returns-in-Ok-reach_end-clause-taken : goal.returns-in-Ok-reach_end-clause-taken
+returns-in-Ok-reach_end-clause-taken g c =
+    let lines = g.D.Lines.lines in
+    let shown = g.D.Document.shown in
+    let painter = g.D.Document.painter in
+    let left = g.I.Source.left in
+    let failed = g.I.Source.faults in
+    let written = g.O.Sink.written in
+    let refused = g.O.Sink.faults in
+    let caused = c.in-Ok.ensures.causes in
+    let all = took_all _ c.in-Ok.ended (left c.args.script.now) (left c.read_pieces.new.script) (left c.reach_end.new.script) (failed c.args.script.now) (failed c.read_pieces.new.script) (failed c.reach_end.new.script) caused.0 c.in-Ok-reach_end.field-0 caused.1 caused.2 c.in-Ok-reach_end.ensures in
+    took_few (source_change (left c.args.script.now) (left c.reach_end.new.script) (failed c.args.script.now) (failed c.reach_end.new.script)) caused.0 all.0

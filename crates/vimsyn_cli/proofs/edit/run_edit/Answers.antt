@@ -1,4 +1,4 @@
-use Rattle.std.proofs.Common.{ℕ, List, refl}
+use Rattle.std.proofs.Common.{ℕ, List, refl, ◌∙◌}
 use Rattle.std.specs.Prelude.{Err}
 use Rattle.program_words.specs.declared.words.Asked.TheVariants.{Edit}
 use Rattle.state_cache.specs.PaintedText.{PaintedText}
@@ -9,13 +9,20 @@ use Rattle.vimsyn_cli.proofs.edit.run_edit.Goals as goal
 
 pub returns-in-Ok-clause-runs : goal.returns-in-Ok-clause-runs
 returns-in-Ok-clause-runs g c =
+    let told = g.F.Files.told in
+    let faults = g.F.Files.faults in
+    let misses = g.F.Files.misses in
+    let longs = g.F.Files.longs in
+    let old = c.args.files.now in
+    let mid = c.paint.new.files in
+    let new = c.edit_painted.new.files in
     edited_runs c.args.words.now c.in-Ok.painted
-    (record { told = g.F.Files.told c.args.files.now; told_after = g.F.Files.told c.paint.new.files; faults = g.F.Files.faults c.args.files.now; faults_after = g.F.Files.faults c.paint.new.files; misses = g.F.Files.misses c.args.files.now; misses_after = g.F.Files.misses c.paint.new.files; longs = g.F.Files.longs c.args.files.now; longs_after = g.F.Files.longs c.paint.new.files })
+    (told old) (told mid) (told new) (faults old) (faults mid) (faults new) (misses old) (misses mid) (misses new) (longs old) (longs mid) (longs new)
     (record { before = g.I.Source.left c.args.script.now; after = g.I.Source.left c.edit_painted.new.script; faults = g.I.Source.faults c.args.script.now; faults_after = g.I.Source.faults c.edit_painted.new.script })
     (record { before = g.O.Sink.written c.args.out.now; after = g.O.Sink.written c.edit_painted.new.out; faults = g.O.Sink.faults c.args.out.now; faults_after = g.O.Sink.faults c.edit_painted.new.out })
     (record { before = g.E.Sink.written c.args.err.now; after = g.E.Sink.written c.edit_painted.new.err; faults = g.E.Sink.faults c.args.err.now; faults_after = g.E.Sink.faults c.edit_painted.new.err })
     c.edit_painted.result
-    (edit_painted_told c.args.words.now c.painting.result.now (g.F.Files.told c.args.files.now) c.in-Ok.painted c.painting.ensures c.in-Ok.ensures.planned)
+    (edit_painted_told c.args.words.now c.painting.result.now (told old) c.in-Ok.painted c.painting.ensures c.in-Ok.ensures.planned)
     c.in-Ok.ensures.kept c.in-Ok.ensures.faults c.in-Ok.ensures.misses c.in-Ok.ensures.longs c.edit_painted.ensures.edits
 
 pub returns-in-Err-clause-runs : goal.returns-in-Err-clause-runs
@@ -36,7 +43,7 @@ returns-in-Ok-clause-steps g c =
     edited_count c.args.words.now c.painting.result.now (g.F.Files.told c.args.files.now) (g.I.Source.left c.args.script.now) c.in-Ok.painted
     c.args.steps.now c.paint.new.steps c.edit_painted.new.steps c.painting.ensures
     (edit_painted_told c.args.words.now c.painting.result.now (g.F.Files.told c.args.files.now) c.in-Ok.painted c.painting.ensures c.in-Ok.ensures.planned)
-    c.in-Ok.ensures.steps c.edit_painted.ensures.steps
+    c.in-Ok.ensures.steps (λ known is. c.edit_painted.ensures.steps known (c.in-Ok.ensures.kept ∙ is))
 
 pub returns-in-Err-clause-steps : goal.returns-in-Err-clause-steps
 returns-in-Err-clause-steps g c =

@@ -1,0 +1,214 @@
+-- What a session says of its causes, whatever the files say.
+use Rattle.std.proofs.Common.{◌≡◌, ℕ, ◌+◌, ◌<◌, ◌≤◌, Bool, true, false, List, [], ◌∷◌, ◌++◌, length, refl, ap, sym, subst, ◌∙◌, arith}
+use Rattle.std.specs.Prelude.{Option, Some, None, IfSome, OnOk, Result, Ok, Err}
+use Rattle.std.proofs.lemmas.List.{length-append}
+use Rattle.syn_base.specs.declared.places.Span.{Span}
+use Rattle.syn_base.specs.Causes.{Rose}
+use Rattle.syn_base.specs.Outside.{AppendsPrefix, FileMap}
+use Rattle.edit_script.specs.declared.commands.Resolved.{Resolved}
+use Rattle.edit_script.specs.declared.commands.Resolved.TheVariants.{Replace, Move, CopyTo, Print, Page, Folds, Syntax}
+use Rattle.edit_script.specs.Edits.{Replacement, moved, put_in_place, replaced}
+use Rattle.edit_session.specs.declared.reading.End.{End}
+use Rattle.edit_session.specs.declared.reading.End.TheVariants.{Done, Refused, TooLong, Unread, Unfetched, Unwritten, Memory}
+use Rattle.edit_session.specs.Ends.{FilesChange, HasCause, SinkChange, SourceChange, Takes, TakesFew, files_change, sink_change, source_change}
+use Rattle.edit_session.specs.Painter.{Library}
+use Rattle.edit_session.specs.Session.{Answer, Standing, carries_out, most_bytes, with_painting}
+use Rattle.edit_session.specs.Steps.{Answers, AreCaused, GivesAnswer, GivesOrStops, HasTaken, ReachesEnd, StandsAt, TakesPiece, TakesPieces, TakesScript, end_of}
+use Rattle.edit_session.proofs.SessionLaws.{appended_nothing}
+use Rattle.edit_session.proofs.ReadingLaws.{takes_more, takes_nothing}
+
+-- ---- one command
+
+-- a command that is carried out takes no refusal back
+painted_unharmed : (s : Standing) (line : ℕ) (r : Replacement) (painting : Result (List (List Span)) (List ℕ)) → (with_painting s line r painting).stands.refused ≡ false → s.refused ≡ false
+painted_unharmed s line r (Ok spans) none = none
+painted_unharmed s line r (Err cause) none = absurd (cc)
+
+pub carries_unharmed : (s : Standing) (line : ℕ) (lines : List (List ℕ)) (resolved : Resolved) → (carries_out s line lines resolved).stands.refused ≡ false → s.refused ≡ false
+carries_unharmed s line lines (Replace a b) none =
+    let r = put_in_place s.painted.text a b lines in painted_unharmed s line r (s.painter.paint (replaced s.painted.text r)) none
+carries_unharmed s line lines (Move a b dest) none =
+    let r = moved s.painted.text a b dest in painted_unharmed s line r (s.painter.paint (replaced s.painted.text r)) none
+carries_unharmed s line lines (CopyTo a b dest) none = painted_unharmed s line _ _ none
+carries_unharmed s line lines (Print a b) none = none
+carries_unharmed s line lines Page none = none
+carries_unharmed s line lines Folds none = none
+carries_unharmed s line lines Syntax none = none
+
+pub unharmed_by : (E : Type 0) (result : Result (List ℕ) E) (now : Standing) (answer : Answer) (before : Bool) → GivesAnswer result now answer → (answer.stands.refused ≡ false → before ≡ false) → OnOk result (now.refused ≡ false → before ≡ false)
+unharmed_by E (Ok text) now answer before given by = λ none. by (ap (λ (s : Standing). s.refused) (sym given.1) ∙ none)
+unharmed_by E (Err e) now answer before given by = tt
+
+-- an answer that isn't there writes nothing
+appends_none : (out : Option (List ℕ)) (text : List ℕ) → AppendsPrefix out out text
+appends_none out [] = (0, appended_nothing out)
+appends_none out (x ∷ text) = (0, appended_nothing out)
+
+pub answer_stopped : (U : Type 0) (library : Library) (answer : Answer) (now : Standing) (out : Option (List ℕ)) (g : ℕ) (end : End) (result : Result U End) → GivesOrStops library (Err end) now answer → result ≡ Err end → Answers library answer now (sink_change out out g g) result
+answer_stopped U library answer now out g (Unfetched line) result stops at = rw at (appends_none out answer.text, stops)
+answer_stopped U library answer now out g Done result stops at = rw at (appends_none out answer.text)
+answer_stopped U library answer now out g Refused result stops at = rw at (appends_none out answer.text)
+answer_stopped U library answer now out g TooLong result stops at = rw at (appends_none out answer.text)
+answer_stopped U library answer now out g Unread result stops at = rw at (appends_none out answer.text)
+answer_stopped U library answer now out g Unwritten result stops at = rw at (appends_none out answer.text)
+answer_stopped U library answer now out g Memory result stops at = rw at (appends_none out answer.text)
+
+-- ---- commands one after the other
+
+pub caused_further : (A B : Type 0) (b m a : Bool) (t t' t'' : Option FileMap) (f f' f'' m0 m1 m2 l0 l1 l2 : ℕ) (out out' out'' : Option (List ℕ)) (g g' g'' : ℕ) (done : A) (result : Result B End) → AreCaused b m (files_change t t' f f' m0 m1 l0 l1) (sink_change out out' g g') (Ok done) → AreCaused m a (files_change t' t'' f' f'' m1 m2 l1 l2) (sink_change out' out'' g' g'') result → AreCaused b a (files_change t t'' f f'' m0 m2 l0 l2) (sink_change out out'' g g'') result
+caused_further A B b m a t t' t'' f f' f'' m0 m1 m2 l0 l1 l2 out out' out'' g g' g'' done (Ok more) first second = (
+  second.0 ∙ first.0,
+  second.1 ∙ first.1,
+  λ none.
+      let last = second.2 none in
+      let before = first.2 last.0 in
+      (before.0, last.1 ∙ before.1, last.2 ∙ before.2),
+)
+caused_further A B b m a t t' t'' f f' f'' m0 m1 m2 l0 l1 l2 out out' out'' g g' g'' done (Err (Unfetched line)) first second =
+    (second.0 ∙ first.0, subst (λ (n : ℕ). Rose n f'') first.1 second.1)
+caused_further A B b m a t t' t'' f f' f'' m0 m1 m2 l0 l1 l2 out out' out'' g g' g'' done (Err Unwritten) first second =
+    subst (λ (n : ℕ). Rose n g'') first.0 second
+caused_further A B b m a t t' t'' f f' f'' m0 m1 m2 l0 l1 l2 out out' out'' g g' g'' done (Err Memory) first second =
+    second ∙ first.0
+caused_further A B b m a t t' t'' f f' f'' m0 m1 m2 l0 l1 l2 out out' out'' g g' g'' done (Err Done) first second = absurd second
+caused_further A B b m a t t' t'' f f' f'' m0 m1 m2 l0 l1 l2 out out' out'' g g' g'' done (Err Refused) first second = absurd second
+caused_further A B b m a t t' t'' f f' f'' m0 m1 m2 l0 l1 l2 out out' out'' g g' g'' done (Err TooLong) first second = absurd second
+caused_further A B b m a t t' t'' f f' f'' m0 m1 m2 l0 l1 l2 out out' out'' g g' g'' done (Err Unread) first second = absurd second
+
+-- a stop is one of more
+pub caused_stop : (A B : Type 0) (b a : Bool) (files : FilesChange) (sink : SinkChange) (end : End) (result : Result B End) → AreCaused {A = A} b a files sink (Err end) → result ≡ Err end → AreCaused b a files sink result
+caused_stop A B b a files sink (Unfetched line) result is at = rw at is
+caused_stop A B b a files sink Unwritten result is at = rw at is
+caused_stop A B b a files sink Memory result is at = rw at is
+caused_stop A B b a files sink Done result is at = rw at is
+caused_stop A B b a files sink Refused result is at = rw at is
+caused_stop A B b a files sink TooLong result is at = rw at is
+caused_stop A B b a files sink Unread result is at = rw at is
+
+-- ---- what was taken
+
+-- nothing was taken yet
+pub took_start : (left : Option (List ℕ)) (f : ℕ) → HasTaken (source_change left left f f) []
+took_start left f = record { few = omega arith; taken = takes_nothing left; readable = refl }
+
+pub took_few : (source : SourceChange) (bytes : List ℕ) → HasTaken source bytes → TakesFew source
+took_few source bytes took = let few = took.few in record { bytes = bytes; taken = took.taken; few = omega arith }
+
+-- a piece more
+pub took_further : (b a : Bool) (files : FilesChange) (sink : SinkChange) (room count taken : ℕ) (left left' left'' : Option (List ℕ)) (f f' f'' : ℕ) (bytes : List ℕ) → HasTaken (source_change left left' f f') bytes → length bytes ≡ taken → TakesPiece room b a (source_change left' left'' f' f'') files sink (Ok count) → taken + room ≤ most_bytes → (more : List ℕ) × HasTaken (source_change left left'' f f'') more × (length more ≡ taken + count)
+took_further b a files sink room count taken left left' left'' f f' f'' bytes took size piece fits =
+    let joined = length-append bytes piece.0 in
+    let total : length (bytes ++ piece.0) ≡ taken + count = omega (arith, piece.2) in (
+      bytes ++ piece.0,
+      record {
+        few = omega (arith, total, piece.3);
+        taken = takes_more bytes piece.0 left left' left'' took.taken piece.1;
+        readable = piece.5 ∙ took.readable;
+      },
+      total,
+    )
+
+-- reading stopped in a piece
+few_more : (room taken : ℕ) (left left' left'' : Option (List ℕ)) (f f' f'' : ℕ) (bytes piece : List ℕ) → HasTaken (source_change left left' f f') bytes → length bytes ≡ taken → taken + room ≤ most_bytes → Takes piece left' left'' → length piece ≤ room → TakesFew (source_change left left'' f f'')
+few_more room taken left left' left'' f f' f'' bytes piece took size fits takes within =
+    let joined = length-append bytes piece in
+    record { bytes = bytes ++ piece; taken = takes_more bytes piece left left' left'' took.taken takes; few = omega arith }
+
+took_stopped_by : (A : Type 0) (b m a : Bool) (t t' t'' : Option FileMap) (e e' e'' m0 m1 m2 l0 l1 l2 : ℕ) (out out' out'' : Option (List ℕ)) (g g' g'' : ℕ) (done : A) (room taken : ℕ) (left left' left'' : Option (List ℕ)) (f f' f'' : ℕ) (bytes : List ℕ) (end : End) → HasTaken (source_change left left' f f') bytes → length bytes ≡ taken → taken + room ≤ most_bytes → AreCaused b m (files_change t t' e e' m0 m1 l0 l1) (sink_change out out' g g') (Ok done) → TakesPiece room m a (source_change left' left'' f' f'') (files_change t' t'' e' e'' m1 m2 l1 l2) (sink_change out' out'' g' g'') (Err end) → TakesPieces b a (source_change left left'' f f'') (files_change t t'' e e'' m0 m2 l0 l2) (sink_change out out'' g g'') (Err end)
+took_stopped_by A b m a t t' t'' e e' e'' m0 m1 m2 l0 l1 l2 out out' out'' g g' g'' done room taken left left' left'' f f' f'' bytes Unread took size fits caused piece =
+    let T : Option (List ℕ) → Type 0 = λ l. Takes bytes left l in
+    let few = took.few in (
+      record { bytes = bytes; taken = subst T (sym piece.0) took.taken; few = omega arith },
+      subst (λ (n : ℕ). Rose n f'') took.readable piece.1,
+      piece.2 ∙ caused.0,
+    )
+took_stopped_by A b m a t t' t'' e e' e'' m0 m1 m2 l0 l1 l2 out out' out'' g g' g'' done room taken left left' left'' f f' f'' bytes (Unfetched line) took size fits caused piece = (
+  few_more room taken left left' left'' f f' f'' bytes piece.0 took size fits piece.1 piece.2,
+  piece.3 ∙ took.readable,
+  caused_further A Bool b m a t t' t'' e e' e'' m0 m1 m2 l0 l1 l2 out out' out'' g g' g'' done (Err (Unfetched line)) caused piece.4,
+)
+took_stopped_by A b m a t t' t'' e e' e'' m0 m1 m2 l0 l1 l2 out out' out'' g g' g'' done room taken left left' left'' f f' f'' bytes Unwritten took size fits caused piece = (
+  few_more room taken left left' left'' f f' f'' bytes piece.0 took size fits piece.1 piece.2,
+  piece.3 ∙ took.readable,
+  caused_further A Bool b m a t t' t'' e e' e'' m0 m1 m2 l0 l1 l2 out out' out'' g g' g'' done (Err Unwritten) caused piece.4,
+)
+took_stopped_by A b m a t t' t'' e e' e'' m0 m1 m2 l0 l1 l2 out out' out'' g g' g'' done room taken left left' left'' f f' f'' bytes Memory took size fits caused piece = (
+  few_more room taken left left' left'' f f' f'' bytes piece.0 took size fits piece.1 piece.2,
+  piece.3 ∙ took.readable,
+  caused_further A Bool b m a t t' t'' e e' e'' m0 m1 m2 l0 l1 l2 out out' out'' g g' g'' done (Err Memory) caused piece.4,
+)
+took_stopped_by A b m a t t' t'' e e' e'' m0 m1 m2 l0 l1 l2 out out' out'' g g' g'' done room taken left left' left'' f f' f'' bytes Done took size fits caused piece = absurd piece.4
+took_stopped_by A b m a t t' t'' e e' e'' m0 m1 m2 l0 l1 l2 out out' out'' g g' g'' done room taken left left' left'' f f' f'' bytes Refused took size fits caused piece = absurd piece.4
+took_stopped_by A b m a t t' t'' e e' e'' m0 m1 m2 l0 l1 l2 out out' out'' g g' g'' done room taken left left' left'' f f' f'' bytes TooLong took size fits caused piece = absurd piece.4
+
+pub took_stopped : (A : Type 0) (b m a : Bool) (t t' t'' : Option FileMap) (e e' e'' m0 m1 m2 l0 l1 l2 : ℕ) (out out' out'' : Option (List ℕ)) (g g' g'' : ℕ) (done : A) (room taken : ℕ) (left left' left'' : Option (List ℕ)) (f f' f'' : ℕ) (bytes : List ℕ) (end : End) (result : Result Bool End) → HasTaken (source_change left left' f f') bytes → length bytes ≡ taken → taken + room ≤ most_bytes → AreCaused b m (files_change t t' e e' m0 m1 l0 l1) (sink_change out out' g g') (Ok done) → TakesPiece room m a (source_change left' left'' f' f'') (files_change t' t'' e' e'' m1 m2 l1 l2) (sink_change out' out'' g' g'') (Err end) → result ≡ Err end → TakesPieces b a (source_change left left'' f f'') (files_change t t'' e e'' m0 m2 l0 l2) (sink_change out out'' g g'') result
+took_stopped A b m a t t' t'' e e' e'' m0 m1 m2 l0 l1 l2 out out' out'' g g' g'' done room taken left left' left'' f f' f'' bytes end result took size fits caused piece at =
+    rw at (took_stopped_by A b m a t t' t'' e e' e'' m0 m1 m2 l0 l1 l2 out out' out'' g g' g'' done room taken left left' left'' f f' f'' bytes end took size fits caused piece)
+
+-- ---- the script
+
+-- reading stopped in the pieces
+pub script_stopped : (U : Type 0) (b a : Bool) (source : SourceChange) (files : FilesChange) (sink : SinkChange) (end : End) → TakesPieces b a source files sink (Err end) → TakesScript {U = U} b a source files sink (Err end) × TakesFew source
+script_stopped U b a source files sink Unread takes = ((takes.1, takes.2), takes.0)
+script_stopped U b a source files sink (Unfetched line) takes = ((takes.1, takes.2), takes.0)
+script_stopped U b a source files sink Unwritten takes = ((takes.1, takes.2), takes.0)
+script_stopped U b a source files sink Memory takes = ((takes.1, takes.2), takes.0)
+script_stopped U b a source files sink Done takes = ((takes.1, takes.2), takes.0)
+script_stopped U b a source files sink Refused takes = ((takes.1, takes.2), takes.0)
+script_stopped U b a source files sink TooLong takes = absurd takes.2
+
+-- the end wasn't reached
+pub script_over : (U V A : Type 0) (b a ended : Bool) (left left' left'' : Option (List ℕ)) (f f' f'' : ℕ) (files : FilesChange) (sink : SinkChange) (bytes : List ℕ) (done : A) (end : End) → HasTaken (source_change left left' f f') bytes → StandsAt ended (source_change left left' f f') bytes → AreCaused b a files sink (Ok done) → ReachesEnd {U = V} ended left' left'' f' f'' (Err end) → TakesScript {U = U} b a (source_change left left'' f f'') files sink (Err end) × TakesFew (source_change left left'' f f'')
+script_over U V A b a true left left' left'' f f' f'' files sink bytes done end took at caused reached = absurd reached
+script_over U V A b a false left left' left'' f f' f'' files sink bytes done TooLong took at caused reached =
+    let joined = length-append bytes reached.0 in
+    let taken = takes_more bytes reached.0 left left' left'' took.taken reached.2 in
+    let many : most_bytes < length (bytes ++ reached.0) = omega (arith, joined, at, reached.1) in
+    let few : length (bytes ++ reached.0) ≤ 67108865 = omega (arith, joined, at, reached.1) in (
+      (record { bytes = bytes ++ reached.0; taken = taken; many = many }, reached.3 ∙ took.readable, caused.0, caused.1),
+      record { bytes = bytes ++ reached.0; taken = taken; few = few },
+    )
+script_over U V A b a false left left' left'' f f' f'' files sink bytes done Unread took at caused reached =
+    let T : Option (List ℕ) → Type 0 = λ l. Takes bytes left l in
+    let few = took.few in (
+      (subst (λ (n : ℕ). Rose n f'') took.readable reached.1, caused.0),
+      record { bytes = bytes; taken = subst T (sym reached.0) took.taken; few = omega arith },
+    )
+script_over U V A b a false left left' left'' f f' f'' files sink bytes done Done took at caused reached = absurd reached
+script_over U V A b a false left left' left'' f f' f'' files sink bytes done Refused took at caused reached = absurd reached
+script_over U V A b a false left left' left'' f f' f'' files sink bytes done (Unfetched line) took at caused reached = absurd reached
+script_over U V A b a false left left' left'' f f' f'' files sink bytes done Unwritten took at caused reached = absurd reached
+script_over U V A b a false left left' left'' f f' f'' files sink bytes done Memory took at caused reached = absurd reached
+
+-- the end was reached
+takes_none : (before after : Option (List ℕ)) → Takes [] before after → before ≡ after
+takes_none before None taken = taken
+takes_none before (Some rest) taken = taken
+
+pub took_all : (V : Type 0) (ended : Bool) (left left' left'' : Option (List ℕ)) (f f' f'' : ℕ) (bytes : List ℕ) (done : V) → HasTaken (source_change left left' f f') bytes → StandsAt ended (source_change left left' f f') bytes → ReachesEnd ended left' left'' f' f'' (Ok done) → HasTaken (source_change left left'' f f'') bytes × IfSome left'' (λ rest. rest ≡ [])
+took_all V true left left' left'' f f' f'' bytes done took at reached =
+    let T : Option (List ℕ) → Type 0 = λ l. Takes bytes left l in
+    let E : Option (List ℕ) → Type 0 = λ l. IfSome l (λ rest. rest ≡ []) in
+    (record { few = took.few; taken = subst T (sym reached.0) took.taken; readable = reached.1 ∙ took.readable }, subst E (sym reached.0) at)
+took_all V false left left' left'' f f' f'' bytes done took at reached =
+    let T : Option (List ℕ) → Type 0 = λ l. Takes bytes left l in
+    (record { few = took.few; taken = subst T (takes_none left' left'' reached.0) took.taken; readable = reached.2 ∙ took.readable }, reached.1)
+
+-- and the commands that are left were carried out
+pub script_finished : (U : Type 0) (b a : Bool) (source : SourceChange) (files : FilesChange) (sink : SinkChange) (bytes : List ℕ) (result : Result U End) → IfSome source.after (λ rest. rest ≡ []) → HasTaken source bytes → AreCaused b a files sink result → TakesScript b a source files sink result
+script_finished U b a source files sink bytes (Ok done) ended took caused =
+    ((ended, took.readable, record { bytes = bytes; taken = took.taken; few = took.few }), caused)
+script_finished U b a source files sink bytes (Err (Unfetched line)) ended took caused = (took.readable, caused)
+script_finished U b a source files sink bytes (Err Unwritten) ended took caused = (took.readable, caused)
+script_finished U b a source files sink bytes (Err Memory) ended took caused = (took.readable, caused)
+script_finished U b a source files sink bytes (Err Done) ended took caused = absurd caused
+script_finished U b a source files sink bytes (Err Refused) ended took caused = absurd caused
+script_finished U b a source files sink bytes (Err TooLong) ended took caused = absurd caused
+script_finished U b a source files sink bytes (Err Unread) ended took caused = absurd caused
+
+-- ---- the end of a session
+
+pub has_cause : (U : Type 0) (before after : Bool) (source : SourceChange) (files : FilesChange) (sink : SinkChange) (done : U) → TakesScript before after source files sink (Ok done) → HasCause source sink files (end_of after)
+has_cause U before true source files sink done takes = (takes.0, takes.1.0, takes.1.1)
+has_cause U before false source files sink done takes =
+    let none = takes.1.2 refl in (takes.0, takes.1.0, takes.1.1, none.1, none.2)
