@@ -1,0 +1,9 @@
+pub mod RunLaws
+pub mod CellLaws
+pub mod SightLaws
+pub mod LineLaws
+pub mod FitLaws
+pub mod BlockLaws
+pub mod ViewLaws
+pub mod LongestLaws
+pub mod KnownViews
