@@ -1,5 +1,5 @@
 -- What a session says of its causes, whatever the files say.
-use Rattle.std.proofs.Common.{◌≡◌, ℕ, ◌+◌, ◌<◌, ◌≤◌, Bool, true, false, List, [], ◌∷◌, ◌++◌, length, refl, ap, sym, subst, ◌∙◌, arith}
+use Rattle.std.proofs.Common.{◌≡◌, ◌⊎◌, inl, inr, ℕ, ◌+◌, ◌<◌, ◌≤◌, Bool, true, false, List, [], ◌∷◌, ◌++◌, length, refl, ap, sym, subst, ◌∙◌, arith}
 use Rattle.std.specs.Prelude.{Option, Some, None, IfSome, OnOk, Result, Ok, Err}
 use Rattle.std.proofs.lemmas.List.{length-append}
 use Rattle.syn_base.specs.declared.places.Span.{Span}
@@ -8,16 +8,20 @@ use Rattle.syn_base.specs.Outside.{AppendsPrefix, FileMap}
 use Rattle.edit_script.specs.declared.commands.Resolved.{Resolved}
 use Rattle.edit_script.specs.declared.commands.Resolved.TheVariants.{Replace, Move, CopyTo, Print, Page, Folds, Syntax}
 use Rattle.edit_script.specs.Edits.{Replacement, moved, put_in_place, replaced}
+use Rattle.edit_session.specs.declared.commands.Harm.{Harm}
 use Rattle.edit_session.specs.declared.reading.End.{End}
 use Rattle.edit_session.specs.declared.reading.End.TheVariants.{Done, Refused, TooLong, Unread, Unfetched, Unwritten, Memory}
-use Rattle.edit_session.specs.Ends.{FilesChange, HasCause, SinkChange, SourceChange, Takes, TakesFew, files_change, sink_change, source_change}
+use Rattle.edit_session.specs.Ends.{FilesChange, HasCause, MeetsLongs, SinkChange, SourceChange, Takes, TakesFew, files_change, sink_change, source_change}
 use Rattle.edit_session.specs.Painter.{Library}
 use Rattle.edit_session.specs.Session.{Answer, Standing, carries_out, most_bytes, with_painting}
-use Rattle.edit_session.specs.Steps.{Answers, AreCaused, GivesAnswer, GivesOrStops, HasTaken, ReachesEnd, StandsAt, TakesPiece, TakesPieces, TakesScript, end_of}
+use Rattle.edit_session.specs.Steps.{Answers, AreCaused, GivesAnswer, GivesOrStops, HasTaken, KeepsHarm, ReachesEnd, StandsAt, TakesPiece, TakesPieces, TakesScript, end_of}
 use Rattle.edit_session.proofs.SessionLaws.{appended_nothing}
 use Rattle.edit_session.proofs.ReadingLaws.{takes_more, takes_nothing}
 
 -- ---- one command
+
+abbrev harm_of : Standing → Harm
+harm_of s = record { refused = s.refused; met_long = s.met_long }
 
 -- a command that is carried out takes no refusal back
 painted_unharmed : (s : Standing) (line : ℕ) (r : Replacement) (painting : Result (List (List Span)) (List ℕ)) → (with_painting s line r painting).stands.refused ≡ false → s.refused ≡ false
@@ -35,9 +39,28 @@ carries_unharmed s line lines Page none = none
 carries_unharmed s line lines Folds none = none
 carries_unharmed s line lines Syntax none = none
 
-pub unharmed_by : (E : Type 0) (result : Result (List ℕ) E) (now : Standing) (answer : Answer) (before : Bool) → GivesAnswer result now answer → (answer.stands.refused ≡ false → before ≡ false) → OnOk result (now.refused ≡ false → before ≡ false)
-unharmed_by E (Ok text) now answer before given by = λ none. by (ap (λ (s : Standing). s.refused) (sym given.1) ∙ none)
-unharmed_by E (Err e) now answer before given by = tt
+painted_meets_none : (s : Standing) (line : ℕ) (r : Replacement) (painting : Result (List (List Span)) (List ℕ)) → (with_painting s line r painting).stands.met_long ≡ s.met_long
+painted_meets_none s line r (Ok spans) = refl
+painted_meets_none s line r (Err cause) = refl
+
+-- nor does it meet a file
+pub carries_meet_none : (s : Standing) (line : ℕ) (lines : List (List ℕ)) (resolved : Resolved) → (carries_out s line lines resolved).stands.met_long ≡ s.met_long
+carries_meet_none s line lines (Replace a b) =
+    let r = put_in_place s.painted.text a b lines in painted_meets_none s line r (s.painter.paint (replaced s.painted.text r))
+carries_meet_none s line lines (Move a b dest) =
+    let r = moved s.painted.text a b dest in painted_meets_none s line r (s.painter.paint (replaced s.painted.text r))
+carries_meet_none s line lines (CopyTo a b dest) = painted_meets_none s line _ _
+carries_meet_none s line lines (Print a b) = refl
+carries_meet_none s line lines Page = refl
+carries_meet_none s line lines Folds = refl
+carries_meet_none s line lines Syntax = refl
+
+pub unharmed_by : (E : Type 0) (result : Result (List ℕ) E) (s now : Standing) (answer : Answer) → GivesAnswer result now answer → (answer.stands.refused ≡ false → s.refused ≡ false) → answer.stands.met_long ≡ s.met_long → OnOk result (KeepsHarm (harm_of s) (harm_of now))
+unharmed_by E (Ok text) s now answer given by same = record {
+  refused = λ none. by (ap (λ (t : Standing). t.refused) (sym given.1) ∙ none);
+  met_long = ap (λ (t : Standing). t.met_long) given.1 ∙ same;
+}
+unharmed_by E (Err e) s now answer given by same = tt
 
 -- an answer that isn't there writes nothing
 appends_none : (out : Option (List ℕ)) (text : List ℕ) → AppendsPrefix out out text
@@ -55,7 +78,27 @@ answer_stopped U library answer now out g Memory result stops at = rw at (append
 
 -- ---- commands one after the other
 
-pub caused_further : (A B : Type 0) (b m a : Bool) (t t' t'' : Option FileMap) (f f' f'' m0 m1 m2 l0 l1 l2 : ℕ) (out out' out'' : Option (List ℕ)) (g g' g'' : ℕ) (done : A) (result : Result B End) → AreCaused b m (files_change t t' f f' m0 m1 l0 l1) (sink_change out out' g g') (Ok done) → AreCaused m a (files_change t' t'' f' f'' m1 m2 l1 l2) (sink_change out' out'' g' g'') result → AreCaused b a (files_change t t'' f f'' m0 m2 l0 l2) (sink_change out out'' g g'') result
+rose_before : (l0 l1 l2 : ℕ) → l0 ≤ l1 → Rose l1 l2 → Rose l0 l2
+rose_before l0 l1 l2 few rose = (omega (arith, few, rose.0), omega (arith, few, rose.0, rose.1))
+
+rose_behind : (l0 l1 l2 : ℕ) → Rose l0 l1 → l1 ≤ l2 → Rose l0 l2
+rose_behind l0 l1 l2 rose few = (omega (arith, few, rose.0), omega (arith, few, rose.1))
+
+longs_further : (b m a : Harm) (t t' t'' : Option FileMap) (f f' f'' m0 m1 m2 l0 l1 l2 : ℕ) → MeetsLongs b m (files_change t t' f f' m0 m1 l0 l1) → MeetsLongs m a (files_change t' t'' f' f'' m1 m2 l1 l2) → MeetsLongs b a (files_change t t'' f f'' m0 m2 l0 l2)
+longs_further b m a t t' t'' f f' f'' m0 m1 m2 l0 l1 l2 first second =
+    let few = first.counts in
+    let more = second.counts in
+    record { counts = omega (arith, few, more); met = λ is. met (second.met is) }
+  where
+    earlier : (b.met_long ≡ true) ⊎ Rose l0 l1 → (b.met_long ≡ true) ⊎ Rose l0 l2
+    earlier (inl is) = inl is
+    earlier (inr rose) = inr (rose_behind l0 l1 l2 rose second.counts)
+
+    met : (m.met_long ≡ true) ⊎ Rose l1 l2 → (b.met_long ≡ true) ⊎ Rose l0 l2
+    met (inl is) = earlier (first.met is)
+    met (inr rose) = inr (rose_before l0 l1 l2 first.counts rose)
+
+pub caused_further : (A B : Type 0) (b m a : Harm) (t t' t'' : Option FileMap) (f f' f'' m0 m1 m2 l0 l1 l2 : ℕ) (out out' out'' : Option (List ℕ)) (g g' g'' : ℕ) (done : A) (result : Result B End) → AreCaused b m (files_change t t' f f' m0 m1 l0 l1) (sink_change out out' g g') (Ok done) → AreCaused m a (files_change t' t'' f' f'' m1 m2 l1 l2) (sink_change out' out'' g' g'') result → AreCaused b a (files_change t t'' f f'' m0 m2 l0 l2) (sink_change out out'' g g'') result
 caused_further A B b m a t t' t'' f f' f'' m0 m1 m2 l0 l1 l2 out out' out'' g g' g'' done (Ok more) first second = (
   second.0 ∙ first.0,
   second.1 ∙ first.1,
@@ -63,6 +106,7 @@ caused_further A B b m a t t' t'' f f' f'' m0 m1 m2 l0 l1 l2 out out' out'' g g'
       let last = second.2 none in
       let before = first.2 last.0 in
       (before.0, last.1 ∙ before.1, last.2 ∙ before.2),
+  longs_further b m a t t' t'' f f' f'' m0 m1 m2 l0 l1 l2 first.3 second.3,
 )
 caused_further A B b m a t t' t'' f f' f'' m0 m1 m2 l0 l1 l2 out out' out'' g g' g'' done (Err (Unfetched line)) first second =
     (second.0 ∙ first.0, subst (λ (n : ℕ). Rose n f'') first.1 second.1)
@@ -76,7 +120,7 @@ caused_further A B b m a t t' t'' f f' f'' m0 m1 m2 l0 l1 l2 out out' out'' g g'
 caused_further A B b m a t t' t'' f f' f'' m0 m1 m2 l0 l1 l2 out out' out'' g g' g'' done (Err Unread) first second = absurd second
 
 -- a stop is one of more
-pub caused_stop : (A B : Type 0) (b a : Bool) (files : FilesChange) (sink : SinkChange) (end : End) (result : Result B End) → AreCaused {A = A} b a files sink (Err end) → result ≡ Err end → AreCaused b a files sink result
+pub caused_stop : (A B : Type 0) (b a : Harm) (files : FilesChange) (sink : SinkChange) (end : End) (result : Result B End) → AreCaused {A = A} b a files sink (Err end) → result ≡ Err end → AreCaused b a files sink result
 caused_stop A B b a files sink (Unfetched line) result is at = rw at is
 caused_stop A B b a files sink Unwritten result is at = rw at is
 caused_stop A B b a files sink Memory result is at = rw at is
@@ -95,7 +139,7 @@ pub took_few : (source : SourceChange) (bytes : List ℕ) → HasTaken source by
 took_few source bytes took = let few = took.few in record { bytes = bytes; taken = took.taken; few = omega arith }
 
 -- a piece more
-pub took_further : (b a : Bool) (files : FilesChange) (sink : SinkChange) (room count taken : ℕ) (left left' left'' : Option (List ℕ)) (f f' f'' : ℕ) (bytes : List ℕ) → HasTaken (source_change left left' f f') bytes → length bytes ≡ taken → TakesPiece room b a (source_change left' left'' f' f'') files sink (Ok count) → taken + room ≤ most_bytes → (more : List ℕ) × HasTaken (source_change left left'' f f'') more × (length more ≡ taken + count)
+pub took_further : (b a : Harm) (files : FilesChange) (sink : SinkChange) (room count taken : ℕ) (left left' left'' : Option (List ℕ)) (f f' f'' : ℕ) (bytes : List ℕ) → HasTaken (source_change left left' f f') bytes → length bytes ≡ taken → TakesPiece room b a (source_change left' left'' f' f'') files sink (Ok count) → taken + room ≤ most_bytes → (more : List ℕ) × HasTaken (source_change left left'' f f'') more × (length more ≡ taken + count)
 took_further b a files sink room count taken left left' left'' f f' f'' bytes took size piece fits =
     let joined = length-append bytes piece.0 in
     let total : length (bytes ++ piece.0) ≡ taken + count = omega (arith, piece.2) in (
@@ -114,7 +158,7 @@ few_more room taken left left' left'' f f' f'' bytes piece took size fits takes 
     let joined = length-append bytes piece in
     record { bytes = bytes ++ piece; taken = takes_more bytes piece left left' left'' took.taken takes; few = omega arith }
 
-took_stopped_by : (A : Type 0) (b m a : Bool) (t t' t'' : Option FileMap) (e e' e'' m0 m1 m2 l0 l1 l2 : ℕ) (out out' out'' : Option (List ℕ)) (g g' g'' : ℕ) (done : A) (room taken : ℕ) (left left' left'' : Option (List ℕ)) (f f' f'' : ℕ) (bytes : List ℕ) (end : End) → HasTaken (source_change left left' f f') bytes → length bytes ≡ taken → taken + room ≤ most_bytes → AreCaused b m (files_change t t' e e' m0 m1 l0 l1) (sink_change out out' g g') (Ok done) → TakesPiece room m a (source_change left' left'' f' f'') (files_change t' t'' e' e'' m1 m2 l1 l2) (sink_change out' out'' g' g'') (Err end) → TakesPieces b a (source_change left left'' f f'') (files_change t t'' e e'' m0 m2 l0 l2) (sink_change out out'' g g'') (Err end)
+took_stopped_by : (A : Type 0) (b m a : Harm) (t t' t'' : Option FileMap) (e e' e'' m0 m1 m2 l0 l1 l2 : ℕ) (out out' out'' : Option (List ℕ)) (g g' g'' : ℕ) (done : A) (room taken : ℕ) (left left' left'' : Option (List ℕ)) (f f' f'' : ℕ) (bytes : List ℕ) (end : End) → HasTaken (source_change left left' f f') bytes → length bytes ≡ taken → taken + room ≤ most_bytes → AreCaused b m (files_change t t' e e' m0 m1 l0 l1) (sink_change out out' g g') (Ok done) → TakesPiece room m a (source_change left' left'' f' f'') (files_change t' t'' e' e'' m1 m2 l1 l2) (sink_change out' out'' g' g'') (Err end) → TakesPieces b a (source_change left left'' f f'') (files_change t t'' e e'' m0 m2 l0 l2) (sink_change out out'' g g'') (Err end)
 took_stopped_by A b m a t t' t'' e e' e'' m0 m1 m2 l0 l1 l2 out out' out'' g g' g'' done room taken left left' left'' f f' f'' bytes Unread took size fits caused piece =
     let T : Option (List ℕ) → Type 0 = λ l. Takes bytes left l in
     let few = took.few in (
@@ -141,14 +185,14 @@ took_stopped_by A b m a t t' t'' e e' e'' m0 m1 m2 l0 l1 l2 out out' out'' g g' 
 took_stopped_by A b m a t t' t'' e e' e'' m0 m1 m2 l0 l1 l2 out out' out'' g g' g'' done room taken left left' left'' f f' f'' bytes Refused took size fits caused piece = absurd piece.4
 took_stopped_by A b m a t t' t'' e e' e'' m0 m1 m2 l0 l1 l2 out out' out'' g g' g'' done room taken left left' left'' f f' f'' bytes TooLong took size fits caused piece = absurd piece.4
 
-pub took_stopped : (A : Type 0) (b m a : Bool) (t t' t'' : Option FileMap) (e e' e'' m0 m1 m2 l0 l1 l2 : ℕ) (out out' out'' : Option (List ℕ)) (g g' g'' : ℕ) (done : A) (room taken : ℕ) (left left' left'' : Option (List ℕ)) (f f' f'' : ℕ) (bytes : List ℕ) (end : End) (result : Result Bool End) → HasTaken (source_change left left' f f') bytes → length bytes ≡ taken → taken + room ≤ most_bytes → AreCaused b m (files_change t t' e e' m0 m1 l0 l1) (sink_change out out' g g') (Ok done) → TakesPiece room m a (source_change left' left'' f' f'') (files_change t' t'' e' e'' m1 m2 l1 l2) (sink_change out' out'' g' g'') (Err end) → result ≡ Err end → TakesPieces b a (source_change left left'' f f'') (files_change t t'' e e'' m0 m2 l0 l2) (sink_change out out'' g g'') result
+pub took_stopped : (A : Type 0) (b m a : Harm) (t t' t'' : Option FileMap) (e e' e'' m0 m1 m2 l0 l1 l2 : ℕ) (out out' out'' : Option (List ℕ)) (g g' g'' : ℕ) (done : A) (room taken : ℕ) (left left' left'' : Option (List ℕ)) (f f' f'' : ℕ) (bytes : List ℕ) (end : End) (result : Result Bool End) → HasTaken (source_change left left' f f') bytes → length bytes ≡ taken → taken + room ≤ most_bytes → AreCaused b m (files_change t t' e e' m0 m1 l0 l1) (sink_change out out' g g') (Ok done) → TakesPiece room m a (source_change left' left'' f' f'') (files_change t' t'' e' e'' m1 m2 l1 l2) (sink_change out' out'' g' g'') (Err end) → result ≡ Err end → TakesPieces b a (source_change left left'' f f'') (files_change t t'' e e'' m0 m2 l0 l2) (sink_change out out'' g g'') result
 took_stopped A b m a t t' t'' e e' e'' m0 m1 m2 l0 l1 l2 out out' out'' g g' g'' done room taken left left' left'' f f' f'' bytes end result took size fits caused piece at =
     rw at (took_stopped_by A b m a t t' t'' e e' e'' m0 m1 m2 l0 l1 l2 out out' out'' g g' g'' done room taken left left' left'' f f' f'' bytes end took size fits caused piece)
 
 -- ---- the script
 
 -- reading stopped in the pieces
-pub script_stopped : (U : Type 0) (b a : Bool) (source : SourceChange) (files : FilesChange) (sink : SinkChange) (end : End) → TakesPieces b a source files sink (Err end) → TakesScript {U = U} b a source files sink (Err end) × TakesFew source
+pub script_stopped : (U : Type 0) (b a : Harm) (source : SourceChange) (files : FilesChange) (sink : SinkChange) (end : End) → TakesPieces b a source files sink (Err end) → TakesScript {U = U} b a source files sink (Err end) × TakesFew source
 script_stopped U b a source files sink Unread takes = ((takes.1, takes.2), takes.0)
 script_stopped U b a source files sink (Unfetched line) takes = ((takes.1, takes.2), takes.0)
 script_stopped U b a source files sink Unwritten takes = ((takes.1, takes.2), takes.0)
@@ -158,14 +202,14 @@ script_stopped U b a source files sink Refused takes = ((takes.1, takes.2), take
 script_stopped U b a source files sink TooLong takes = absurd takes.2
 
 -- the end wasn't reached
-pub script_over : (U V A : Type 0) (b a ended : Bool) (left left' left'' : Option (List ℕ)) (f f' f'' : ℕ) (files : FilesChange) (sink : SinkChange) (bytes : List ℕ) (done : A) (end : End) → HasTaken (source_change left left' f f') bytes → StandsAt ended (source_change left left' f f') bytes → AreCaused b a files sink (Ok done) → ReachesEnd {U = V} ended left' left'' f' f'' (Err end) → TakesScript {U = U} b a (source_change left left'' f f'') files sink (Err end) × TakesFew (source_change left left'' f f'')
+pub script_over : (U V A : Type 0) (b a : Harm) (ended : Bool) (left left' left'' : Option (List ℕ)) (f f' f'' : ℕ) (files : FilesChange) (sink : SinkChange) (bytes : List ℕ) (done : A) (end : End) → HasTaken (source_change left left' f f') bytes → StandsAt ended (source_change left left' f f') bytes → AreCaused b a files sink (Ok done) → ReachesEnd {U = V} ended left' left'' f' f'' (Err end) → TakesScript {U = U} b a (source_change left left'' f f'') files sink (Err end) × TakesFew (source_change left left'' f f'')
 script_over U V A b a true left left' left'' f f' f'' files sink bytes done end took at caused reached = absurd reached
 script_over U V A b a false left left' left'' f f' f'' files sink bytes done TooLong took at caused reached =
     let joined = length-append bytes reached.0 in
     let taken = takes_more bytes reached.0 left left' left'' took.taken reached.2 in
     let many : most_bytes < length (bytes ++ reached.0) = omega (arith, joined, at, reached.1) in
     let few : length (bytes ++ reached.0) ≤ 67108865 = omega (arith, joined, at, reached.1) in (
-      (record { bytes = bytes ++ reached.0; taken = taken; many = many }, reached.3 ∙ took.readable, caused.0, caused.1),
+      (record { bytes = bytes ++ reached.0; taken = taken; many = many }, reached.3 ∙ took.readable, caused.0, caused.1, caused.3),
       record { bytes = bytes ++ reached.0; taken = taken; few = few },
     )
 script_over U V A b a false left left' left'' f f' f'' files sink bytes done Unread took at caused reached =
@@ -195,7 +239,7 @@ took_all V false left left' left'' f f' f'' bytes done took at reached =
     (record { few = took.few; taken = subst T (takes_none left' left'' reached.0) took.taken; readable = reached.2 ∙ took.readable }, reached.1)
 
 -- and the commands that are left were carried out
-pub script_finished : (U : Type 0) (b a : Bool) (source : SourceChange) (files : FilesChange) (sink : SinkChange) (bytes : List ℕ) (result : Result U End) → IfSome source.after (λ rest. rest ≡ []) → HasTaken source bytes → AreCaused b a files sink result → TakesScript b a source files sink result
+pub script_finished : (U : Type 0) (b a : Harm) (source : SourceChange) (files : FilesChange) (sink : SinkChange) (bytes : List ℕ) (result : Result U End) → IfSome source.after (λ rest. rest ≡ []) → HasTaken source bytes → AreCaused b a files sink result → TakesScript b a source files sink result
 script_finished U b a source files sink bytes (Ok done) ended took caused =
     ((ended, took.readable, record { bytes = bytes; taken = took.taken; few = took.few }), caused)
 script_finished U b a source files sink bytes (Err (Unfetched line)) ended took caused = (took.readable, caused)
@@ -208,7 +252,9 @@ script_finished U b a source files sink bytes (Err Unread) ended took caused = a
 
 -- ---- the end of a session
 
-pub has_cause : (U : Type 0) (before after : Bool) (source : SourceChange) (files : FilesChange) (sink : SinkChange) (done : U) → TakesScript before after source files sink (Ok done) → HasCause source sink files (end_of after)
-has_cause U before true source files sink done takes = (takes.0, takes.1.0, takes.1.1)
-has_cause U before false source files sink done takes =
-    let none = takes.1.2 refl in (takes.0, takes.1.0, takes.1.1, none.1, none.2)
+pub has_cause : (U : Type 0) (before after : Harm) (source : SourceChange) (files : FilesChange) (sink : SinkChange) (done : U) → TakesScript before after source files sink (Ok done) → HasCause source sink files (end_of after.refused)
+has_cause U before after source files sink done takes = by after.refused refl
+  where
+    by : (refused : Bool) → after.refused ≡ refused → HasCause source sink files (end_of refused)
+    by true is = (takes.0, takes.1.0, takes.1.1)
+    by false is = let none = takes.1.2 is in (takes.0, takes.1.0, takes.1.1, none.1, none.2)

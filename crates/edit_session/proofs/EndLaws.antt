@@ -33,14 +33,19 @@ all_taken bytes all (Some rest) taken ended =
 short : (bytes : List ℕ) → length bytes ≤ most_bytes → is_too_long bytes ≡ false
 short bytes few = grind (arith, nat_tests)
 
+-- so its commands are those of these bytes
+pub entries_whole : (bytes all : List ℕ) (after : Option (List ℕ)) → Takes bytes (Some all) after → IfSome after (λ rest. rest ≡ []) → length bytes ≤ most_bytes → (is_too_long all ≡ false) × (entries_read all ≡ entries_at_end 0 bytes)
+entries_whole bytes all after taken ended few =
+    let same : all ≡ bytes = all_taken bytes all after taken ended in
+    let brief : is_too_long all ≡ false = ap is_too_long same ∙ short bytes few in
+    (brief, ap (λ (long : Bool). if long then entries_of 0 (take most_bytes all) else entries_at_end 0 all) brief ∙ ap (entries_at_end 0) same)
+
 pub whole_told : (library : Library) (s : Standing) (refused : Bool) (source : SourceChange) (sink : SinkChange) (all : List ℕ) → ReadsToEnd library s refused source sink → source.before ≡ Some all → (is_too_long all ≡ false) × (sink.after ≡ appended sink.before (script_session library s all).text) × ((script_session library s all).stands.refused ≡ refused)
 whole_told library s refused source sink all read told =
     let T : Option (List ℕ) → Type 0 = λ l. Takes read.bytes l source.after in
-    let same : all ≡ read.bytes = all_taken read.bytes all source.after (subst T told read.taken) read.ended in
-    let brief : is_too_long all ≡ false = ap is_too_long same ∙ short read.bytes read.few in
-    let entries : entries_read all ≡ entries_at_end 0 read.bytes = ap (λ (long : Bool). if long then entries_of 0 (take most_bytes all) else entries_at_end 0 all) brief ∙ ap (entries_at_end 0) same in
-    let answer : script_session library s all ≡ session library s (entries_at_end 0 read.bytes) = ap (session library s) entries in
-    (brief, read.written ∙ ap (λ (a : Answer). appended sink.before a.text) (sym answer), ap (λ (a : Answer). a.stands.refused) answer ∙ read.refusals)
+    let whole = entries_whole read.bytes all source.after (subst T told read.taken) read.ended read.few in
+    let answer : script_session library s all ≡ session library s (entries_at_end 0 read.bytes) = ap (session library s) whole.1 in
+    (whole.0, read.written ∙ ap (λ (a : Answer). appended sink.before a.text) (sym answer), ap (λ (a : Answer). a.stands.refused) answer ∙ read.refusals)
 
 -- more bytes were taken than are read
 over_taken : (bytes all : List ℕ) (after : Option (List ℕ)) → Takes bytes (Some all) after → (rest : List ℕ) × (all ≡ bytes ++ rest)
@@ -50,16 +55,20 @@ over_taken bytes all (Some rest) taken = (rest, cc)
 long : (bytes : List ℕ) → most_bytes < length bytes → is_too_long bytes ≡ true
 long bytes many = grind (arith, nat_tests)
 
+pub entries_over : (bytes more all : List ℕ) (after : Option (List ℕ)) → Takes (bytes ++ more) (Some all) after → length bytes ≡ most_bytes → length more ≡ 1 → (is_too_long all ≡ true) × (entries_read all ≡ entries_of 0 bytes)
+entries_over bytes more all after takes most one =
+    let taken = over_taken (bytes ++ more) all after takes in
+    let is : all ≡ bytes ++ (more ++ taken.0) = taken.1 ∙ append_assoc bytes more taken.0 in
+    let first = length-append bytes (more ++ taken.0) in
+    let second = length-append more taken.0 in
+    let size : length all ≡ length bytes + (length more + length taken.0) = ap length is ∙ first ∙ ap (λ n. length bytes + n) second in
+    let many : most_bytes < length all = omega (arith, size, most, one) in
+    let verbose : is_too_long all ≡ true = long all many in
+    let front : take most_bytes all ≡ bytes = ap (take most_bytes) is ∙ ap (λ n. take n (bytes ++ (more ++ taken.0))) (sym most) ∙ take-append_seam bytes (more ++ taken.0) in
+    (verbose, ap (λ (b : Bool). if b then entries_of 0 (take most_bytes all) else entries_at_end 0 all) verbose ∙ ap (entries_of 0) front)
+
 pub over_told : (library : Library) (s : Standing) (source : SourceChange) (sink : SinkChange) (all : List ℕ) → ReadsOver library s source sink → source.before ≡ Some all → (is_too_long all ≡ true) × (sink.after ≡ appended sink.before (script_session library s all).text)
 over_told library s source sink all read told =
     let T : Option (List ℕ) → Type 0 = λ l. Takes (read.bytes ++ read.more) l source.after in
-    let taken = over_taken (read.bytes ++ read.more) all source.after (subst T told read.taken) in
-    let is : all ≡ read.bytes ++ (read.more ++ taken.0) = taken.1 ∙ append_assoc read.bytes read.more taken.0 in
-    let first = length-append read.bytes (read.more ++ taken.0) in
-    let second = length-append read.more taken.0 in
-    let size : length all ≡ length read.bytes + (length read.more + length taken.0) = ap length is ∙ first ∙ ap (λ n. length read.bytes + n) second in
-    let many : most_bytes < length all = omega (arith, size, read.most, read.one) in
-    let verbose : is_too_long all ≡ true = long all many in
-    let front : take most_bytes all ≡ read.bytes = ap (take most_bytes) is ∙ ap (λ n. take n (read.bytes ++ (read.more ++ taken.0))) (sym read.most) ∙ take-append_seam read.bytes (read.more ++ taken.0) in
-    let entries : entries_read all ≡ entries_of 0 read.bytes = ap (λ (b : Bool). if b then entries_of 0 (take most_bytes all) else entries_at_end 0 all) verbose ∙ ap (entries_of 0) front in
-    (verbose, read.written ∙ ap (λ (es : List Entry). appended sink.before (session library s es).text) (sym entries))
+    let over = entries_over read.bytes read.more all source.after (subst T told read.taken) read.most read.one in
+    (over.0, read.written ∙ ap (λ (es : List Entry). appended sink.before (session library s es).text) (sym over.1))

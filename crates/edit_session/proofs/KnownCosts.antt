@@ -1,6 +1,6 @@
 -- What the commands of a script may paint, where each painting paints the whole of a changed text, and is refused of
 -- more than two lines.
-use Rattle.std.proofs.Common.{◌≡◌, ℕ, List, [], ◌∷◌, length, map, refl}
+use Rattle.std.proofs.Common.{◌≡◌, ℕ, List, [], ◌∷◌, length, map, false, refl}
 use Rattle.std.specs.Prelude.{codes, nat_lt, None, Ok, Err, if◌then◌else◌}
 use Rattle.std.specs.Str.{chars, is_utf8}
 use Rattle.std.proofs.Math.Utf8.{encode}
@@ -26,7 +26,7 @@ painter = record {
 
 -- no file is told of
 abbrev library : Library
-library = record { reads = λ name. Err []; unread = λ name number. None }
+library = record { reads = λ name. Err []; is_long = λ name. false; unread = λ name number. None }
 
 abbrev one_line : Painted
 one_line = record { text = codes "x" ∷ []; spans = [] ∷ [] }

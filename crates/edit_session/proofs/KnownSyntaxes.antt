@@ -41,10 +41,11 @@ read name =
     if bytes_eq name (codes "s") then Ok (shown_as (codes "N"))
     else if bytes_eq name (codes "s2") then Ok (shown_as (codes "Z"))
     else if bytes_eq name (codes "costly") then Ok too_costly
+    else if bytes_eq name (codes "l") then Err (codes "l: file too long")
     else Err (name ++ codes ": no such file")
 
 abbrev library : Library
-library = record { reads = read; unread = λ name number. None }
+library = record { reads = read; is_long = λ name. bytes_eq name (codes "l"); unread = λ name number. None }
 
 abbrev begun : Standing
 begun = start (shown_as (codes "N")) (record { text = codes "a1" ∷ codes "b" ∷ []; spans = first_characters (codes "a1" ∷ codes "b" ∷ []) })
@@ -69,6 +70,15 @@ shows_the_same = refl
 none_is_refused : (run (codes "S s\nS s2\n1d\nS s2\nS s\n")).stands.refused ≡ false
 unfolding chars encode is_utf8 digits
 none_is_refused = refl
+
+-- a file that is too long is marked, and stays so behind other commands
+long_is_marked : (run (codes "S s2\nS l\nS s\n")).stands.met_long ≡ true
+unfolding chars encode is_utf8 digits
+long_is_marked = refl
+
+absent_is_not : (run (codes "S s2\nS s3\nS costly\n")).stands.met_long ≡ false
+unfolding chars encode is_utf8 digits
+absent_is_not = refl
 
 -- a syntax whose painting of the text is refused isn't in force
 paints_nothing : (run (codes "S s2\nS costly\n2p\n")).text ≡ codes "@1\n1:1-1 Z Z\n2:1-1 Z Z\n@2 ? 2 too costly\n@3\n2:1-1 Z Z\n"

@@ -4,6 +4,7 @@ pub mod ReadingLaws
 pub mod CauseLaws
 pub mod LineLaws
 pub mod EndLaws
+pub mod LongLaws
 pub mod CarriedOutLaws
 pub mod KnownCosts
 pub mod KnownSyntaxes

@@ -13,6 +13,7 @@ use Rattle.edit_script.proofs.StandingLaws.{end_two, entries_two, kept_two}
 use Rattle.edit_session.specs.Ends.{FilesChange, IsUnreadOf, SinkChange, SourceChange, Takes, sink_change, source_change}
 use Rattle.edit_session.specs.Painter.{Library}
 use Rattle.edit_session.specs.Session.{Answer, Standing, behind, entries_read, is_too_long, most_bytes, session, session_costs}
+use Rattle.edit_session.specs.declared.commands.Harm.{Harm}
 use Rattle.edit_session.specs.declared.reading.End.{End}
 use Rattle.edit_session.specs.declared.reading.End.TheVariants.{Done, Refused, TooLong, Unread, Unfetched, Unwritten, Memory}
 use Rattle.edit_session.specs.Steps.{Answers, AreCaused, EndsReading, HasRead, ReachesEnd, ReadsPiece, ReadsPieces, StandsAt, StaysWithin, StepsChange, StopsSo, TakesPieces, steps_change}
@@ -184,7 +185,7 @@ joined_by_piece library s now kept source sink steps bytes piece read =
     ∙ ap (λ t. behind first (session library t (E kept))) (sym read.stands)
 
 -- the commands that are left at the end
-joined_at_end : (library : Library) (s now : Standing) (kept : Kept) (source : SourceChange) (sink : SinkChange) (steps : StepsChange) (bytes : List ℕ) → HasRead library s now kept source sink steps bytes → session library s (entries_at_end 0 bytes) ≡ behind (session library s (entries_of 0 bytes)) (session library now (entries_at_end kept.lines kept.bytes))
+pub joined_at_end : (library : Library) (s now : Standing) (kept : Kept) (source : SourceChange) (sink : SinkChange) (steps : StepsChange) (bytes : List ℕ) → HasRead library s now kept source sink steps bytes → session library s (entries_at_end 0 bytes) ≡ behind (session library s (entries_of 0 bytes)) (session library now (entries_at_end kept.lines kept.bytes))
 joined_at_end library s now kept source sink steps bytes read =
     let E : Kept → List Entry = λ k. entries_at_end k.lines k.bytes in
     let first = session library s (entries_of 0 bytes) in
@@ -317,7 +318,7 @@ takes_none before None taken = taken
 takes_none before (Some rest) taken = taken
 
 -- no piece says that a script is too long, so what stopped the pieces is the end of reading
-pub stopped_reading : (U : Type 0) (library : Library) (s : Standing) (refused before after : Bool) (source : SourceChange) (files : FilesChange) (sink : SinkChange) (steps : StepsChange) (end : End) → StopsSo library s source sink steps end → TakesPieces before after source files sink (Err end) → EndsReading {U = U} library s refused source sink (Err end) × StaysWithin library s source sink steps
+pub stopped_reading : (U : Type 0) (library : Library) (s : Standing) (refused : Bool) (before after : Harm) (source : SourceChange) (files : FilesChange) (sink : SinkChange) (steps : StepsChange) (end : End) → StopsSo library s source sink steps end → TakesPieces before after source files sink (Err end) → EndsReading {U = U} library s refused source sink (Err end) × StaysWithin library s source sink steps
 stopped_reading U library s refused before after source files sink steps Unread stops takes = stops
 stopped_reading U library s refused before after source files sink steps (Unfetched line) stops takes = stops
 stopped_reading U library s refused before after source files sink steps Unwritten stops takes = (tt, stops)
@@ -382,7 +383,7 @@ within_end library s now kept left left' out out' out'' f f' g g' g'' n n' n'' b
     (subst P (sym (joined_at_end library s now kept (source_change left left' f f') (sink_change out out' g g') (steps_change n n') bytes read)) (appends_behind out out' out'' _ (session library now (entries_at_end kept.lines kept.bytes)).text read.written part)) (omega arith)
 
 -- the commands that are left were answered
-finished_by : (U : Type 0) (library : Library) (s now next : Standing) (kept : Kept) (left left' out out' out'' : Option (List ℕ)) (f f' g g' g'' n n' n'' : ℕ) (bytes : List ℕ) (before after : Bool) (files : FilesChange) (result : Result U End) → HasRead library s now kept (source_change left left' f f') (sink_change out out' g g') (steps_change n n') bytes → IfSome left' (λ rest. rest ≡ []) → f' ≡ f → g' ≡ g → Answers library (session library now (entries_at_end kept.lines kept.bytes)) next (sink_change out' out'' g' g'') result → n'' ≤ n' + session_costs library now (entries_at_end kept.lines kept.bytes) → AreCaused before after files (sink_change out' out'' g' g'') result → EndsReading library s next.refused (source_change left left' f f') (sink_change out out'' g g'') result × StaysWithin library s (source_change left left' f f') (sink_change out out'' g g'') (steps_change n n'')
+finished_by : (U : Type 0) (library : Library) (s now next : Standing) (kept : Kept) (left left' out out' out'' : Option (List ℕ)) (f f' g g' g'' n n' n'' : ℕ) (bytes : List ℕ) (before after : Harm) (files : FilesChange) (result : Result U End) → HasRead library s now kept (source_change left left' f f') (sink_change out out' g g') (steps_change n n') bytes → IfSome left' (λ rest. rest ≡ []) → f' ≡ f → g' ≡ g → Answers library (session library now (entries_at_end kept.lines kept.bytes)) next (sink_change out' out'' g' g'') result → n'' ≤ n' + session_costs library now (entries_at_end kept.lines kept.bytes) → AreCaused before after files (sink_change out' out'' g' g'') result → EndsReading library s next.refused (source_change left left' f f') (sink_change out out'' g g'') result × StaysWithin library s (source_change left left' f f') (sink_change out out'' g g'') (steps_change n n'')
 finished_by U library s now next kept left left' out out' out'' f f' g g' g'' n n' n'' bytes before after files (Ok done) read ended readable writable answered painted caused =
     let joined = joined_at_end library s now kept (source_change left left' f f') (sink_change out out' g g') (steps_change n n') bytes read in
     let rest = session library now (entries_at_end kept.lines kept.bytes) in
@@ -417,7 +418,7 @@ finished_by U library s now next kept left left' out out' out'' f f' g g' g'' n 
 finished_by U library s now next kept left left' out out' out'' f f' g g' g'' n n' n'' bytes before after files (Err TooLong) read ended readable writable answered painted caused = absurd caused
 finished_by U library s now next kept left left' out out' out'' f f' g g' g'' n n' n'' bytes before after files (Err Unread) read ended readable writable answered painted caused = absurd caused
 
-pub finished : (U : Type 0) (library library' : Library) → library' ≡ library → (s now next : Standing) (kept : Kept) (left left' out out' out'' : Option (List ℕ)) (f f' g g' g'' n n' n'' : ℕ) (bytes : List ℕ) (before after : Bool) (files : FilesChange) (result : Result U End) → HasRead library s now kept (source_change left left' f f') (sink_change out out' g g') (steps_change n n') bytes → IfSome left' (λ rest. rest ≡ []) → f' ≡ f → g' ≡ g → Answers library' (session library' now (entries_at_end kept.lines kept.bytes)) next (sink_change out' out'' g' g'') result → n'' ≤ n' + session_costs library' now (entries_at_end kept.lines kept.bytes) → AreCaused before after files (sink_change out' out'' g' g'') result → EndsReading library s next.refused (source_change left left' f f') (sink_change out out'' g g'') result × StaysWithin library s (source_change left left' f f') (sink_change out out'' g g'') (steps_change n n'')
+pub finished : (U : Type 0) (library library' : Library) → library' ≡ library → (s now next : Standing) (kept : Kept) (left left' out out' out'' : Option (List ℕ)) (f f' g g' g'' n n' n'' : ℕ) (bytes : List ℕ) (before after : Harm) (files : FilesChange) (result : Result U End) → HasRead library s now kept (source_change left left' f f') (sink_change out out' g g') (steps_change n n') bytes → IfSome left' (λ rest. rest ≡ []) → f' ≡ f → g' ≡ g → Answers library' (session library' now (entries_at_end kept.lines kept.bytes)) next (sink_change out' out'' g' g'') result → n'' ≤ n' + session_costs library' now (entries_at_end kept.lines kept.bytes) → AreCaused before after files (sink_change out' out'' g' g'') result → EndsReading library s next.refused (source_change left left' f f') (sink_change out out'' g g'') result × StaysWithin library s (source_change left left' f f') (sink_change out out'' g g'') (steps_change n n'')
 finished U library library' same s now next kept left left' out out' out'' f f' g g' g'' n n' n'' bytes before after files result read ended readable writable answered painted caused =
     let A : Library → Type 0 = λ q. Answers q (session q now (entries_at_end kept.lines kept.bytes)) next (sink_change out' out'' g' g'') result in
     let C : Library → Type 0 = λ q. n'' ≤ n' + session_costs q now (entries_at_end kept.lines kept.bytes) in

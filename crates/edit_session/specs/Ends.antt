@@ -1,12 +1,13 @@
 -- How a session over a source and a sink ends.
-use Rattle.std.specs.Prelude.{◌≡◌, ℕ, ◌<◌, ◌≤◌, Bool, true, false, List, [], ◌++◌, length, Contains, Option, Some, IfSome, option_map, ⊤}
+use Rattle.std.specs.Prelude.{◌≡◌, ◌⊎◌, ℕ, ◌<◌, ◌≤◌, Bool, true, false, List, [], ◌++◌, length, Contains, Option, Some, IfSome, option_map, ⊤}
 use Rattle.syn_base.specs.Causes.{Rose}
 use Rattle.syn_base.specs.Outside.{FileMap, appended}
 use Rattle.edit_script.specs.Entries.{entries_at_end, entries_of}
+use Rattle.edit_session.specs.declared.commands.Harm.{Harm}
 use Rattle.edit_session.specs.declared.reading.End.{End}
 use Rattle.edit_session.specs.declared.reading.End.TheVariants.{Done, Refused, TooLong, Unread, Unfetched, Unwritten, Memory}
 use Rattle.edit_session.specs.Painter.{IsUnread, Library}
-use Rattle.edit_session.specs.Session.{Standing, entries_read, most_bytes, session}
+use Rattle.edit_session.specs.Session.{Standing, entries_read, most_bytes, script_session, session}
 
 -- a source before and after a call: the bytes to come, where told, and its count of faults
 pub record SourceChange : Type 0 where
@@ -142,9 +143,26 @@ IsReadWhole source =
     IfSome source.after (λ rest. rest ≡ []) × (source.faults_after ≡ source.faults) × TakesWithin source
 
 -- where no command is refused behind these, none was before, and no file was absent or too long
-abbrev pub IsUnharmed : Bool → Bool → FilesChange → Type 0
+abbrev pub IsUnharmed : Harm → Harm → FilesChange → Type 0
 IsUnharmed before after files =
-    after ≡ false → (before ≡ false) × (files.misses_after ≡ files.misses) × (files.longs_after ≡ files.longs)
+    after.refused ≡ false
+    → (before.refused ≡ false) × (files.misses_after ≡ files.misses) × (files.longs_after ≡ files.longs)
+
+-- the count of files that are too long didn't fall, and where a command met one, one did so before these or the count rose
+pub record MeetsLongs (before after : Harm) (files : FilesChange) : Type 0 where
+  pub counts : files.longs ≤ files.longs_after
+  pub met : after.met_long ≡ true → (before.met_long ≡ true) ⊎ Rose files.longs files.longs_after
+
+-- a script that was read to its end with a refusal, or past the most bytes of one: where a command of it names a syntax of
+-- which a file is too long, the count of such files rose
+abbrev pub LongsRise : Library → Standing → Option (List ℕ) → FilesChange → Type 0
+LongsRise library s script files = IfSome script (λ bytes.
+    (script_session library s bytes).stands.met_long ≡ true → Rose files.longs files.longs_after)
+
+abbrev pub CountsLongs : Library → Standing → Option (List ℕ) → FilesChange → End → Type 0
+CountsLongs library s script files Refused = LongsRise library s script files
+CountsLongs library s script files TooLong = LongsRise library s script files
+CountsLongs library s script files end = ⊤
 
 -- each end with its cause
 abbrev pub HasCause : SourceChange → SinkChange → FilesChange → End → Type 0

@@ -1,6 +1,6 @@
 -- What a session of edits asks of its painter, which stands for the syntax in force, and of the files in
 -- which further syntaxes lie.
-use Rattle.std.specs.Prelude.{◌≡◌, ℕ, List, length, Option, Some, Result, Ok, Err, ⊤}
+use Rattle.std.specs.Prelude.{◌≡◌, ℕ, Bool, true, false, List, length, Option, Some, Result, Ok, Err, ⊤}
 use Rattle.syn_base.specs.declared.places.Span.{Span}
 use Rattle.command_print.specs.Shown.{Shown, lines_shown_otherwise}
 use Rattle.edit_session.specs.declared.document.Unedited.{Unedited}
@@ -31,6 +31,8 @@ pub record Painter : Type 0 where
 pub record Library : Type 0 where
   -- the painter by the syntax in the file of this name, or the words that tell why that is refused
   pub reads : List ℕ → Result Painter (List ℕ)
+  -- whether that file, or one that it includes, is too long
+  pub is_long : List ℕ → Bool
   -- the line for a file that can't be read, where reading that syntax comes to it in the fetch of this number
   pub unread : List ℕ → ℕ → Option (List ℕ)
 
@@ -81,9 +83,11 @@ RefusesSyntax (Err cause) text words = words ≡ cause
 abbrev pub TakesSyntax :
     Library → List ℕ → Painter → Painter → Painted → Painted → Result (List ℕ) Untaken → Type 0
 TakesSyntax library name p q before after (Ok told) =
-    (library.reads name ≡ Ok q) × IsPaintedBy p q before after told
+    (library.reads name ≡ Ok q) × (library.is_long name ≡ false) × IsPaintedBy p q before after told
 TakesSyntax library name p q before after (Err (untaken.Refused words)) =
-    RefusesSyntax (library.reads name) before.text words
+    RefusesSyntax (library.reads name) before.text words × (library.is_long name ≡ false)
+TakesSyntax library name p q before after (Err (untaken.TooLong words)) =
+    (library.reads name ≡ Err words) × (library.is_long name ≡ true)
 TakesSyntax library name p q before after (Err (untaken.Unread line)) = IsUnread library name line
 TakesSyntax library name p q before after (Err untaken.Memory) = ⊤
 

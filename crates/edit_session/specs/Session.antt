@@ -1,7 +1,7 @@
 -- A session of edits: the commands of a script, carried out one after the other on the text as it is and by
 -- the syntax then in force. The text is painted anew, from its first line on, at each command that changes
 -- either.
-use Rattle.std.specs.Prelude.{ℕ, ◌+◌, ◌-◌, nat_lt, Bool, true, false, List, [], ◌∷◌, ◌++◌, length, take, slice_range, get_or, Option, Some, None, Result, Ok, Err, if◌then◌else◌}
+use Rattle.std.specs.Prelude.{ℕ, ◌+◌, ◌-◌, ◌||◌, nat_lt, Bool, true, false, List, [], ◌∷◌, ◌++◌, length, take, slice_range, get_or, Option, Some, None, Result, Ok, Err, if◌then◌else◌}
 use Rattle.std.specs.List.{range_with_len}
 use Rattle.syn_base.specs.declared.places.Span.{Span}
 use Rattle.command_print.specs.CommandText.{head_text, refusal_text}
@@ -21,16 +21,18 @@ use Rattle.edit_session.specs.Painter.{Library, Painter, Painted, syntax_costs, 
 -- ---- one command
 
 -- what stands between two commands: how many there were, the painter by the syntax in force, the painted
--- text, and whether a command was refused
+-- text, whether a command was refused, and whether one named a syntax of which a file is too long
 pub record Standing : Type 0 where
   pub number : ℕ
   pub painter : Painter
   pub painted : Painted
   pub refused : Bool
+  pub met_long : Bool
 
 -- before the first command
 abbrev pub start : Painter → Painted → Standing
-start painter painted = record { number = 0; painter = painter; painted = painted; refused = false }
+start painter painted =
+    record { number = 0; painter = painter; painted = painted; refused = false; met_long = false }
 
 -- what a command prints, the names of the syntaxes that it asks for, and what stands behind it
 pub record Answer : Type 0 where
@@ -43,7 +45,7 @@ abbrev pub refuses : Standing → ℕ → List ℕ → Answer
 refuses s line cause = record {
   text = refusal_text (s.number + 1) line cause;
   asked = [];
-  stands = record { number = s.number + 1; painter = s.painter; painted = s.painted; refused = true };
+  stands = record s { number = s.number + 1; refused = true };
 }
 
 -- any other one prints its head, and behind it what it is for
@@ -51,7 +53,7 @@ abbrev pub prints : Standing → Painted → List ℕ → Answer
 prints s painted text = record {
   text = head_text (s.number + 1) ++ text;
   asked = [];
-  stands = record { number = s.number + 1; painter = s.painter; painted = painted; refused = s.refused };
+  stands = record s { number = s.number + 1; painted = painted };
 }
 
 -- the span lines of the lines of these numbers
@@ -74,11 +76,10 @@ abbrev pub with_painter : Standing → ℕ → Painter → Result (List (List Sp
 with_painter s line q (Ok spans) = record {
   text = head_text (s.number + 1) ++ lines_text q spans (told_otherwise s.painter q s.painted.spans spans);
   asked = [];
-  stands = record {
+  stands = record s {
     number = s.number + 1;
     painter = q;
     painted = record { text = s.painted.text; spans = spans };
-    refused = s.refused;
   };
 }
 with_painter s line q (Err cause) = refuses s line cause
@@ -88,12 +89,18 @@ abbrev pub with_syntax : Standing → ℕ → Result Painter (List ℕ) → Answ
 with_syntax s line (Ok q) = with_painter s line q (q.paint s.painted.text)
 with_syntax s line (Err cause) = refuses s line cause
 
+-- where a file of the syntax is too long, that is marked
+abbrev pub marked : Bool → Answer → Answer
+marked is_long answer =
+    record answer { stands = record answer.stands { met_long = is_long || (answer.stands).met_long } }
+
 -- the syntax of this name is asked for
 abbrev pub asks : List ℕ → Answer → Answer
 asks name answer = record { text = answer.text; asked = name ∷ []; stands = answer.stands }
 
 abbrev pub takes_syntax : Library → Standing → ℕ → List ℕ → Answer
-takes_syntax library s line name = asks name (with_syntax s line (library.reads name))
+takes_syntax library s line name =
+    asks name (marked (library.is_long name) (with_syntax s line (library.reads name)))
 
 -- a command with this text, which fits the actual text; the name of a syntax isn't part of what is resolved, so that
 -- command is answered apart

@@ -4,6 +4,7 @@ use Rattle.syn_base.specs.declared.places.Span.{Span}
 use Rattle.syn_base.specs.Causes.{Rose}
 use Rattle.syn_base.specs.Outside.{AppendsPrefix, appended}
 use Rattle.edit_session.specs.declared.commands.Commands.{Commands}
+use Rattle.edit_session.specs.declared.commands.Harm.{Harm}
 use Rattle.edit_session.specs.declared.document.Untaken.{Untaken}
 use Rattle.edit_session.specs.declared.document.Untaken.TheVariants as untaken
 use Rattle.edit_session.specs.declared.reading.End.{End}
@@ -14,9 +15,9 @@ use Rattle.edit_script.specs.declared.commands.Resolved.{Resolved}
 use Rattle.edit_script.specs.declared.commands.Resolved.TheVariants.{Replace, Move, CopyTo, Print, Page, Folds, Syntax}
 use Rattle.edit_script.specs.Entries.{entries_of, kept_of}
 use Rattle.edit_script.specs.Kept.{Kept}
-use Rattle.edit_session.specs.Ends.{FailsBehind, FilesChange, IsReadWhole, IsUnharmed, IsUnreadOf, ReadsOver, ReadsToEnd, SinkChange, SourceChange, StopsAtFile, Takes, TakesFew, TakesMany}
+use Rattle.edit_session.specs.Ends.{FailsBehind, FilesChange, IsReadWhole, IsUnharmed, IsUnreadOf, MeetsLongs, ReadsOver, ReadsToEnd, SinkChange, SourceChange, StopsAtFile, Takes, TakesFew, TakesMany}
 use Rattle.edit_session.specs.Painter.{Library, Painter}
-use Rattle.edit_session.specs.Session.{Answer, Standing, entries_read, most_bytes, session, session_costs}
+use Rattle.edit_session.specs.Session.{Answer, Standing, entries_read, most_bytes, script_session, session, session_costs}
 
 -- what stands, by the commands and by what tells of their document the lines, the spans and the painter
 abbrev pub standing :
@@ -25,7 +26,8 @@ standing lines shown painter commands = record {
   number = commands.number;
   painter = painter commands.document;
   painted = record { text = lines commands.document; spans = shown commands.document };
-  refused = commands.refused;
+  refused = (commands.harm).refused;
+  met_long = (commands.harm).met_long;
 }
 
 -- a command with so many lines fits a text of so many; one that names a syntax is none of them
@@ -59,27 +61,38 @@ Answers library answer now sink (Err end) = AppendsPrefix sink.before sink.after
 
 -- ---- causes, whatever the files say
 
--- a syntax was put in force, and each file that was asked for was there; or it was refused, a file couldn't be read, or
--- memory ran out
+-- a syntax was put in force, and each file that was asked for was there; or it was refused, a file was too long or
+-- couldn't be read, or memory ran out
 abbrev pub IsTakingCaused : {A : Type 0} → FilesChange → Result A Untaken → Type 0
 IsTakingCaused files (Ok told) =
     (files.faults_after ≡ files.faults) × (files.misses_after ≡ files.misses) × (files.longs_after ≡ files.longs)
-IsTakingCaused files (Err (untaken.Refused words)) = files.faults_after ≡ files.faults
+IsTakingCaused files (Err (untaken.Refused words)) =
+    (files.faults_after ≡ files.faults) × (files.longs_after ≡ files.longs)
+IsTakingCaused files (Err (untaken.TooLong words)) =
+    (files.faults_after ≡ files.faults) × Rose files.longs files.longs_after
 IsTakingCaused files (Err (untaken.Unread line)) = Rose files.faults files.faults_after
 IsTakingCaused files (Err untaken.Memory) = ⊤
 
+-- a command takes no refusal back, and meets no file
+pub record KeepsHarm (before after : Harm) : Type 0 where
+  pub refused : after.refused ≡ false → before.refused ≡ false
+  pub met_long : after.met_long ≡ before.met_long
+
 -- a command was answered; or a file couldn't be read, or memory ran out
-abbrev pub IsAnswerCaused : {A : Type 0} → Bool → Bool → FilesChange → Result A End → Type 0
+abbrev pub IsAnswerCaused : {A : Type 0} → Harm → Harm → FilesChange → Result A End → Type 0
 IsAnswerCaused before after files (Ok text) =
-    (files.faults_after ≡ files.faults) × IsUnharmed before after files
+    (files.faults_after ≡ files.faults) × IsUnharmed before after files × MeetsLongs before after files
 IsAnswerCaused before after files (Err (Unfetched line)) = Rose files.faults files.faults_after
 IsAnswerCaused before after files (Err Memory) = ⊤
 IsAnswerCaused before after files (Err end) = ⊥
 
 -- commands were answered and all was written; or a file couldn't be read, a write failed, or memory ran out
-abbrev pub AreCaused : {A : Type 0} → Bool → Bool → FilesChange → SinkChange → Result A End → Type 0
+abbrev pub AreCaused : {A : Type 0} → Harm → Harm → FilesChange → SinkChange → Result A End → Type 0
 AreCaused before after files sink (Ok done) =
-    (sink.faults_after ≡ sink.faults) × (files.faults_after ≡ files.faults) × IsUnharmed before after files
+    (sink.faults_after ≡ sink.faults)
+    × (files.faults_after ≡ files.faults)
+    × IsUnharmed before after files
+    × MeetsLongs before after files
 AreCaused before after files sink (Err (Unfetched line)) =
     (sink.faults_after ≡ sink.faults) × Rose files.faults files.faults_after
 AreCaused before after files sink (Err Unwritten) = Rose sink.faults sink.faults_after
@@ -189,10 +202,19 @@ EndsReading library s refused source sink (Err Unread) = FailsBehind library s s
 EndsReading library s refused source sink (Err (Unfetched line)) = StopsAtFile library s source line
 EndsReading library s refused source sink (Err end) = ⊤
 
+-- where a script was read to its end, or past the most bytes of one, a command met a file that is too long just where
+-- the files say so
+abbrev pub MeetsAsTold : {U : Type 0} → Library → Standing → Option (List ℕ) → Bool → Result U End → Type 0
+MeetsAsTold library s script met (Ok done) =
+    IfSome script (λ bytes. (script_session library s bytes).stands.met_long ≡ met)
+MeetsAsTold library s script met (Err TooLong) =
+    IfSome script (λ bytes. (script_session library s bytes).stands.met_long ≡ met)
+MeetsAsTold library s script met (Err end) = ⊤
+
 -- ---- reading, whatever the files say
 
 -- a piece was taken, and what became whole with it was carried out
-abbrev pub TakesPiece : ℕ → Bool → Bool → SourceChange → FilesChange → SinkChange → Result ℕ End → Type 0
+abbrev pub TakesPiece : ℕ → Harm → Harm → SourceChange → FilesChange → SinkChange → Result ℕ End → Type 0
 TakesPiece room before after source files sink (Ok count) =
     (piece : List ℕ)
     × Takes piece source.before source.after
@@ -217,7 +239,7 @@ pub record HasTaken (source : SourceChange) (bytes : List ℕ) : Type 0 where
   pub readable : source.faults_after ≡ source.faults
 
 -- pieces were taken up to the end, or up to the most bytes; or something failed before
-abbrev pub TakesPieces : Bool → Bool → SourceChange → FilesChange → SinkChange → Result Bool End → Type 0
+abbrev pub TakesPieces : Harm → Harm → SourceChange → FilesChange → SinkChange → Result Bool End → Type 0
 TakesPieces before after source files sink (Ok ended) =
     (bytes : List ℕ)
     × HasTaken source bytes
@@ -240,11 +262,12 @@ ReachesEnd false before after faults faults_after (Err Unread) = (after ≡ befo
 ReachesEnd false before after faults faults_after (Err end) = ⊥
 
 -- the script was read to its end or past the most bytes of one, or something failed
-abbrev pub TakesScript : {U : Type 0} → Bool → Bool → SourceChange → FilesChange → SinkChange → Result U End → Type 0
+abbrev pub TakesScript : {U : Type 0} → Harm → Harm → SourceChange → FilesChange → SinkChange → Result U End → Type 0
 TakesScript before after source files sink (Ok done) = IsReadWhole source × AreCaused before after files sink (Ok done)
 TakesScript before after source files sink (Err TooLong) =
     TakesMany source × (source.faults_after ≡ source.faults) × (sink.faults_after ≡ sink.faults)
     × (files.faults_after ≡ files.faults)
+    × MeetsLongs before after files
 TakesScript before after source files sink (Err Unread) =
     Rose source.faults source.faults_after × (sink.faults_after ≡ sink.faults)
 TakesScript {U} before after source files sink (Err end) =

@@ -1,13 +1,13 @@
 //! The commands of a session, one after the other.
-ghost use Rattle.std.specs.Prelude.{◌≡◌, ◌≤◌, ◌<◌, ◌+◌, ◌-◌, ◌++◌, All, None, Ok, false, length, IfOk, OnOk};
+ghost use Rattle.std.specs.Prelude.{◌≡◌, ◌≤◌, ◌<◌, ◌+◌, ◌-◌, ◌++◌, All, None, Ok, false, length, true, IfOk, OnOk};
 ghost use Rattle.std.specs.List.{range_with_len};
 ghost use Rattle.command_print.specs.CommandText.{head_text};
 ghost use Rattle.text_buffer.specs.TextOfBytes.{most_lines};
 ghost use Rattle.edit_script.specs.Edits.{edit_of, replaced, replacement as replacement_of, resolved_of};
 ghost use Rattle.edit_session.specs.Ends.{IfKnown, files_change, sink_change};
 ghost use Rattle.edit_session.specs.Painter.{Painted, Painter, syntax_costs};
-ghost use Rattle.edit_session.specs.Session.{answers, carries_out, change_costs, edits, entry_costs, lines_text, obeys, prints, refuses, session, session_costs, syntax_named, takes_syntax, what_costs};
-ghost use Rattle.edit_session.specs.Steps.{Answers, AreCaused, FitsText, GivesAnswer, GivesOrStops, IsAnswerCaused, standing};
+ghost use Rattle.edit_session.specs.Session.{answers, carries_out, change_costs, edits, entry_costs, lines_text, marked, obeys, prints, refuses, session, session_costs, syntax_named, takes_syntax, what_costs};
+ghost use Rattle.edit_session.specs.Steps.{Answers, AreCaused, FitsText, GivesAnswer, GivesOrStops, IsAnswerCaused, KeepsHarm, standing};
 
 use crate::causes::{fault_label, misfit_text};
 use crate::changes::{Replacement, copied, moved, put_in_place};
@@ -20,13 +20,22 @@ use std::alloc::Global;
 use syn_base::{Files, Ledger, Lines, List, Memory, Sink, Steps, put_all};
 use text_buffer::Line;
 
-/// What stands between two commands: the text as it is, how many commands there were, and whether
-/// one of them was refused.
+/// What went wrong with the commands so far.
+#[derive(Drop)]
+pub(crate) struct Harm {
+    /// One was refused.
+    pub(crate) refused: bool,
+    /// One named a syntax of which a file is too long.
+    pub(crate) met_long: bool,
+}
+
+/// What stands between two commands: the text as it is, how many commands there were, and what
+/// went wrong with them.
 #[derive(Drop)]
 pub(crate) struct Commands<D: Document + Drop> {
     pub(crate) document: D,
     pub(crate) number: usize,
-    pub(crate) refused: bool,
+    pub(crate) harm: Harm,
 }
 
 impl<D: Document + Drop> Commands<D> {
@@ -48,7 +57,7 @@ impl<D: Document + Drop> Commands<D> {
             (O.faults out.old) (O.faults out.new)) result) }
         ensures steps { IfKnown (F.told files.old) (λ known. steps.new ≤ steps.old
             + session_costs (D.library self.old.document known) (standing D.lines D.shown D.painter self.old) entries) }
-        ensures causes { AreCaused self.old.refused self.new.refused
+        ensures causes { AreCaused self.old.harm self.new.harm
             (files_change (F.told files.old) (F.told files.new)
             (F.faults files.old) (F.faults files.new) (F.misses files.old) (F.misses files.new)
             (F.longs files.old) (F.longs files.new))
@@ -79,7 +88,7 @@ impl<D: Document + Drop> Commands<D> {
             (O.faults out.old) (O.faults out.new)) result) }
         ensures steps { IfKnown (F.told files.old) (λ known. steps.new ≤ steps.old
             + entry_costs (D.library self.old.document known) (standing D.lines D.shown D.painter self.old) entry) }
-        ensures causes { AreCaused self.old.refused self.new.refused
+        ensures causes { AreCaused self.old.harm self.new.harm
             (files_change (F.told files.old) (F.told files.new)
             (F.faults files.old) (F.faults files.new) (F.misses files.old) (F.misses files.new)
             (F.longs files.old) (F.longs files.new))
@@ -109,7 +118,7 @@ impl<D: Document + Drop> Commands<D> {
             (answers (D.library self.old.document known) (standing D.lines D.shown D.painter self.old) entry.line entry.what)) }
         ensures steps { IfKnown (F.told files.old) (λ known. steps.new ≤ steps.old
             + what_costs (D.library self.old.document known) (standing D.lines D.shown D.painter self.old) entry.what) }
-        ensures causes { IsAnswerCaused self.old.refused self.new.refused
+        ensures causes { IsAnswerCaused self.old.harm self.new.harm
             (files_change (F.told files.old) (F.told files.new)
             (F.faults files.old) (F.faults files.new) (F.misses files.old) (F.misses files.new)
             (F.longs files.old) (F.longs files.new)) result }
@@ -137,7 +146,7 @@ impl<D: Document + Drop> Commands<D> {
             (answers (D.library self.old.document known) (standing D.lines D.shown D.painter self.old) line (Ok command))) }
         ensures steps { IfKnown (F.told files.old) (λ known. steps.new ≤ steps.old
             + what_costs (D.library self.old.document known) (standing D.lines D.shown D.painter self.old) (Ok command)) }
-        ensures causes { IsAnswerCaused self.old.refused self.new.refused
+        ensures causes { IsAnswerCaused self.old.harm self.new.harm
             (files_change (F.told files.old) (F.told files.new)
             (F.faults files.old) (F.faults files.new) (F.misses files.old) (F.misses files.new)
             (F.longs files.old) (F.longs files.new)) result }
@@ -165,7 +174,7 @@ impl<D: Document + Drop> Commands<D> {
         ensures steps { IfKnown (F.told files.old) (λ known. steps.new ≤ steps.old
             + syntax_costs ((D.library self.old.document known).reads name.now)
             (D.lines self.old.document)) }
-        ensures causes { IsAnswerCaused self.old.refused self.new.refused
+        ensures causes { IsAnswerCaused self.old.harm self.new.harm
             (files_change (F.told files.old) (F.told files.new)
             (F.faults files.old) (F.faults files.new) (F.misses files.old) (F.misses files.new)
             (F.longs files.old) (F.longs files.new)) result }
@@ -173,6 +182,7 @@ impl<D: Document + Drop> Commands<D> {
         match self.document.take_syntax(alloc, files, name, steps) {
             Ok(numbers) => Ok(self.print_lines(alloc, numbers.as_slice())?),
             Err(Untaken::Refused(cause)) => Ok(self.refuse(alloc, line, cause.as_slice())?),
+            Err(Untaken::TooLong(cause)) => Ok(self.refuse_long(alloc, line, cause.as_slice())?),
             Err(Untaken::Unread(told)) => Err(End::Unfetched(told)),
             Err(Untaken::Memory) => Err(End::Memory),
         }
@@ -191,7 +201,7 @@ impl<D: Document + Drop> Commands<D> {
         ensures answer { GivesAnswer result (standing D.lines D.shown D.painter self.new)
             (obeys (standing D.lines D.shown D.painter self.old) line command.lines
             (resolved_of command (length (D.lines self.old.document)))) }
-        ensures unharmed { OnOk result (self.new.refused ≡ false → self.old.refused ≡ false) }
+        ensures unharmed { OnOk result (KeepsHarm self.old.harm self.new.harm) }
         ensures steps { steps.new ≤ steps.old
             + change_costs (D.painter self.old.document) (D.lines self.old.document)
             (edit_of (D.lines self.old.document) command) }
@@ -281,8 +291,19 @@ impl<D: Document + Drop> Commands<D> {
             return Err(Memory);
         }
         self.number = number;
-        self.refused = true;
+        self.harm.refused = true;
         refusal_text(alloc, number, line, cause)
+    }
+
+    /// The refusal of a command that names a syntax of which a file is too long.
+    fn refuse_long(&mut self, alloc: Global, line: usize, cause: &[u8]) -> Result<List<u8>, Memory>
+        ensures document { self.new.document ≡ self.old.document }
+        ensures answer { GivesAnswer result (standing D.lines D.shown D.painter self.new)
+            (marked true (refuses (standing D.lines D.shown D.painter self.old) line cause.now)) }
+    {
+        let text = self.refuse(alloc, line, cause)?;
+        self.harm.met_long = true;
+        Ok(text)
     }
 
     /// The head of a command, and the span lines of these lines.
@@ -343,7 +364,7 @@ impl<D: Document + Drop> Commands<D> {
     /// The head of the next command.
     fn head(&mut self, alloc: Global) -> Result<Vec<u8>, Memory>
         ensures document { self.new.document ≡ self.old.document }
-        ensures refused { self.new.refused ≡ self.old.refused }
+        ensures harm { self.new.harm ≡ self.old.harm }
         ensures number { OnOk result (self.new.number ≡ self.old.number + 1) }
         ensures head { IfOk result (λ out. out.items ≡ head_text (self.old.number + 1)) }
     {

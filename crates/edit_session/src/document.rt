@@ -25,6 +25,8 @@ pub enum Unedited {
 pub enum Untaken {
     /// Its file is refused, or the painting of the text by it, for the cause that these bytes tell.
     Refused(List<u8>),
+    /// Its file, or one that it includes, is too long, which these bytes tell.
+    TooLong(List<u8>),
     /// A file couldn't be read, which these bytes tell, a line with its end.
     Unread(List<u8>),
     Memory,

@@ -40,7 +40,7 @@ pub(crate) fn read_pieces<D: Document + Drop, F: Files, I: Source, O: Sink, L: L
         (I.faults script.old) (I.faults script.new))
         (sink_change (O.written out.old) (O.written out.new)
         (O.faults out.old) (O.faults out.new)) (steps_change steps.old steps.new) result) }
-    ensures causes { TakesPieces commands.old.refused commands.new.refused
+    ensures causes { TakesPieces commands.old.harm commands.new.harm
         (source_change (I.left script.old) (I.left script.new)
         (I.faults script.old) (I.faults script.new))
         (files_change (F.told files.old) (F.told files.new)
@@ -92,7 +92,7 @@ fn read_piece<D: Document + Drop, F: Files, I: Source, O: Sink, L: Ledger>(
         (I.faults script.old) (I.faults script.new))
         (sink_change (O.written out.old) (O.written out.new)
         (O.faults out.old) (O.faults out.new)) (steps_change steps.old steps.new) result) }
-    ensures causes { TakesPiece (length buffer.old) commands.old.refused commands.new.refused
+    ensures causes { TakesPiece (length buffer.old) commands.old.harm commands.new.harm
         (source_change (I.left script.old) (I.left script.new)
         (I.faults script.old) (I.faults script.new))
         (files_change (F.told files.old) (F.told files.new)
@@ -132,7 +132,7 @@ fn feed<D: Document + Drop, F: Files, O: Sink, L: Ledger>(
     ensures steps { IfKnown (F.told files.old) (λ known. steps.new ≤ steps.old
         + session_costs (D.library commands.old.document known) (standing D.lines D.shown D.painter commands.old)
         (entries_of kept.old.lines (kept.old.bytes ++ piece.now))) }
-    ensures causes { AreCaused commands.old.refused commands.new.refused
+    ensures causes { AreCaused commands.old.harm commands.new.harm
         (files_change (F.told files.old) (F.told files.new)
         (F.faults files.old) (F.faults files.new) (F.misses files.old) (F.misses files.new)
         (F.longs files.old) (F.longs files.new))
@@ -163,7 +163,7 @@ pub(crate) fn finish<D: Document + Drop, F: Files, O: Sink, L: Ledger>(
     ensures steps { IfKnown (F.told files.old) (λ known. steps.new ≤ steps.old
         + session_costs (D.library commands.old.document known) (standing D.lines D.shown D.painter commands.old)
         (entries_at_end kept.lines kept.bytes)) }
-    ensures causes { AreCaused commands.old.refused commands.new.refused
+    ensures causes { AreCaused commands.old.harm commands.new.harm
         (files_change (F.told files.old) (F.told files.new)
         (F.faults files.old) (F.faults files.new) (F.misses files.old) (F.misses files.new)
         (F.longs files.old) (F.longs files.new))

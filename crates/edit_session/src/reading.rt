@@ -1,11 +1,11 @@
 //! A script from its source: each command is carried out as soon as its last byte was read.
 ghost use Rattle.std.specs.Prelude.{◌≡◌, ◌+◌, ◌≤◌, length, IfSome};
 ghost use Rattle.syn_base.specs.Outside.{AppendsPrefix};
-ghost use Rattle.edit_session.specs.Ends.{EndsSo, HasCause, IfKnown, TakesFew, files_change, sink_change, source_change};
+ghost use Rattle.edit_session.specs.Ends.{CountsLongs, EndsSo, HasCause, IfKnown, TakesFew, files_change, sink_change, source_change};
 ghost use Rattle.edit_session.specs.Session.{script_costs, script_session, start};
-ghost use Rattle.edit_session.specs.Steps.{EndsReading, StaysWithin, TakesScript, end_of, standing, steps_change};
+ghost use Rattle.edit_session.specs.Steps.{EndsReading, MeetsAsTold, StaysWithin, TakesScript, end_of, standing, steps_change};
 
-use crate::commands::Commands;
+use crate::commands::{Commands, Harm};
 use crate::document::Document;
 use crate::pieces::{PIECE, finish, read_pieces};
 use crate::script_bytes::reach_end;
@@ -86,6 +86,12 @@ pub fn carry_out_script<D: Document + Drop, F: Files, I: Source, O: Sink, L: Led
         (files_change (F.told files.old) (F.told files.new)
         (F.faults files.old) (F.faults files.new) (F.misses files.old) (F.misses files.new)
         (F.longs files.old) (F.longs files.new)) result }
+    ensures longs { IfKnown (F.told files.old) (λ known. CountsLongs (D.library document known)
+        (start (D.painter document)
+        (record { text = D.lines document; spans = D.shown document })) (I.left script.old)
+        (files_change (F.told files.old) (F.told files.new)
+        (F.faults files.old) (F.faults files.new) (F.misses files.old) (F.misses files.new)
+        (F.longs files.old) (F.longs files.new)) result) }
     ensures taken { TakesFew
         (source_change (I.left script.old) (I.left script.new)
         (I.faults script.old) (I.faults script.new)) }
@@ -93,10 +99,13 @@ pub fn carry_out_script<D: Document + Drop, F: Files, I: Source, O: Sink, L: Led
     let mut commands = Commands {
         document,
         number: 0,
-        refused: false,
+        harm: Harm {
+            refused: false,
+            met_long: false,
+        },
     };
     match read_script(alloc, &mut commands, files, script, out, steps) {
-        Ok(()) => end_of(commands.refused),
+        Ok(()) => end_of(commands.harm.refused),
         Err(end) => end,
     }
 }
@@ -119,7 +128,7 @@ fn read_script<D: Document + Drop, F: Files, I: Source, O: Sink, L: Ledger>(
 ) -> Result<(), End>
     ensures kept { F.told files.new ≡ F.told files.old }
     ensures ends { IfKnown (F.told files.old) (λ known. EndsReading (D.library commands.old.document known)
-        (standing D.lines D.shown D.painter commands.old) commands.new.refused
+        (standing D.lines D.shown D.painter commands.old) commands.new.harm.refused
         (source_change (I.left script.old) (I.left script.new)
         (I.faults script.old) (I.faults script.new))
         (sink_change (O.written out.old) (O.written out.new)
@@ -130,7 +139,7 @@ fn read_script<D: Document + Drop, F: Files, I: Source, O: Sink, L: Ledger>(
         (I.faults script.old) (I.faults script.new))
         (sink_change (O.written out.old) (O.written out.new)
         (O.faults out.old) (O.faults out.new)) (steps_change steps.old steps.new)) }
-    ensures causes { TakesScript commands.old.refused commands.new.refused
+    ensures causes { TakesScript commands.old.harm commands.new.harm
         (source_change (I.left script.old) (I.left script.new)
         (I.faults script.old) (I.faults script.new))
         (files_change (F.told files.old) (F.told files.new)
@@ -138,6 +147,9 @@ fn read_script<D: Document + Drop, F: Files, I: Source, O: Sink, L: Ledger>(
         (F.longs files.old) (F.longs files.new))
         (sink_change (O.written out.old) (O.written out.new)
         (O.faults out.old) (O.faults out.new)) result }
+    ensures longs { IfKnown (F.told files.old) (λ known. MeetsAsTold (D.library commands.old.document known)
+        (standing D.lines D.shown D.painter commands.old) (I.left script.old)
+        commands.new.harm.met_long result) }
     ensures taken { TakesFew
         (source_change (I.left script.old) (I.left script.new)
         (I.faults script.old) (I.faults script.new)) }
@@ -167,7 +179,7 @@ fn read_with<D: Document + Drop, F: Files, I: Source, O: Sink, L: Ledger>(
     requires { length buffer.old ≡ 65536 }
     ensures kept { F.told files.new ≡ F.told files.old }
     ensures ends { IfKnown (F.told files.old) (λ known. EndsReading (D.library commands.old.document known)
-        (standing D.lines D.shown D.painter commands.old) commands.new.refused
+        (standing D.lines D.shown D.painter commands.old) commands.new.harm.refused
         (source_change (I.left script.old) (I.left script.new)
         (I.faults script.old) (I.faults script.new))
         (sink_change (O.written out.old) (O.written out.new)
@@ -178,7 +190,7 @@ fn read_with<D: Document + Drop, F: Files, I: Source, O: Sink, L: Ledger>(
         (I.faults script.old) (I.faults script.new))
         (sink_change (O.written out.old) (O.written out.new)
         (O.faults out.old) (O.faults out.new)) (steps_change steps.old steps.new)) }
-    ensures causes { TakesScript commands.old.refused commands.new.refused
+    ensures causes { TakesScript commands.old.harm commands.new.harm
         (source_change (I.left script.old) (I.left script.new)
         (I.faults script.old) (I.faults script.new))
         (files_change (F.told files.old) (F.told files.new)
@@ -186,6 +198,9 @@ fn read_with<D: Document + Drop, F: Files, I: Source, O: Sink, L: Ledger>(
         (F.longs files.old) (F.longs files.new))
         (sink_change (O.written out.old) (O.written out.new)
         (O.faults out.old) (O.faults out.new)) result }
+    ensures longs { IfKnown (F.told files.old) (λ known. MeetsAsTold (D.library commands.old.document known)
+        (standing D.lines D.shown D.painter commands.old) (I.left script.old)
+        commands.new.harm.met_long result) }
     ensures taken { TakesFew
         (source_change (I.left script.old) (I.left script.new)
         (I.faults script.old) (I.faults script.new)) }

@@ -1,5 +1,5 @@
 use Rattle.std.proofs.lemmas.List.{length-take-le}
-use Rattle.std.proofs.Common.{ℕ, Bool, [], true, refl, ap, ◌∙◌, arith}
+use Rattle.std.proofs.Common.{ℕ, Bool, [], true, refl, ap, ◌∙◌, inl, arith}
 use Rattle.std.specs.Prelude.{Ok, Err}
 use Rattle.std.proofs.lemmas.Result.{err_from_is_err_and}
 use Rattle.edit_session.specs.Ends.{files_change, sink_change}
@@ -17,7 +17,7 @@ loop-taken-init g c =
       same = refl;
       read = λ known is. ([], read_start (g.D.Document.library c.args.commands.now.document known) s c.args.kept.now (g.I.Source.left c.args.script.now) (g.O.Sink.written c.args.out.now) failed failed (g.O.Sink.faults c.args.out.now) c.args.steps.now c.requires.fresh, refl);
       took = ([], took_start (g.I.Source.left c.args.script.now) failed, refl);
-      caused = (refl, refl, λ none. (none, refl, refl));
+      caused = (refl, refl, λ none. (none, refl, refl), record { counts = omega arith; met = λ is. inl is });
     }
 
 pub returns-in_err-count-clause-kept : goal.returns-in_err-count-clause-kept
@@ -58,7 +58,7 @@ returns-in_err-count-clause-causes g c =
     let misses = g.F.Files.misses in
     let longs = g.F.Files.longs in
     let q = err_from_is_err_and c.from_residual.result c.from_residual.ensures.1 in
-    took_stopped ℕ c.args.commands.now.refused c.loop-taken.commands.refused c.read_piece.new.commands.refused
+    took_stopped ℕ c.args.commands.now.harm c.loop-taken.commands.harm c.read_piece.new.commands.harm
     (told c.args.files.now) (told c.loop-taken.files) (told c.read_piece.new.files) (lost c.args.files.now) (lost c.loop-taken.files) (lost c.read_piece.new.files) (misses c.args.files.now) (misses c.loop-taken.files) (misses c.read_piece.new.files) (longs c.args.files.now) (longs c.loop-taken.files) (longs c.read_piece.new.files)
     (written c.args.out.now) (written c.loop-taken.out) (written c.read_piece.new.out) (refused c.args.out.now) (refused c.loop-taken.out) (refused c.read_piece.new.out) 0 _ c.loop-taken.taken (left c.args.script.now) (left c.loop-taken.script) (left c.read_piece.new.script) (failed c.args.script.now) (failed c.loop-taken.script) (failed c.read_piece.new.script)
     inv.took.0 c.in_err-count.field-0.0 c.from_residual.result inv.took.1 inv.took.2 (omega (arith, c.min-room.ensures, c.requires.buffer, length-take-le {A = ℕ})) inv.caused c.in_err-count.ensures.causes (q.1 ∙ ap Err q.2)
@@ -100,12 +100,12 @@ returns-then-count-eq0-clause-causes g c =
     let lost = g.F.Files.faults in
     let misses = g.F.Files.misses in
     let longs = g.F.Files.longs in
-    let more = took_further c.loop-taken.commands.refused c.read_piece.new.commands.refused (files_change (told c.loop-taken.files) (told c.read_piece.new.files) (lost c.loop-taken.files) (lost c.read_piece.new.files) (misses c.loop-taken.files) (misses c.read_piece.new.files) (longs c.loop-taken.files) (longs c.read_piece.new.files)) (sink_change (written c.loop-taken.out) (written c.read_piece.new.out) (refused c.loop-taken.out) (refused c.read_piece.new.out)) _ c.in_ok-count.count c.loop-taken.taken
+    let more = took_further c.loop-taken.commands.harm c.read_piece.new.commands.harm (files_change (told c.loop-taken.files) (told c.read_piece.new.files) (lost c.loop-taken.files) (lost c.read_piece.new.files) (misses c.loop-taken.files) (misses c.read_piece.new.files) (longs c.loop-taken.files) (longs c.read_piece.new.files)) (sink_change (written c.loop-taken.out) (written c.read_piece.new.out) (refused c.loop-taken.out) (refused c.read_piece.new.out)) _ c.in_ok-count.count c.loop-taken.taken
     (left c.args.script.now) (left c.loop-taken.script) (left c.read_piece.new.script) (failed c.args.script.now) (failed c.loop-taken.script) (failed c.read_piece.new.script) inv.took.0 inv.took.1 inv.took.2 c.in_ok-count.ensures.causes (omega (arith, c.min-room.ensures, c.requires.buffer, length-take-le {A = ℕ})) in (
       more.0,
       more.1,
       c.in_ok-count.ensures.causes.4 c.if-count-eq0.true,
-      caused_further ℕ Bool c.args.commands.now.refused c.loop-taken.commands.refused c.read_piece.new.commands.refused
+      caused_further ℕ Bool c.args.commands.now.harm c.loop-taken.commands.harm c.read_piece.new.commands.harm
           (told c.args.files.now) (told c.loop-taken.files) (told c.read_piece.new.files) (lost c.args.files.now) (lost c.loop-taken.files) (lost c.read_piece.new.files) (misses c.args.files.now) (misses c.loop-taken.files) (misses c.read_piece.new.files) (longs c.args.files.now) (longs c.loop-taken.files) (longs c.read_piece.new.files)
           (written c.args.out.now) (written c.loop-taken.out) (written c.read_piece.new.out) (refused c.args.out.now) (refused c.loop-taken.out) (refused c.read_piece.new.out) 0 (Ok true) inv.caused c.in_ok-count.ensures.causes.6,
     )
@@ -133,9 +133,9 @@ loop-taken-preserved g c =
           (standing lines shown painter c.args.commands.now) (standing lines shown painter c.loop-taken.commands) (standing lines shown painter c.read_piece.new.commands) c.loop-taken.kept c.read_piece.new.kept _ c.in_ok-count.count c.loop-taken.taken
           (left c.args.script.now) (left c.loop-taken.script) (left c.read_piece.new.script) (written c.args.out.now) (written c.loop-taken.out) (written c.read_piece.new.out) (failed c.args.script.now) (failed c.loop-taken.script) (failed c.read_piece.new.script) (refused c.args.out.now) (refused c.loop-taken.out) (refused c.read_piece.new.out) c.args.steps.now c.loop-taken.steps c.read_piece.new.steps
           so_far.0 so_far.1 so_far.2 (c.in_ok-count.ensures.piece known (inv.kept ∙ is)) (omega (arith, c.min-room.ensures, c.requires.buffer, length-take-le {A = ℕ}));
-      took = took_further c.loop-taken.commands.refused c.read_piece.new.commands.refused (files_change (told c.loop-taken.files) (told c.read_piece.new.files) (lost c.loop-taken.files) (lost c.read_piece.new.files) (misses c.loop-taken.files) (misses c.read_piece.new.files) (longs c.loop-taken.files) (longs c.read_piece.new.files)) (sink_change (written c.loop-taken.out) (written c.read_piece.new.out) (refused c.loop-taken.out) (refused c.read_piece.new.out)) _ c.in_ok-count.count c.loop-taken.taken
+      took = took_further c.loop-taken.commands.harm c.read_piece.new.commands.harm (files_change (told c.loop-taken.files) (told c.read_piece.new.files) (lost c.loop-taken.files) (lost c.read_piece.new.files) (misses c.loop-taken.files) (misses c.read_piece.new.files) (longs c.loop-taken.files) (longs c.read_piece.new.files)) (sink_change (written c.loop-taken.out) (written c.read_piece.new.out) (refused c.loop-taken.out) (refused c.read_piece.new.out)) _ c.in_ok-count.count c.loop-taken.taken
           (left c.args.script.now) (left c.loop-taken.script) (left c.read_piece.new.script) (failed c.args.script.now) (failed c.loop-taken.script) (failed c.read_piece.new.script) inv.took.0 inv.took.1 inv.took.2 c.in_ok-count.ensures.causes (omega (arith, c.min-room.ensures, c.requires.buffer, length-take-le {A = ℕ}));
-      caused = caused_further ℕ ℕ c.args.commands.now.refused c.loop-taken.commands.refused c.read_piece.new.commands.refused
+      caused = caused_further ℕ ℕ c.args.commands.now.harm c.loop-taken.commands.harm c.read_piece.new.commands.harm
           (told c.args.files.now) (told c.loop-taken.files) (told c.read_piece.new.files) (lost c.args.files.now) (lost c.loop-taken.files) (lost c.read_piece.new.files) (misses c.args.files.now) (misses c.loop-taken.files) (misses c.read_piece.new.files) (longs c.args.files.now) (longs c.loop-taken.files) (longs c.read_piece.new.files)
           (written c.args.out.now) (written c.loop-taken.out) (written c.read_piece.new.out) (refused c.args.out.now) (refused c.loop-taken.out) (refused c.read_piece.new.out) 0 (Ok 0) inv.caused c.in_ok-count.ensures.causes.6;
     }

@@ -29,7 +29,7 @@ invariant-loop-taken g l =
       took : (bytes : List ℕ)
           × HasTaken (source_change (left l.fn.script) (left l.script) (failed l.fn.script) (failed l.script)) bytes
           × (length bytes ≡ l.taken);
-      caused : AreCaused {A = ℕ} l.fn.commands.refused l.commands.refused
+      caused : AreCaused {A = ℕ} l.fn.commands.harm l.commands.harm
           (files_change (told l.fn.files) (told l.files) (lost l.fn.files) (lost l.files) (misses l.fn.files) (misses l.files) (longs l.fn.files) (longs l.files))
           (sink_change (written l.fn.out) (written l.out) (refused l.fn.out) (refused l.out)) (Ok 0);
     }

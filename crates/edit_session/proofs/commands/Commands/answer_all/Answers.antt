@@ -1,4 +1,4 @@
-use Rattle.std.proofs.Common.{◌≡◌, ◌≤◌, ◌+◌, ℕ, List, ap, sym, refl, subst, ◌∙◌, arith}
+use Rattle.std.proofs.Common.{◌≡◌, ◌≤◌, ◌+◌, ℕ, List, ap, sym, refl, subst, ◌∙◌, inl, arith}
 use Rattle.std.specs.Prelude.{Ok, Err}
 use Rattle.std.specs.Vec.Iter.{into_iter_items}
 use Rattle.std.proofs.lemmas.Result.{err_from_is_err_and}
@@ -27,7 +27,7 @@ loop-entry-init g c =
           let library = g.D.Document.library c.args.self.now.document known in
           let C : List Entry → Type 0 = λ es. c.args.steps.now + session_costs library s es ≤ c.args.steps.now + session_costs library s c.args.entries in
           subst C (sym all) (omega arith);
-      caused = (refl, refl, λ none. (none, refl, refl));
+      caused = (refl, refl, λ none. (none, refl, refl), record { counts = omega arith; met = λ is. inl is });
     }
 
 pub loop-entry-preserved : goal.loop-entry-preserved
@@ -69,7 +69,7 @@ loop-entry-preserved g c =
           let same = ap (λ f. f known) inv.same in
           let own = c.in_ok-answer_one.ensures.answers known (inv.kept ∙ is) in
           painted_further library now next entry rest c.loop-entry.steps c.answer_one.new.steps most (subst L c.in-Some.ensures.steps.0 (inv.painted known is)) (subst C same (c.in_ok-answer_one.ensures.steps known (inv.kept ∙ is))) (subst S same own.1);
-      caused = caused_further ℕ (Unit {0}) c.args.self.now.refused c.loop-entry.self.refused c.answer_one.new.self.refused
+      caused = caused_further ℕ (Unit {0}) c.args.self.now.harm c.loop-entry.self.harm c.answer_one.new.self.harm
           (told c.args.files.now) (told c.loop-entry.files) (told c.answer_one.new.files) (failed c.args.files.now) (failed c.loop-entry.files) (failed c.answer_one.new.files) (misses c.args.files.now) (misses c.loop-entry.files) (misses c.answer_one.new.files) (longs c.args.files.now) (longs c.loop-entry.files) (longs c.answer_one.new.files)
           (written c.args.out.now) (written c.loop-entry.out) (written c.answer_one.new.out) (g.O.Sink.faults c.args.out.now) (g.O.Sink.faults c.loop-entry.out) (g.O.Sink.faults c.answer_one.new.out) 0 (Ok tt) inv.caused c.in_ok-answer_one.ensures.causes;
     }
@@ -124,9 +124,9 @@ returns-in_err-answer_one-clause-causes g c =
     let longs = g.F.Files.longs in
     let q = err_from_is_err_and c.from_residual.result c.from_residual.ensures.1 in
     let end = c.in_err-answer_one.field-0.0 in
-    caused_stop (Unit {0}) _ c.args.self.now.refused c.answer_one.new.self.refused
+    caused_stop (Unit {0}) _ c.args.self.now.harm c.answer_one.new.self.harm
     (files_change (told c.args.files.now) (told c.answer_one.new.files) (failed c.args.files.now) (failed c.answer_one.new.files) (misses c.args.files.now) (misses c.answer_one.new.files) (longs c.args.files.now) (longs c.answer_one.new.files))
     (sink_change (written c.args.out.now) (written c.answer_one.new.out) (g.O.Sink.faults c.args.out.now) (g.O.Sink.faults c.answer_one.new.out)) end c.from_residual.result
-    (caused_further ℕ (Unit {0}) c.args.self.now.refused c.loop-entry.self.refused c.answer_one.new.self.refused
+    (caused_further ℕ (Unit {0}) c.args.self.now.harm c.loop-entry.self.harm c.answer_one.new.self.harm
     (told c.args.files.now) (told c.loop-entry.files) (told c.answer_one.new.files) (failed c.args.files.now) (failed c.loop-entry.files) (failed c.answer_one.new.files) (misses c.args.files.now) (misses c.loop-entry.files) (misses c.answer_one.new.files) (longs c.args.files.now) (longs c.loop-entry.files) (longs c.answer_one.new.files)
     (written c.args.out.now) (written c.loop-entry.out) (written c.answer_one.new.out) (g.O.Sink.faults c.args.out.now) (g.O.Sink.faults c.loop-entry.out) (g.O.Sink.faults c.answer_one.new.out) 0 (Err end) inv.caused c.in_err-answer_one.ensures.causes) (q.1 ∙ ap Err q.2)

@@ -31,7 +31,7 @@ invariant-loop-entry g l =
       painted : IfKnown (told l.fn.files) (λ known.
           l.steps + session_costs (library known) now (into_iter_items l.entry-iterator)
           ≤ l.fn.steps + session_costs (library known) s l.fn.entries);
-      caused : AreCaused {A = ℕ} l.fn.self.refused l.self.refused
+      caused : AreCaused {A = ℕ} l.fn.self.harm l.self.harm
           (files_change (told l.fn.files) (told l.files) (failed l.fn.files) (failed l.files) (misses l.fn.files) (misses l.files) (longs l.fn.files) (longs l.files))
           (sink_change (written l.fn.out) (written l.out) (g.O.Sink.faults l.fn.out) (g.O.Sink.faults l.out)) (Ok 0);
     }
