@@ -3,6 +3,7 @@ mod FoldLaws
 mod KeptLaws
 mod KnownFolds
 mod LargeLaws
+mod LongLaws
 mod PaintLaws
 mod PlanLaws
 mod PrintLaws

@@ -22,9 +22,9 @@ use Rattle.vimsyn_cli.specs.declared.fault.FaultKind.TheVariants.{Missing, Unrea
 use Rattle.vimsyn_cli.specs.declared.fault.Stop.{Stop}
 use Rattle.vimsyn_cli.specs.declared.fault.Stop.TheVariants as stop
 use Rattle.vimsyn_cli.specs.Editing.{painter_of, with_words}
-use Rattle.vimsyn_cli.specs.Plans.{FollowsFiles, OrUnread, is_unread}
+use Rattle.vimsyn_cli.specs.Plans.{FollowsFiles, OrUnread, is_too_long, is_unread}
 use Rattle.vimsyn_cli.specs.Reading.{IsUnreadAsked, syntax_told}
-use Rattle.vimsyn_cli.specs.Renewal.{IsReadNamed, IsUntakenStop, RefusesPainting, library_of, naming, painter_read, unread_line}
+use Rattle.vimsyn_cli.specs.Renewal.{IsReadNamed, IsUntakenStop, RefusesPainting, is_long_read, library_of, naming, painter_read, unread_line}
 use Rattle.vimsyn_cli.proofs.RunLaws.{decided}
 
 -- ---- reading
@@ -36,6 +36,12 @@ undecided Unread unread planned p is = p
 undecided TooLong unread planned p is = absurd cc
 undecided Content unread planned p is = absurd cc
 
+long_read : (cause : FaultKind) → is_too_long cause ≡ true → is_unread cause ≡ false
+long_read Missing is = absurd cc
+long_read Unread is = absurd cc
+long_read TooLong is = refl
+long_read Content is = absurd cc
+
 pub read_well : (told : Option FileMap) (asked other : CheckWords) (syntax : Syntax) (known : FileMap) → asked ≡ other → told ≡ Some known → FollowsFiles told (syntax_told asked) (IsUnreadAsked asked) (Ok syntax) → syntax_told other known ≡ Ok syntax
 read_well told asked other syntax known same is follows =
     let P : Option FileMap → Type 0 = λ o. FollowsFiles o (syntax_told asked) (IsUnreadAsked asked) (Ok syntax) in
@@ -45,7 +51,9 @@ read_well told asked other syntax known same is follows =
 
 stopped_reading : (asked : CheckWords) (known : FileMap) (why : Stop) (how : Untaken) → FollowsFiles (Some known) (syntax_told asked) (IsUnreadAsked asked) (Err why) → IsUntakenStop why how → IsReadNamed asked known (Err how)
 stopped_reading asked known (stop.Fault fault) (untaken.Refused words) follows is =
-    (fault, decided fault.cause (IsUnreadAsked asked known fault.line) (syntax_told asked known ≡ Err fault) follows is.0, is.1)
+    (fault, decided fault.cause (IsUnreadAsked asked known fault.line) (syntax_told asked known ≡ Err fault) follows is.0, is.2, is.1)
+stopped_reading asked known (stop.Fault fault) (untaken.TooLong words) follows is =
+    (fault, decided fault.cause (IsUnreadAsked asked known fault.line) (syntax_told asked known ≡ Err fault) follows (long_read fault.cause is.0), is.1, is.0)
 stopped_reading asked known (stop.Fault fault) (untaken.Unread line) follows is =
     let unread = undecided fault.cause (IsUnreadAsked asked known fault.line) (syntax_told asked known ≡ Err fault) follows is.0 in
     let P : List ℕ → Type 0 = IsUnreadAsked asked known in
@@ -81,6 +89,7 @@ pub syntax_taken : (words : PageWords) (known : FileMap) (name : List ℕ) (synt
 unfolding library_of
 syntax_taken words known name syntax old new (Ok lines) read painted told refused = (
   reads_is words known name syntax old new read painted.syntax_is painted.budget_is,
+  ap is_long_read read,
   record {
     text = painted.text_is;
     spans = painted_is words syntax old new painted;
@@ -90,7 +99,8 @@ syntax_taken words known name syntax old new (Ok lines) read painted told refuse
 syntax_taken words known name syntax old new (Err (untaken.Refused cause)) read painted told refused =
     let P : Result Painter (List ℕ) → Type 0 = λ r. RefusesSyntax r old.text cause in
     let reads : painter_read words old.budget (syntax_told (naming (words.painting).syntax name) known) ≡ Ok (painter_of words syntax old.budget) = ap (painter_read words old.budget) read in
-    subst P (sym reads) (ap (with_words syntax) refused.1 ∙ ap Err (sym refused.2))
+    (subst P (sym reads) (ap (with_words syntax) refused.1 ∙ ap Err (sym refused.2)), ap is_long_read read)
+syntax_taken words known name syntax old new (Err (untaken.TooLong cause)) read painted told refused = absurd refused
 syntax_taken words known name syntax old new (Err (untaken.Unread line)) read painted told refused = absurd refused
 syntax_taken words known name syntax old new (Err untaken.Memory) read painted told refused = tt
 
@@ -99,7 +109,9 @@ unfolding library_of
 syntax_unread words budget known name p q before after (untaken.Refused cause) read =
     let P : Result Painter (List ℕ) → Type 0 = λ r. RefusesSyntax r before.text cause in
     let reads : painter_read words budget (syntax_told (naming (words.painting).syntax name) known) ≡ painter_read words budget (Err read.0) = ap (painter_read words budget) read.1 in
-    subst P (sym reads) read.2
+    (subst P (sym reads) read.2, ap is_long_read read.1 ∙ read.3)
+syntax_unread words budget known name p q before after (untaken.TooLong cause) read =
+    (ap (painter_read words budget) read.1 ∙ ap Err (sym read.2), ap is_long_read read.1 ∙ read.3)
 syntax_unread words budget known name p q before after (untaken.Unread line) read =
     record { number = read.number; told = ap unread_line read.asked ∙ ap Some (sym read.told) }
 syntax_unread words budget known name p q before after untaken.Memory read = tt

@@ -142,6 +142,14 @@ pub record Runs (asked : Option Asked) (files : FilesChange) (script : SourceCha
   pub script_taken : TakesFew script
   pub script_ended : answer ≡ Done → EndsScript asked files.told script out
 
+-- of a session of edits: where a command of its script names a syntax of which a file is too long, the count of such
+-- files rose
+abbrev pub CountsNamed : Option Asked → FileMap → List ℕ → FilesChange → Type 0
+CountsNamed (Some (Edit words)) known script files =
+    (painted : PaintedText) → painting_told words.painting known ≡ Ok painted
+    → (script_answer words known painted script).stands.met_long ≡ true → Rose files.longs files.longs_after
+CountsNamed asked known script files = ⊤
+
 -- how many lines are painted at most, by what a command reads of the files and of the script
 abbrev pub PaintsFew : Option Asked → FileMap → List ℕ → ℕ → ℕ → Type 0
 PaintsFew None files script before after = after ≡ before

@@ -1,12 +1,13 @@
 //! What `edit` does: a text is painted, and a script of edits and of other syntaxes is carried out on it
 //! (this profile).
-ghost use Rattle.std.specs.Prelude.{◌≤◌, ◌+◌, IfSome};
-ghost use Rattle.edit_session.specs.Ends.{IfKnown};
+ghost use Rattle.std.specs.Prelude.{◌≡◌, ◌≤◌, ◌+◌, IfSome, Some};
+ghost use Rattle.edit_session.specs.Ends.{IfKnown, LongsRise};
 ghost use Rattle.program_words.specs.declared.words.Asked.TheVariants.{Edit};
 ghost use Rattle.vimsyn_cli.specs.Answers.{Closes};
 ghost use Rattle.vimsyn_cli.specs.Changes.{files_change, sink_change, source_change};
-ghost use Rattle.vimsyn_cli.specs.EditRun.{script_lines};
-ghost use Rattle.vimsyn_cli.specs.Runs.{EditsPainted, IfTold, Runs};
+ghost use Rattle.vimsyn_cli.specs.EditRun.{edit_start, script_lines};
+ghost use Rattle.vimsyn_cli.specs.Runs.{CountsNamed, EditsPainted, IfTold, Runs};
+ghost use Rattle.vimsyn_cli.specs.Renewal.{library_of};
 ghost use Rattle.vimsyn_cli.specs.Session.{edit_lines};
 
 use crate::Status;
@@ -47,6 +48,11 @@ pub(crate) fn run_edit<F: Files, I: Source, O: Sink, E: Sink, L: Ledger>(
         result }
     ensures steps { IfTold (F.told files.old) (I.left script.old) (λ known bytes.
         steps.new ≤ steps.old + edit_lines words.now known bytes) }
+    ensures long_named { result ≡ Status.Refused → IfTold (F.told files.old) (I.left script.old)
+        (λ known bytes. CountsNamed (Some (Edit words.now)) known bytes
+        (files_change (F.told files.old) (F.told files.new)
+        (F.faults files.old) (F.faults files.new) (F.misses files.old) (F.misses files.new)
+        (F.longs files.old) (F.longs files.new))) }
 {
     match paint(alloc, files, words.painting(), steps) {
         Ok(painted) => edit_painted(alloc, words, painted, files, script, out, err, steps),
@@ -76,6 +82,12 @@ fn edit_painted<F: Files, I: Source, O: Sink, E: Sink, L: Ledger>(
         result }
     ensures steps { IfKnown (F.told files.old) (λ known. IfSome (I.left script.old) (λ bytes.
         steps.new ≤ steps.old + script_lines words.now known painted bytes)) }
+    ensures long_named { result ≡ Status.Refused → IfKnown (F.told files.old) (λ known.
+        LongsRise (library_of words.now painted.budget known) (edit_start words.now painted)
+        (I.left script.old)
+        (files_change (F.told files.old) (F.told files.new)
+        (F.faults files.old) (F.faults files.new) (F.misses files.old) (F.misses files.new)
+        (F.longs files.old) (F.longs files.new))) }
 {
     let _syntax = painted.syntax();
     let sheet = Sheet { painted, words };

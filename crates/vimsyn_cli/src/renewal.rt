@@ -54,13 +54,11 @@ fn untaken(stop: Stop) -> Untaken
     ensures { IsUntakenStop stop result }
 {
     match stop {
-        Stop::Fault(fault) => {
-            if fault.cause == FaultKind::Unread {
-                Untaken::Unread(fault.line)
-            } else {
-                Untaken::Refused(unended(fault.line))
-            }
-        }
+        Stop::Fault(fault) => match fault.cause {
+            FaultKind::Unread => Untaken::Unread(fault.line),
+            FaultKind::TooLong => Untaken::TooLong(unended(fault.line)),
+            FaultKind::Missing | FaultKind::Content => Untaken::Refused(unended(fault.line)),
+        },
         Stop::Memory => Untaken::Memory,
     }
 }

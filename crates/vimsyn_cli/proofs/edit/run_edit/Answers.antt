@@ -2,8 +2,10 @@ use Rattle.std.proofs.Common.{ℕ, List, refl, ◌∙◌}
 use Rattle.std.specs.Prelude.{Err}
 use Rattle.program_words.specs.declared.words.Asked.TheVariants.{Edit}
 use Rattle.state_cache.specs.PaintedText.{PaintedText}
+use Rattle.vimsyn_cli.specs.Changes.{files_change, sink_change}
 use Rattle.vimsyn_cli.specs.Plans.{is_missing, is_too_long, is_unread}
 use Rattle.vimsyn_cli.proofs.EditLaws.{edit_fault, edit_painted_told, edit_planned, edited_count, edited_runs, raises_again, stop_undone, unedited_count}
+use Rattle.vimsyn_cli.proofs.LongLaws.{edited_counted, fault_counted}
 use Rattle.vimsyn_cli.proofs.RunLaws.{delivered_runs}
 use Rattle.vimsyn_cli.proofs.edit.run_edit.Goals as goal
 
@@ -49,3 +51,32 @@ pub returns-in-Err-clause-steps : goal.returns-in-Err-clause-steps
 returns-in-Err-clause-steps g c =
     unedited_count c.args.words.now c.painting.result.now (g.F.Files.told c.args.files.now) (g.I.Source.left c.args.script.now)
     c.args.steps.now c.paint.new.steps c.painting.ensures c.in-Err.ensures.steps
+
+pub returns-in-Ok-clause-long_named : goal.returns-in-Ok-clause-long_named
+returns-in-Ok-clause-long_named g c = λ is.
+    let told = g.F.Files.told in
+    let faults = g.F.Files.faults in
+    let misses = g.F.Files.misses in
+    let longs = g.F.Files.longs in
+    let old = c.args.files.now in
+    let mid = c.paint.new.files in
+    let new = c.edit_painted.new.files in
+    edited_counted c.args.words.now c.in-Ok.painted
+    (told old) (told mid) (told new) (faults old) (faults mid) (faults new) (misses old) (misses mid) (misses new) (longs old) (longs mid) (longs new)
+    (g.I.Source.left c.args.script.now)
+    (edit_painted_told c.args.words.now c.painting.result.now (told old) c.in-Ok.painted c.painting.ensures c.in-Ok.ensures.planned)
+    c.in-Ok.ensures.kept c.in-Ok.ensures.longs (c.edit_painted.ensures.long_named is)
+
+pub returns-in-Err-clause-long_named : goal.returns-in-Err-clause-long_named
+returns-in-Err-clause-long_named g c = λ is.
+    let told = g.F.Files.told in
+    let faults = g.F.Files.faults in
+    let misses = g.F.Files.misses in
+    let longs = g.F.Files.longs in
+    let old = c.args.files.now in
+    let new = c.paint.new.files in
+    fault_counted c.args.words.now c.painting.result.now (told old) (g.I.Source.left c.args.script.now) c.in-Err.stop
+    (files_change (told old) (told new) (faults old) (faults new) (misses old) (misses new) (longs old) (longs new))
+    (sink_change (g.O.Sink.written c.args.out.now) (g.O.Sink.written c.deliver.new.out) (g.O.Sink.faults c.args.out.now) (g.O.Sink.faults c.deliver.new.out))
+    (sink_change (g.E.Sink.written c.args.err.now) (g.E.Sink.written c.deliver.new.err) (g.E.Sink.faults c.args.err.now) (g.E.Sink.faults c.deliver.new.err))
+    c.deliver.result c.painting.ensures c.in-Err.ensures.planned c.deliver.ensures is

@@ -1,9 +1,10 @@
 use Rattle.std.proofs.Common.{◌≡◌, ◌≤◌, ◌+◌, [], refl, subst, sym}
-use Rattle.std.specs.Prelude.{Option, Some}
+use Rattle.std.specs.Prelude.{Option, Some, ⊤}
 use Rattle.program_words.specs.declared.words.Asked.{Asked}
 use Rattle.program_words.specs.declared.words.Asked.TheVariants.{Edit, Large, Print}
+use Rattle.vimsyn_cli.specs.Changes.{files_change}
 use Rattle.vimsyn_cli.specs.Large.{large_lines}
-use Rattle.vimsyn_cli.specs.Runs.{IfTold, PaintsFew, Runs}
+use Rattle.vimsyn_cli.specs.Runs.{CountsNamed, IfTold, PaintsFew, Runs}
 use Rattle.vimsyn_cli.specs.Session.{print_lines, script_read}
 use Rattle.vimsyn_cli.proofs.EditLaws.{some_told}
 use Rattle.vimsyn_cli.proofs.RunLaws.{told_all, usage_runs}
@@ -69,3 +70,33 @@ returns-in-Some-Large-clause-steps g c =
     let is : c.args.asked ≡ Some (Large c.in-Some-Large.words) = cc (c.in-Some-Large.is, c.in-Some-Large.field-0-is, c.in-Some-Large.words-is) in
     subst R (sym is)
     (told_all (g.F.Files.told c.args.files.now) (Some []) (λ known bytes. c.run_large.new.steps ≤ c.args.steps.now + large_lines c.in-Some-Large.words) (λ known bytes. c.run_large.ensures.steps))
+
+pub returns-in-None-clause-long_named : goal.returns-in-None-clause-long_named
+returns-in-None-clause-long_named g c = λ w.
+    let R : Option Asked → Type 0 = λ asked. IfTold (g.F.Files.told c.args.files.now) (script_read asked (g.I.Source.left c.args.script.now))
+    (λ known bytes. CountsNamed asked known bytes (files_change (g.F.Files.told c.args.files.now) (g.F.Files.told c.args.files.now) (g.F.Files.faults c.args.files.now) (g.F.Files.faults c.args.files.now) (g.F.Files.misses c.args.files.now) (g.F.Files.misses c.args.files.now) (g.F.Files.longs c.args.files.now) (g.F.Files.longs c.args.files.now))) in
+    subst R (sym c.in-None.is)
+    (told_all (g.F.Files.told c.args.files.now) (Some []) (λ known bytes. ⊤) (λ known bytes. tt))
+
+pub returns-in-Some-Print-clause-long_named : goal.returns-in-Some-Print-clause-long_named
+returns-in-Some-Print-clause-long_named g c = λ w.
+    let R : Option Asked → Type 0 = λ asked. IfTold (g.F.Files.told c.args.files.now) (script_read asked (g.I.Source.left c.args.script.now))
+    (λ known bytes. CountsNamed asked known bytes (files_change (g.F.Files.told c.args.files.now) (g.F.Files.told c.run_print.new.files) (g.F.Files.faults c.args.files.now) (g.F.Files.faults c.run_print.new.files) (g.F.Files.misses c.args.files.now) (g.F.Files.misses c.run_print.new.files) (g.F.Files.longs c.args.files.now) (g.F.Files.longs c.run_print.new.files))) in
+    let is : c.args.asked ≡ Some (Print c.in-Some-Print.printing) = cc (c.in-Some-Print.is, c.in-Some-Print.field-0-is, c.in-Some-Print.printing-is) in
+    subst R (sym is)
+    (told_all (g.F.Files.told c.args.files.now) (Some []) (λ known bytes. ⊤) (λ known bytes. tt))
+
+pub returns-in-Some-Large-clause-long_named : goal.returns-in-Some-Large-clause-long_named
+returns-in-Some-Large-clause-long_named g c = λ w.
+    let R : Option Asked → Type 0 = λ asked. IfTold (g.F.Files.told c.args.files.now) (script_read asked (g.I.Source.left c.args.script.now))
+    (λ known bytes. CountsNamed asked known bytes (files_change (g.F.Files.told c.args.files.now) (g.F.Files.told c.args.files.now) (g.F.Files.faults c.args.files.now) (g.F.Files.faults c.args.files.now) (g.F.Files.misses c.args.files.now) (g.F.Files.misses c.args.files.now) (g.F.Files.longs c.args.files.now) (g.F.Files.longs c.args.files.now))) in
+    let is : c.args.asked ≡ Some (Large c.in-Some-Large.words) = cc (c.in-Some-Large.is, c.in-Some-Large.field-0-is, c.in-Some-Large.words-is) in
+    subst R (sym is)
+    (told_all (g.F.Files.told c.args.files.now) (Some []) (λ known bytes. ⊤) (λ known bytes. tt))
+
+pub returns-in-Some-Edit-clause-long_named : goal.returns-in-Some-Edit-clause-long_named
+returns-in-Some-Edit-clause-long_named g c = λ w.
+    let R : Option Asked → Type 0 = λ asked. IfTold (g.F.Files.told c.args.files.now) (script_read asked (g.I.Source.left c.args.script.now))
+    (λ known bytes. CountsNamed asked known bytes (files_change (g.F.Files.told c.args.files.now) (g.F.Files.told c.run_edit.new.files) (g.F.Files.faults c.args.files.now) (g.F.Files.faults c.run_edit.new.files) (g.F.Files.misses c.args.files.now) (g.F.Files.misses c.run_edit.new.files) (g.F.Files.longs c.args.files.now) (g.F.Files.longs c.run_edit.new.files))) in
+    let is : c.args.asked ≡ Some (Edit c.in-Some-Edit.words) = cc (c.in-Some-Edit.is, c.in-Some-Edit.field-0-is, c.in-Some-Edit.words-is) in
+    subst R (sym is) (c.run_edit.ensures.long_named w)
