@@ -11,7 +11,7 @@ use Rattle.conceal_view.specs.Cells.{same_group}
 use Rattle.conceal_view.specs.Seeing.{blocks_by}
 use Rattle.conceal_view.specs.View.{AreNumbered, mark_of}
 
-numbers_behind : (first : ℕ) (mark : Mark) (marks : List Mark) → AreNumbered first (mark ∷ marks) → AreNumbered (suc first) marks
+pub numbers_behind : (first : ℕ) (mark : Mark) (marks : List Mark) → AreNumbered first (mark ∷ marks) → AreNumbered (suc first) marks
 numbers_behind first mark marks numbered i later e = numbered (suc i) later e ∙ omega arith
 
 is_this : (m n : ℕ) → m ≡ n → nat_eq m n ≡ true
@@ -26,13 +26,13 @@ is_another m n lt = grind (arith, nat_tests)
 by_test : (mark : Mark) (marks : List Mark) (g : GroupId) (b : Bool) → same_group mark.number g ≡ b → mark_of (mark ∷ marks) g ≡ cond b (Some mark) (mark_of marks g)
 by_test mark marks g b e = ap (λ test. cond test (Some mark) (mark_of marks g)) e
 
-none_below : (first : ℕ) (marks : List Mark) (g : GroupId) → AreNumbered first marks → g.0 < first → mark_of marks g ≡ None
+pub none_below : (first : ℕ) (marks : List Mark) (g : GroupId) → AreNumbered first marks → g.0 < first → mark_of marks g ≡ None
 none_below first [] g numbered lt = refl
 none_below first (mark ∷ marks) g numbered lt =
     by_test mark marks g false (is_another mark.number.0 g.0 (omega (arith, numbered zero mark refl)))
     ∙ none_below (suc first) marks g (numbers_behind first mark marks numbered) (omega arith)
 
-found_at : (first : ℕ) (marks : List Mark) (g : GroupId) (i : ℕ) → AreNumbered first marks → g.0 ≡ first + i → mark_of marks g ≡ slice_get marks i
+pub found_at : (first : ℕ) (marks : List Mark) (g : GroupId) (i : ℕ) → AreNumbered first marks → g.0 ≡ first + i → mark_of marks g ≡ slice_get marks i
 found_at first [] g i numbered e = refl
 found_at first (mark ∷ marks) g zero numbered e =
     by_test mark marks g true (is_this mark.number.0 g.0 (omega (arith, numbered zero mark refl)))

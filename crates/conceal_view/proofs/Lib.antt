@@ -7,3 +7,12 @@ pub mod BlockLaws
 pub mod ViewLaws
 pub mod LongestLaws
 pub mod KnownViews
+pub mod KnownMarks
+pub mod PlaceLaws
+pub mod TableLaws
+pub mod WalkLaws
+pub mod MarkLaws
+pub mod OldLaws
+pub mod NamedLaws
+pub mod MarkedLaws
+pub mod KnownMarkedPaintings

@@ -2,6 +2,9 @@
 
 use syn_base::{GroupId, ItemId};
 
+/// The number of the first mark.
+pub(crate) const FIRST_MARK: u32 = 20_000;
+
 /// A group by which an item shows where it is concealed.
 #[derive(Clone, Copy, Debug, PartialEq, Eq)]
 pub struct Mark {

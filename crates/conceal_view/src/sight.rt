@@ -4,12 +4,10 @@ ghost use Rattle.conceal_view.specs.Seeing.{blocks_by, put_behind, run_of, with_
 ghost use Rattle.conceal_view.specs.View.{block_of, put_cells, seen_line, shows_same};
 ghost use Rattle.syn_base.specs.SpansFit.{IsFromColumn};
 
+use crate::marks::FIRST_MARK;
 use crate::seen_line::SeenLine;
 use std::alloc::Global;
 use syn_base::{GroupId, Memory, Span};
-
-/// The number of the first mark.
-pub(crate) const FIRST_MARK: u32 = 20_000;
 
 /// What stands in place of concealed blocks.
 #[derive(Clone, Copy)]
