@@ -1,2 +1,10 @@
 pub mod Rows
+pub mod ApplyRows
+pub mod AnswerLaws
+pub mod TryLaws
+pub mod DeleteLaws
+pub mod SearchLaws
+pub mod PenLaws
+pub mod CountLaws
+pub mod ChangeLaws
 pub mod TreeLaws

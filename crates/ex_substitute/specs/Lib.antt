@@ -4,7 +4,21 @@ pub mod Strings
 pub mod Flags
 pub mod Commands
 pub mod Counting
+-- what it makes of a text
+pub mod UsualSets
+pub mod Trying
+pub mod Searching
+pub mod Glyphs
+pub mod Casings
+pub mod Putting
+pub mod Changes
+pub mod Deleting
+pub mod Applying
 -- what only code and proofs cite
 pub mod CommandCode
 pub mod CommandsRead
 pub mod StringsRead
+pub mod Trials
+pub mod Pens
+pub mod Ruling
+pub mod LineCount

@@ -4,11 +4,23 @@
 //! A string is read to a list of pieces once, so that what is put for a match is told piece by piece.
 #![tactic(auto)]
 
+mod apply;
+mod attempt;
+mod casing;
+mod change;
 mod command;
+mod deleting;
 mod error;
 mod flags;
+mod limits;
+mod line_count;
+mod pen;
 mod refusal;
+mod searching;
 mod string;
+mod substituting;
+mod trying;
 
+pub use change::Change;
 pub use command::ExCommand;
 pub use error::ExError;
