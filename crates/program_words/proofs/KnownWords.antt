@@ -4,13 +4,13 @@ use Rattle.std.specs.Prelude.{codes, Some, None}
 use Rattle.program_words.specs.declared.words.Asked.TheVariants.{Edit, Large, Print}
 use Rattle.program_words.specs.declared.words.Printing.TheVariants.{Check, Folds, Html, Spans}
 use Rattle.program_words.specs.Given.{CheckWords, LargeWords, PaintWords}
-use Rattle.program_words.specs.Words.{asked_of, budget_of, close_of, lines_of, seed_of}
+use Rattle.program_words.specs.Words.{asked_of, budget_of, close_of, conceal_of, lines_of, seed_of}
 
 abbrev checked : List ℕ → List ℕ → Bool → CheckWords
 checked syntax folder fromstart = record { syntax = syntax; folder = folder; assume_fromstart = fromstart }
 
 abbrev painted : CheckWords → List ℕ → ℕ → PaintWords
-painted syntax text budget = record { syntax = syntax; text = text; budget = budget }
+painted syntax text budget = record { syntax = syntax; text = text; budget = budget; conceal = 0 }
 
 abbrev plain : CheckWords
 plain = checked (codes "s") (codes ".") false
@@ -156,3 +156,43 @@ closed_spans = refl
 
 a_closed_page : asked_of (codes "html" ∷ codes "--close=1" ∷ codes "s" ∷ codes "t" ∷ []) ≡ None
 a_closed_page = refl
+
+-- concealing
+abbrev concealed : PaintWords → ℕ → PaintWords
+concealed words level = record words { conceal = level }
+
+concealed_spans : asked_of (codes "spans" ∷ codes "--conceal=2" ∷ codes "s" ∷ codes "t" ∷ []) ≡ Some (Print (Spans (concealed (painted plain (codes "t") 1000000) 2)))
+concealed_spans = refl
+
+a_concealed_page : asked_of (codes "html" ∷ codes "--conceal=3" ∷ codes "--number" ∷ codes "s" ∷ codes "t" ∷ []) ≡ Some (Print (Html (record { painting = concealed (painted plain (codes "t") 1000000) 3; number = true; pre = true })))
+a_concealed_page = refl
+
+at_no_level : asked_of (codes "spans" ∷ codes "--conceal=0" ∷ codes "s" ∷ codes "t" ∷ []) ≡ asked_of (codes "spans" ∷ codes "s" ∷ codes "t" ∷ [])
+at_no_level = refl
+
+the_greatest_level : conceal_of (codes "3") ≡ Some 3
+the_greatest_level = refl
+
+a_level_more : conceal_of (codes "4") ≡ None
+a_level_more = refl
+
+a_level_with_a_zero : asked_of (codes "spans" ∷ codes "--conceal=02" ∷ codes "s" ∷ codes "t" ∷ []) ≡ None
+a_level_with_a_zero = refl
+
+no_level : asked_of (codes "spans" ∷ codes "--conceal=" ∷ codes "s" ∷ codes "t" ∷ []) ≡ None
+no_level = refl
+
+concealed_twice : asked_of (codes "html" ∷ codes "--conceal=1" ∷ codes "--conceal=1" ∷ codes "s" ∷ codes "t" ∷ []) ≡ None
+concealed_twice = refl
+
+concealed_check : asked_of (codes "check" ∷ codes "--conceal=1" ∷ codes "s" ∷ []) ≡ None
+concealed_check = refl
+
+a_concealed_session : asked_of (codes "edit" ∷ codes "--conceal=1" ∷ codes "s" ∷ codes "t" ∷ []) ≡ None
+a_concealed_session = refl
+
+concealed_folds : asked_of (codes "folds" ∷ codes "--conceal=1" ∷ codes "s" ∷ codes "t" ∷ []) ≡ None
+concealed_folds = refl
+
+concealed_large : asked_of (codes "large" ∷ codes "--conceal=1" ∷ codes "7" ∷ codes "2000" ∷ []) ≡ None
+concealed_large = refl

@@ -15,9 +15,11 @@ pub record Options : Type 0 where
   pub no_pre : Bool
   -- the level above which folds are closed
   pub close : Option ℕ
+  -- the level of concealing
+  pub conceal : Option ℕ
 
 abbrev pub no_options : Options
-no_options = record { fromstart = false; folder = None; budget = None; number = false; no_pre = false; close = None }
+no_options = record { fromstart = false; folder = None; budget = None; number = false; no_pre = false; close = None; conceal = None }
 
 -- the syntax file, the folder in which included files are looked for, and whether sync methods other
 -- than `fromstart` are passed over
@@ -26,11 +28,13 @@ pub record CheckWords : Type 0 where
   pub folder : List ℕ
   pub assume_fromstart : Bool
 
--- the syntax, the text file that is painted, and the most ticks of one attempt
+-- the syntax, the text file that is painted, the most ticks of one attempt, and the level of concealing, at which 0
+-- shows all
 pub record PaintWords : Type 0 where
   pub syntax : CheckWords
   pub text : List ℕ
   pub budget : ℕ
+  pub conceal : ℕ
 
 -- the same, and how the page is made
 pub record PageWords : Type 0 where

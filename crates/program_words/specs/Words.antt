@@ -69,6 +69,10 @@ budget_value word = if starts_with nat_eq word (codes "--budget=") then Some (dr
 abbrev pub close_value : List ℕ → Option (List ℕ)
 close_value word = if starts_with nat_eq word (codes "--close=") then Some (drop 8 word) else None
 
+-- and that of concealing
+abbrev pub conceal_value : List ℕ → Option (List ℕ)
+conceal_value word = if starts_with nat_eq word (codes "--conceal=") then Some (drop 10 word) else None
+
 -- 0 to 9 are the bytes 48 to 57
 abbrev pub is_digit : ℕ → Bool
 is_digit byte = nat_le 48 byte && nat_le byte 57
@@ -116,6 +120,10 @@ lines_of bytes = positive_of 100000 bytes
 abbrev pub close_of : List ℕ → Option ℕ
 close_of bytes = natural_of 20 bytes
 
+-- a level of concealing: 0 to 3
+abbrev pub conceal_of : List ℕ → Option ℕ
+conceal_of bytes = natural_of 3 bytes
+
 -- ---- all options
 
 -- options with one more, unless it stands already
@@ -137,12 +145,21 @@ with_close options None = None
 with_close options (Some level) =
     if is_some options.close then None else Some (record options { close = Some level })
 
-abbrev pub with_close_or_folder : Options → List ℕ → Option (List ℕ) → Option Options
-with_close_or_folder options word None = with_folder options (folder_in word)
-with_close_or_folder options word (Some value) = with_close options (close_of value)
+abbrev pub with_conceal : Options → Option ℕ → Option Options
+with_conceal options None = None
+with_conceal options (Some level) =
+    if is_some options.conceal then None else Some (record options { conceal = Some level })
+
+abbrev pub with_conceal_or_folder : Options → List ℕ → Option (List ℕ) → Option Options
+with_conceal_or_folder options word None = with_folder options (folder_in word)
+with_conceal_or_folder options word (Some value) = with_conceal options (conceal_of value)
+
+abbrev pub with_level_or_folder : Options → List ℕ → Option (List ℕ) → Option Options
+with_level_or_folder options word None = with_conceal_or_folder options word (conceal_value word)
+with_level_or_folder options word (Some value) = with_close options (close_of value)
 
 abbrev pub with_value : Options → List ℕ → Option (List ℕ) → Option Options
-with_value options word None = with_close_or_folder options word (close_value word)
+with_value options word None = with_level_or_folder options word (close_value word)
 with_value options word (Some value) = with_budget options (budget_of value)
 
 -- options with this word, unless it is none or stands already
@@ -168,22 +185,30 @@ options_said words = with_options (Some no_options) words
 
 -- ---- commands
 
+-- none of a page's own
+abbrev pub are_of_no_page : Options → Bool
+are_of_no_page options = not options.number && not options.no_pre
+
 -- those that `folds` has, `spans`, `check` and `large`
 abbrev pub are_for_folds : Options → Bool
-are_for_folds options = not options.number && not options.no_pre
+are_for_folds options = are_of_no_page options && is_none options.conceal
 
 abbrev pub are_for_spans : Options → Bool
-are_for_spans options = are_for_folds options && is_none options.close
+are_for_spans options = are_of_no_page options && is_none options.close
 
 abbrev pub are_for_check : Options → Bool
-are_for_check options = are_for_spans options && is_none options.budget
+are_for_check options = are_for_folds options && is_none options.close && is_none options.budget
 
 abbrev pub are_for_large : Options → Bool
-are_for_large options = are_for_spans options && not options.fromstart && is_none options.folder
+are_for_large options =
+    are_for_folds options && is_none options.close && not options.fromstart && is_none options.folder
 
--- `html` and `edit` have all but one
+-- `html` has all but one, and `edit` all but two
 abbrev pub are_for_html : Options → Bool
 are_for_html options = is_none options.close
+
+abbrev pub are_for_edit : Options → Bool
+are_for_edit options = is_none options.close && is_none options.conceal
 
 -- the folder is the one where the program runs unless one is named
 abbrev pub syntax_words : Options → List ℕ → CheckWords
@@ -193,12 +218,13 @@ syntax_words options syntax = record {
   assume_fromstart = options.fromstart;
 }
 
--- an attempt has 1,000,000 ticks unless others are given
+-- an attempt has 1,000,000 ticks unless others are given, and all is shown unless a level says otherwise
 abbrev pub paint_words : Options → List ℕ → List ℕ → PaintWords
 paint_words options syntax text = record {
   syntax = syntax_words options syntax;
   text = text;
   budget = unwrap_or options.budget 1000000;
+  conceal = unwrap_or options.conceal 0;
 }
 
 abbrev pub page_words : Options → List ℕ → List ℕ → PageWords
@@ -239,6 +265,12 @@ html_of (Some options) None = None
 html_of (Some options) (Some names) =
     if are_for_html options then Some (page_words options names.0 names.1) else None
 
+abbrev pub edit_of : Option Options → Option (List ℕ × List ℕ) → Option PageWords
+edit_of None names = None
+edit_of (Some options) None = None
+edit_of (Some options) (Some names) =
+    if are_for_edit options then Some (page_words options names.0 names.1) else None
+
 abbrev pub folds_of : Option Options → Option (List ℕ × List ℕ) → Option FoldWords
 folds_of None names = None
 folds_of (Some options) None = None
@@ -265,6 +297,7 @@ large_page words = record {
     syntax = record { syntax = codes "mini.vim"; folder = codes "."; assume_fromstart = false };
     text = codes "large";
     budget = words.budget;
+    conceal = 0;
   };
   number = false;
   pre = true;
@@ -282,7 +315,7 @@ printing_with command options names =
 -- what the words ask, if they are in the table of words
 abbrev pub asked_with : List ℕ → Option Options → Option (List (List ℕ)) → Option Asked
 asked_with command options names =
-    if bytes_eq command (codes "edit") then option_map Edit (html_of options (two_names names))
+    if bytes_eq command (codes "edit") then option_map Edit (edit_of options (two_names names))
     else if bytes_eq command (codes "large") then option_map Large (large_of options (two_names names))
     else option_map Print (printing_with command options names)
 

@@ -3,7 +3,7 @@ ghost use Rattle.std.specs.Prelude.{◌≡◌, ◌≤◌, length, None, Some, tr
 ghost use Rattle.std.specs.List.{prefix_len};
 ghost use Rattle.std.specs.String.{string_bytes};
 ghost use Rattle.program_words.specs.Given.{no_options};
-ghost use Rattle.program_words.specs.Words.{are_for_check, are_for_folds, are_for_html, are_for_large, are_for_spans, behind_options, budget_of, budget_value, close_of, close_value, folder_in, is_option, lines_of, natural_of, not_empty, at_least_one, number_after, options_of, options_said, positive_of, seed_of, texts_of, with_budget, with_close, with_close_or_folder, with_digit, with_flag, with_folder, with_option, with_value};
+ghost use Rattle.program_words.specs.Words.{are_for_check, are_for_edit, are_for_folds, are_for_html, are_for_large, are_for_spans, are_of_no_page, behind_options, budget_of, budget_value, close_of, close_value, conceal_of, conceal_value, folder_in, is_option, lines_of, natural_of, not_empty, at_least_one, number_after, options_of, options_said, positive_of, seed_of, texts_of, with_budget, with_close, with_conceal, with_conceal_or_folder, with_digit, with_flag, with_folder, with_level_or_folder, with_option, with_value};
 
 use crate::words::{has_dash, is_dashes};
 use std::marker::Model;
@@ -13,6 +13,9 @@ const MOST_BUDGET: u64 = 1_000_000_000;
 
 /// The greatest level above which folds are closed.
 const MOST_CLOSE: u64 = 20;
+
+/// The greatest level of concealing (Vim's `'conceallevel'`).
+const MOST_CONCEAL: u64 = 3;
 
 /// The greatest seed of the large mode.
 const MOST_SEED: u64 = 4_294_967_295;
@@ -56,6 +59,7 @@ pub(crate) struct Options<'a> {
     pub(crate) number: bool,
     pub(crate) no_pre: bool,
     pub(crate) close: Option<usize>,
+    pub(crate) conceal: Option<u8>,
 }
 
 impl<'a> Model for Options<'a> {
@@ -71,12 +75,14 @@ impl<'a> Model for Options<'a> {
       number = o.number;
       no_pre = o.no_pre;
       close = o.close;
+      conceal = o.conceal;
     } };
 
     ghost use Rattle.std.specs.Prelude.{◌≤◌, IfSome};
 
     ghost invariant = { λ o. IfSome o.budget (λ budget. 1 ≤ budget)
-        × IfSome o.close (λ close. close ≤ 20) };
+        × IfSome o.close (λ close. close ≤ 20)
+        × IfSome o.conceal (λ conceal. conceal ≤ 3) };
 }
 
 impl<'a> Options<'a> {
@@ -90,6 +96,7 @@ impl<'a> Options<'a> {
             number: false,
             no_pre: false,
             close: None,
+            conceal: None,
         }
     }
 
@@ -126,15 +133,24 @@ impl<'a> Options<'a> {
     {
         match budget_value(word) {
             Some(value) => self.with_budget(budget_of(value)?),
-            None => self.with_close_or_folder(word),
+            None => self.with_level_or_folder(word),
         }
     }
 
-    fn with_close_or_folder(self, word: &'a str) -> Option<Options<'a>>
-        ensures { result ≡ with_close_or_folder self.entry word.now (close_value word.now) }
+    fn with_level_or_folder(self, word: &'a str) -> Option<Options<'a>>
+        ensures { result ≡ with_level_or_folder self.entry word.now (close_value word.now) }
     {
         match close_value(word) {
             Some(value) => self.with_close(close_of(value)?),
+            None => self.with_conceal_or_folder(word),
+        }
+    }
+
+    fn with_conceal_or_folder(self, word: &'a str) -> Option<Options<'a>>
+        ensures { result ≡ with_conceal_or_folder self.entry word.now (conceal_value word.now) }
+    {
+        match conceal_value(word) {
+            Some(value) => self.with_conceal(conceal_of(value)?),
             None => self.with_folder(folder_in(word)?),
         }
     }
@@ -201,39 +217,64 @@ impl<'a> Options<'a> {
         Some(self)
     }
 
+    fn with_conceal(mut self, level: u8) -> Option<Options<'a>>
+        requires { level ≤ 3 }
+        ensures { result ≡ with_conceal self.entry (Some level) }
+    {
+        if self.conceal.is_some() {
+            return None;
+        }
+        self.conceal = Some(level);
+        Some(self)
+    }
+
+    /// Whether none of them is a page's own.
+    fn are_of_no_page(&self) -> bool
+        ensures { result ≡ are_of_no_page self.now }
+    {
+        !self.number && !self.no_pre
+    }
+
     /// Whether `folds` has all of them.
     pub(crate) fn are_for_folds(&self) -> bool
         ensures { result ≡ are_for_folds self.now }
     {
-        !self.number && !self.no_pre
+        self.are_of_no_page() && self.conceal.is_none()
     }
 
     /// Whether `spans` has all of them.
     pub(crate) fn are_for_spans(&self) -> bool
         ensures { result ≡ are_for_spans self.now }
     {
-        self.are_for_folds() && self.close.is_none()
+        self.are_of_no_page() && self.close.is_none()
     }
 
-    /// Whether `html` and `edit` have all of them.
+    /// Whether `html` has all of them.
     pub(crate) fn are_for_html(&self) -> bool
         ensures { result ≡ are_for_html self.now }
     {
         self.close.is_none()
     }
 
+    /// Whether `edit` has all of them.
+    pub(crate) fn are_for_edit(&self) -> bool
+        ensures { result ≡ are_for_edit self.now }
+    {
+        self.close.is_none() && self.conceal.is_none()
+    }
+
     /// Whether `large` has all of them.
     pub(crate) fn are_for_large(&self) -> bool
         ensures { result ≡ are_for_large self.now }
     {
-        self.are_for_spans() && !self.fromstart && self.folder.is_none()
+        self.are_for_folds() && self.close.is_none() && !self.fromstart && self.folder.is_none()
     }
 
     /// Whether `check` has all of them.
     pub(crate) fn are_for_check(&self) -> bool
         ensures { result ≡ are_for_check self.now }
     {
-        self.are_for_spans() && self.budget.is_none()
+        self.are_for_folds() && self.close.is_none() && self.budget.is_none()
     }
 }
 
@@ -286,6 +327,23 @@ fn close_of(value: &str) -> Option<usize>
 {
     let close = natural_of(value, MOST_CLOSE)?;
     Some(close as usize)
+}
+
+/// The value of the option of concealing, if the word is this one.
+fn conceal_value(word: &str) -> Option<&str>
+    ensures { MatchOption result (conceal_value word.now ≡ None)
+        (λ value. conceal_value word.now ≡ Some value.now) }
+{
+    word.strip_prefix("--conceal=")
+}
+
+/// The level of concealing: 0 to 3.
+fn conceal_of(value: &str) -> Option<u8>
+    ensures is { result ≡ conceal_of value.now }
+    ensures few { IfSome result (λ level. level ≤ 3) }
+{
+    let level = natural_of(value, MOST_CONCEAL)?;
+    Some(level as u8)
 }
 
 /// The seed that the name gives: 0 to 4,294,967,295.

@@ -2,7 +2,7 @@
 ghost use Rattle.std.specs.Prelude.{◌≡◌, ◌≤◌, None, Some, IfSome, MatchOption};
 ghost use Rattle.std.specs.List.{list_all};
 ghost use Rattle.std.specs.String.{string_bytes};
-ghost use Rattle.program_words.specs.Words.{asked_of, check_of, fold_words, folds_of, has_dash, html_of, is_dashes, is_full, is_name, large_of, large_page, large_words, lines_of, names_in, one_name, options_said, paint_words, printing_with, seed_of, spans_of, syntax_words, texts_of, two_names};
+ghost use Rattle.program_words.specs.Words.{asked_of, check_of, edit_of, fold_words, folds_of, has_dash, html_of, is_dashes, is_full, is_name, large_of, large_page, large_words, lines_of, names_in, one_name, options_said, page_words, paint_words, printing_with, seed_of, spans_of, syntax_words, texts_of, two_names};
 ghost use Rattle.std.specs.Prelude.{option_map};
 
 use crate::options::{Options, lines_of, seed_of, split_options};
@@ -58,13 +58,14 @@ impl<'a> Model for CheckWords<'a> {
     } };
 }
 
-/// What is painted: the syntax, the name of the text file, and the most ticks of one attempt, which are
-/// 1 at least.
+/// What is painted: the syntax, the name of the text file, the most ticks of one attempt, which are
+/// 1 at least, and the level of concealing, from 0 to 3.
 #[derive(Drop)]
 pub struct PaintWords<'a> {
     syntax: CheckWords<'a>,
     text: &'a str,
     budget: u64,
+    conceal: u8,
 }
 
 impl<'a> Model for PaintWords<'a> {
@@ -74,9 +75,14 @@ impl<'a> Model for PaintWords<'a> {
 
     ghost use Rattle.std.specs.Prelude.{◌≤◌};
 
-    ghost view = { λ w. record { syntax = w.syntax; text = w.text.now; budget = w.budget } };
+    ghost view = { λ w. record {
+      syntax = w.syntax;
+      text = w.text.now;
+      budget = w.budget;
+      conceal = w.conceal;
+    } };
 
-    ghost invariant = { λ w. 1 ≤ w.budget };
+    ghost invariant = { λ w. (1 ≤ w.budget) × (w.conceal ≤ 3) };
 }
 
 /// The page that is made: what is painted, whether lines begin with their numbers, and whether they
@@ -149,7 +155,7 @@ impl<'a> Asked<'a> {
         };
         let (front, rest) = split_options(behind);
         if command.as_str() == "edit" {
-            return Some(Asked::Edit(PageWords::read(front, rest)?));
+            return Some(Asked::Edit(PageWords::read_for_edit(front, rest)?));
         }
         if command.as_str() == "large" {
             return Some(Asked::Large(LargeWords::read(front, rest)?));
@@ -264,6 +270,7 @@ impl<'a> PaintWords<'a> {
             syntax: CheckWords::of(options, syntax),
             text,
             budget: options.budget.unwrap_or(USUAL_BUDGET),
+            conceal: options.conceal.unwrap_or(0),
         }
     }
 
@@ -288,10 +295,31 @@ impl<'a> PaintWords<'a> {
     {
         self.budget
     }
+
+    /// The level of concealing (Vim's `'conceallevel'`), 0 where the words give none.
+    pub fn conceal(&self) -> u8
+        ensures is { result ≡ self.now.conceal }
+        ensures few { result ≤ 3 }
+    {
+        self.conceal
+    }
 }
 
 impl<'a> PageWords<'a> {
-    /// What the words behind `html` or `edit` ask.
+    /// What the words behind `edit` ask.
+    fn read_for_edit(front: &'a [String], rest: &'a [String]) -> Option<PageWords<'a>>
+        ensures { result ≡ edit_of (options_said (texts_of front.now))
+            (two_names (names_in (texts_of rest.now))) }
+    {
+        let options = Options::read(front)?;
+        let (syntax, text) = two_names(rest)?;
+        if !options.are_for_edit() {
+            return None;
+        }
+        Some(PageWords::of(&options, syntax, text))
+    }
+
+    /// What the words behind `html` ask.
     fn read(front: &'a [String], rest: &'a [String]) -> Option<PageWords<'a>>
         ensures { result ≡ html_of (options_said (texts_of front.now))
             (two_names (names_in (texts_of rest.now))) }
@@ -301,11 +329,18 @@ impl<'a> PageWords<'a> {
         if !options.are_for_html() {
             return None;
         }
-        Some(PageWords {
-            painting: PaintWords::of(&options, syntax, text),
+        Some(PageWords::of(&options, syntax, text))
+    }
+
+    /// The page of this text.
+    fn of(options: &Options<'a>, syntax: &'a str, text: &'a str) -> PageWords<'a>
+        ensures { result ≡ page_words options.now syntax.now text.now }
+    {
+        PageWords {
+            painting: PaintWords::of(options, syntax, text),
             number: options.number,
             pre: !options.no_pre,
-        })
+        }
     }
 
     /// What is painted.
@@ -428,6 +463,7 @@ impl LargeWords {
                 },
                 text: LARGE_TEXT,
                 budget: self.budget,
+                conceal: 0,
             },
             number: false,
             pre: true,
