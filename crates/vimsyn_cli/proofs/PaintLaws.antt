@@ -38,7 +38,7 @@ abbrev further : PaintWords → FileMap → Syntax → Result PaintedText FaultO
 further words files syntax = and_then (text_told words.text files) (painted_told words syntax)
 
 -- the text's file is asked for
-abbrev IsUnreadText : PaintWords → FileMap → List ℕ → Type 0
+abbrev pub IsUnreadText : PaintWords → FileMap → List ℕ → Type 0
 IsUnreadText words files line = line ≡ fault_line words.text Unread
 
 syntax_read : (told : Option FileMap) (words : PaintWords) (asked : CheckWords) (read : Result Syntax Stop) → asked ≡ words.syntax → FollowsFiles told (syntax_told asked) (IsUnreadAsked asked) read → FollowsFiles told (syntax_told words.syntax) (IsUnreadAsked words.syntax) read
@@ -46,7 +46,7 @@ syntax_read told words asked read same is =
     let P : CheckWords → Type 0 = λ a. FollowsFiles told (syntax_told a) (IsUnreadAsked a) read in
     subst P same is
 
-text_read : (told : Option FileMap) (words : PaintWords) (name : List ℕ) (read : Result (List (List ℕ)) Stop) → name ≡ words.text → FollowsFiles told (text_told name) (IsUnreadNamed name) read → FollowsFiles told (text_told words.text) (IsUnreadText words) read
+pub text_read : (told : Option FileMap) (words : PaintWords) (name : List ℕ) (read : Result (List (List ℕ)) Stop) → name ≡ words.text → FollowsFiles told (text_told name) (IsUnreadNamed name) read → FollowsFiles told (text_told words.text) (IsUnreadText words) read
 text_read told words name read same is =
     let P : List ℕ → Type 0 = λ n. FollowsFiles told (text_told n) (IsUnreadNamed n) read in
     subst P same is

@@ -4,10 +4,9 @@ use Rattle.std.specs.Prelude.{Some, false, slice_get}
 use Rattle.std.proofs.lemmas.List.{append-nil, append_assoc}
 use Rattle.std.proofs.lemmas.Option.{get_or_from_slice_get}
 use Rattle.syn_base.specs.declared.places.Span.{Span}
-use Rattle.syn_base.specs.SpansFit.{IsFromColumn}
+use Rattle.syn_base.specs.SpansFit.{FitLines, IsFromColumn}
 use Rattle.hi_links.specs.declared.highlight.Highlight.{Highlight}
 use Rattle.span_print.specs.SpanText.{line_text}
-use Rattle.state_cache.specs.PaintedText.{IsPainted, PaintedText}
 use Rattle.vimsyn_cli.specs.Printing.{spans_from}
 
 next_line : (painting : List (List Span)) (number : ℕ) → number < length painting → drop number painting ≡ get_or painting number [] ∷ drop (suc number) painting
@@ -42,9 +41,9 @@ fits_at column end [] k d fit near = absurd (omega arith)
 fits_at column end (s ∷ spans) zero d fit near = (omega (arith, fit.1, fit.2), fit.2)
 fits_at column end (s ∷ spans) (suc k) d fit near = fits_at (s.last + 1) end spans k d fit.3 (omega arith)
 
-pub columns_few : (painted : PaintedText) (number columns most : ℕ) (line : List ℕ) (spans : List Span) → IsPainted painted → Some line ≡ slice_get painted.text number → Some spans ≡ slice_get painted.spans number → columns ≡ length line → columns < most → (k : ℕ) (d : Span) → k < length spans → ((get_or spans k d).first < most) × ((get_or spans k d).last < most)
-columns_few painted number columns most line spans sound line_is spans_are long few k d near =
-    let at = fits_at 0 (length line) spans k d (sound.fit number line spans line_is spans_are) near in
+pub columns_few : (lines : List (List ℕ)) (painting : List (List Span)) (number columns most : ℕ) (line : List ℕ) (spans : List Span) → FitLines lines painting → Some line ≡ slice_get lines number → Some spans ≡ slice_get painting number → columns ≡ length line → columns < most → (k : ℕ) (d : Span) → k < length spans → ((get_or spans k d).first < most) × ((get_or spans k d).last < most)
+columns_few lines painting number columns most line spans fit line_is spans_are long few k d near =
+    let at = fits_at 0 (length line) spans k d (fit number line spans line_is spans_are) near in
     (omega (arith, at.0, long, few), omega (arith, at.1, long, few))
 
 -- the spans of a line

@@ -1,7 +1,7 @@
 -- Accepted files are painted, and accepted syntax files are counted.
 use Rattle.std.proofs.Common.{◌≡◌, ℕ, Bool, false, List, [], refl, ap, sym, subst, ◌∙◌, ◌≤◌, length}
 use Rattle.std.proofs.lemmas.Bool.{le-ltb}
-use Rattle.std.specs.Prelude.{Some, Ok, Result, Err, IsOk}
+use Rattle.std.specs.Prelude.{Some, Ok, Result, Err, IsOk, nat_eq}
 use Rattle.edit_session.specs.Laws.{AreCarriedOut}
 use Rattle.edit_session.specs.Session.{Answer, entries_read, is_too_long, most_bytes}
 use Rattle.edit_session.proofs.CarriedOutLaws.{none_of_script}
@@ -27,7 +27,9 @@ use Rattle.vimsyn_cli.specs.Folds.{folds_shown}
 use Rattle.vimsyn_cli.specs.Laws.{AcceptedSyntaxFile, IsAccepted}
 use Rattle.vimsyn_cli.specs.Painting.{bytes_told, file_bytes, lines_told, painted_told, painting_told, text_limit, text_told, with_spans}
 use Rattle.vimsyn_cli.specs.Plans.{and_then}
-use Rattle.vimsyn_cli.specs.Printing.{page_bytes, spans_bytes}
+use Rattle.vimsyn_cli.specs.Printing.{page_bytes, picture_at, picture_bytes, picture_page, picture_told, spans_bytes}
+use Rattle.vimsyn_cli.specs.declared.picture.Picture.{Picture}
+use Rattle.vimsyn_cli.specs.declared.picture.Picture.TheVariants as picture
 use Rattle.vimsyn_cli.specs.Reading.{syntax_told, with_told}
 use Rattle.vimsyn_cli.specs.Renewal.{library_of}
 use Rattle.vimsyn_cli.specs.Report.{fault_of}
@@ -47,7 +49,7 @@ with_lines name read = elim read [ Ok lines ↦ Ok lines | Err fault ↦ Err (fa
 pub file_is : (files : FileMap) (name bytes : List ℕ) (limit : ℕ) → file_named files name ≡ Some bytes → length bytes ≤ limit → file_bytes files name limit ≡ Ok bytes
 file_is files name bytes limit there short = rw (there, le-ltb limit (length bytes) short) refl
 
-text_is : (words : PaintWords) (files : FileMap) (painted : PaintedText) → IsAccepted words files painted → text_told words.text files ≡ Ok painted.text
+pub text_is : (words : PaintWords) (files : FileMap) (painted : PaintedText) → IsAccepted words files painted → text_told words.text files ≡ Ok painted.text
 text_is words files painted is =
     let read : bytes_told words.text text_limit files ≡ Ok is.bytes = ap (told_by words.text) (file_is files words.text is.bytes text_limit is.text_file is.text_short) in
     ap (λ (e : Result (List ℕ) Fault). and_then e (lines_told words.text)) read ∙ ap (with_lines words.text) is.text_is
@@ -61,17 +63,23 @@ painting_is words files painted is =
     ∙ ap (with_spans words painted.syntax painted.text) is.spans_are
     ∙ rw (sym is.budget_is) refl
 
+-- at level 0 all is shown
+shown_is : (words : PaintWords) (files : FileMap) (painted : PaintedText) → words.conceal ≡ 0 → IsAccepted words files painted → picture_told words files ≡ Ok (picture.Shown painted)
+shown_is words files painted all is =
+    ap (λ (n : ℕ). picture_at (nat_eq n 0) words files) all
+    ∙ ap (λ (e : Result PaintedText Fault). let f : Result Picture Fault = and_then e (λ p. Ok (picture.Shown p)) in f) (painting_is words files painted is)
+
 -- an accepted run prints the spans
-pub accepted_painted : (typed : List (List ℕ)) (files : FileMap) (script : List ℕ) (words : PaintWords) (painted : PaintedText) → asked_of typed ≡ Some (Print (Spans words)) → IsAccepted words files painted → session typed files script ≡ shows (spans_bytes painted)
-accepted_painted typed files script words painted asked is =
+pub accepted_painted : (typed : List (List ℕ)) (files : FileMap) (script : List ℕ) (words : PaintWords) (painted : PaintedText) → asked_of typed ≡ Some (Print (Spans words)) → words.conceal ≡ 0 → IsAccepted words files painted → session typed files script ≡ shows (spans_bytes painted)
+accepted_painted typed files script words painted asked all is =
     ap (with_asked files script) asked
-    ∙ ap (λ (e : Result PaintedText Fault). session_told (and_then e (λ p. Ok (spans_bytes p)))) (painting_is words files painted is)
+    ∙ ap (λ (e : Result Picture Fault). session_told (and_then e (λ p. Ok (picture_bytes p)))) (shown_is words files painted all is)
 
 -- or the page
-pub accepted_pages : (typed : List (List ℕ)) (files : FileMap) (script : List ℕ) (words : PageWords) (painted : PaintedText) → asked_of typed ≡ Some (Print (Html words)) → IsAccepted words.painting files painted → session typed files script ≡ shows (page_bytes words painted)
-accepted_pages typed files script words painted asked is =
+pub accepted_pages : (typed : List (List ℕ)) (files : FileMap) (script : List ℕ) (words : PageWords) (painted : PaintedText) → asked_of typed ≡ Some (Print (Html words)) → (words.painting).conceal ≡ 0 → IsAccepted words.painting files painted → session typed files script ≡ shows (page_bytes words painted)
+accepted_pages typed files script words painted asked all is =
     ap (with_asked files script) asked
-    ∙ ap (λ (e : Result PaintedText Fault). session_told (and_then e (λ p. Ok (page_bytes words p)))) (painting_is words.painting files painted is)
+    ∙ ap (λ (e : Result Picture Fault). session_told (and_then e (λ p. Ok (picture_page words p)))) (shown_is words.painting files painted all is)
 
 -- or the folds
 pub accepted_folded : (typed : List (List ℕ)) (files : FileMap) (script : List ℕ) (words : FoldWords) (painted : PaintedText) → asked_of typed ≡ Some (Print (Folds words)) → IsAccepted words.painting files painted → session typed files script ≡ shows (folds_shown words.close painted)

@@ -18,6 +18,7 @@ use Rattle.vimsyn_cli.specs.declared.fault.Stop.TheVariants as stop
 use Rattle.vimsyn_cli.specs.declared.status.Status.{Status}
 use Rattle.vimsyn_cli.specs.declared.status.Status.TheVariants.{Done, Refused, Usage, ReadFault, WriteFault, Memory}
 use Rattle.state_cache.specs.PaintedText.{PaintedText}
+use Rattle.vimsyn_cli.specs.Concealing.{IsUnreadView, IsViewFault}
 use Rattle.vimsyn_cli.specs.EditRun.{script_answer}
 use Rattle.vimsyn_cli.specs.Painting.{IsPaintFault, IsRefusedPainting, IsUnreadPaint, painting_told}
 use Rattle.vimsyn_cli.specs.Reading.{IsReadFault, IsUnreadAsked}
@@ -41,14 +42,14 @@ is_unfailed WriteFault = false
 is_unfailed Memory = false
 
 -- a fault that a command tells that prints at once, whatever the files say: of reading, of the text, or of
--- its painting
+-- its painting or view
 abbrev pub IsFaultOfPrint : Printing → FaultOf → Type 0
 IsFaultOfPrint (Check words) fault = IsReadFault fault
-IsFaultOfPrint (Spans words) fault = IsPaintFault words fault
-IsFaultOfPrint (Html words) fault = IsPaintFault words.painting fault
+IsFaultOfPrint (Spans words) fault = IsViewFault words fault
+IsFaultOfPrint (Html words) fault = IsViewFault words.painting fault
 IsFaultOfPrint (Folds words) fault = IsPaintFault words.painting fault
 
--- the same of any command: `edit` tells what `html` tells, and `large` that the painting of its text is
+-- the same of any command: `edit` tells what `folds` tells, and `large` that the painting of its text is
 -- refused
 abbrev pub IsFaultOfAsked : Asked → FaultOf → Type 0
 IsFaultOfAsked (Print printing) fault = IsFaultOfPrint printing fault
@@ -58,8 +59,8 @@ IsFaultOfAsked (Large words) fault = IsRefusedPainting (codes "large") fault
 -- the line for a file that can't be read: one that the words name, or that the rules of reading ask for
 abbrev pub IsUnreadPrint : Printing → FileMap → List ℕ → Type 0
 IsUnreadPrint (Check words) files line = IsUnreadAsked words files line
-IsUnreadPrint (Spans words) files line = IsUnreadPaint words files line
-IsUnreadPrint (Html words) files line = IsUnreadPaint words.painting files line
+IsUnreadPrint (Spans words) files line = IsUnreadView words files line
+IsUnreadPrint (Html words) files line = IsUnreadView words.painting files line
 IsUnreadPrint (Folds words) files line = IsUnreadPaint words.painting files line
 
 -- the script is asked for: there is a painted text

@@ -2,6 +2,7 @@
 pub mod Answers
 pub mod Changes
 pub mod Check
+pub mod Concealing
 pub mod Editing
 pub mod EditRun
 pub mod Folds

@@ -7,6 +7,7 @@ use Rattle.syn_base.specs.declared.places.Span.{Span}
 use Rattle.syn_base.specs.Outside.{FileMap, file_named}
 use Rattle.syn_reader.specs.declared.syntax.Syntax.{Syntax}
 use Rattle.syntax_set.specs.Groups.{name_of}
+use Rattle.syntax_set.specs.declared.added_item.AddedItem.{AddedItem}
 use Rattle.paint_rules.specs.Rules.{item_of}
 use Rattle.state_cache.specs.declared.refusal.EditError.{EditError}
 use Rattle.state_cache.specs.declared.refusal.EditError.TheVariants as refusal
@@ -54,23 +55,30 @@ abbrev pub place_text : ℕ → ℕ → List ℕ
 place_text line col = codes ":" ++ decimal (line + 1) ++ codes ":" ++ decimal (col + 1)
 
 -- the name of an item's group
+abbrev pub group_in : List (List ℕ) → List AddedItem → ItemId → List ℕ
+group_in names items item = name_of names (item_of items item).group
+
 abbrev pub group_name : Syntax → ItemId → List ℕ
-group_name syntax item = name_of syntax.groups (item_of syntax.items item).group
+group_name syntax item = group_in syntax.groups syntax.items item
 
 -- what is told of a painting that is refused, behind the name of the text; the rules of painting know no
 -- want of memory, so nothing is told of it
-abbrev pub refusal_text : Syntax → EditError → List ℕ
-refusal_text syntax (refusal.TooCostly line col item) =
-    place_text line col ++ codes ": too costly: " ++ group_name syntax item ++ codes "\n"
-refusal_text syntax (refusal.TooDeep line col) = place_text line col ++ codes ": too deep\n"
-refusal_text syntax refusal.Memory = []
+abbrev pub refusal_text : List (List ℕ) → List AddedItem → EditError → List ℕ
+refusal_text names items (refusal.TooCostly line col item) =
+    place_text line col ++ codes ": too costly: " ++ group_in names items item ++ codes "\n"
+refusal_text names items (refusal.TooDeep line col) = place_text line col ++ codes ": too deep\n"
+refusal_text names items refusal.Memory = []
 
 -- the line for a painting that is refused at a place of the text of this name
-abbrev pub refused_line : List ℕ → Syntax → EditError → List ℕ
-refused_line name syntax error = name ++ refusal_text syntax error
+abbrev pub refused_line : List ℕ → List (List ℕ) → List AddedItem → EditError → List ℕ
+refused_line name names items error = name ++ refusal_text names items error
+
+-- the fault, with the groups and the items by which it names one
+abbrev pub refused_by : List ℕ → List (List ℕ) → List AddedItem → EditError → Fault
+refused_by name names items error = record { line = refused_line name names items error; cause = Content }
 
 abbrev pub refused_fault : List ℕ → Syntax → EditError → Fault
-refused_fault name syntax error = record { line = refused_line name syntax error; cause = Content }
+refused_fault name syntax error = refused_by name syntax.groups syntax.items error
 
 -- the spans of the lines, or the refusal of their painting
 abbrev pub with_spans : PaintWords → Syntax → List (List ℕ) → Result (List (List Span)) EditError → Result PaintedText Fault

@@ -1,12 +1,14 @@
 //! What `html` prints: the text as a page (`:TOhtml`).
 ghost use Rattle.std.specs.Prelude.{◌≡◌, ◌≤◌, ◌+◌, IfOk, IfSome};
-ghost use Rattle.vimsyn_cli.specs.Painting.{IsPaintFault, IsUnreadPaint, text_told};
+ghost use Rattle.vimsyn_cli.specs.Concealing.{IsUnreadView, IsViewFault};
+ghost use Rattle.vimsyn_cli.specs.Painting.{text_told};
 ghost use Rattle.vimsyn_cli.specs.Plans.{FollowsFiles, IfFault, RaisesItsCount, is_missing, is_too_long, is_unread};
-ghost use Rattle.vimsyn_cli.specs.Printing.{html_told, page_bytes};
+ghost use Rattle.vimsyn_cli.specs.Printing.{html_told, page_bytes, page_options, picture_page, seen_page};
 ghost use Rattle.vimsyn_cli.specs.Session.{lines_in};
 
+use crate::concealing::Concealed;
 use crate::fault::Stop;
-use crate::painting::paint;
+use crate::picture::{Picture, read_picture};
 use html_writer::{PageOptions, page};
 use program_words::PageWords;
 use state_cache::Painted;
@@ -22,23 +24,26 @@ pub(crate) fn print_page<F: Files, L: Ledger>(
 ) -> Result<List<u8>, Stop>
     ensures kept { F.told files.new ≡ F.told files.old }
     ensures planned { FollowsFiles (F.told files.old)
-        (html_told words.now) (IsUnreadPaint words.now.painting) result }
-    ensures told { IfFault result (IsPaintFault words.now.painting) }
+        (html_told words.now) (IsUnreadView words.now.painting) result }
+    ensures told { IfFault result (IsViewFault words.now.painting) }
     ensures faults { RaisesItsCount is_unread result (F.faults files.old) (F.faults files.new) }
     ensures misses { RaisesItsCount is_missing result (F.misses files.old) (F.misses files.new) }
     ensures longs { RaisesItsCount is_too_long result (F.longs files.old) (F.longs files.new) }
     ensures steps { IfSome (F.told files.old) (λ known.
         steps.new ≤ steps.old + lines_in (text_told words.now.painting.text known)) }
 {
-    let painted = paint(alloc, files, words.painting(), steps)?;
-    Ok(print_painted(alloc, words, painted)?)
+    let picture = read_picture(alloc, files, words.painting(), steps)?;
+    Ok(print_picture(alloc, words, picture)?)
 }
 
-/// The page of a painted text, which isn't needed behind it.
-fn print_painted(alloc: Global, words: &PageWords<'_>, painted: Painted) -> Result<List<u8>, Memory>
-    ensures { IfOk result (λ bytes. bytes ≡ page_bytes words.now painted) }
+/// The page of a text, which isn't needed behind it.
+fn print_picture(alloc: Global, words: &PageWords<'_>, picture: Picture) -> Result<List<u8>, Memory>
+    ensures { IfOk result (λ bytes. bytes ≡ picture_page words.now picture) }
 {
-    page_bytes(alloc, words, &painted)
+    match picture {
+        Picture::Shown(painted) => page_bytes(alloc, words, &painted),
+        Picture::Concealed(text) => seen_page(alloc, words, &text),
+    }
 }
 
 /// The page of a painted text.
@@ -50,16 +55,38 @@ pub(crate) fn page_bytes(
     ensures { IfOk result (λ bytes. bytes ≡ page_bytes words.now painted.now) }
 {
     let syntax = painted.syntax();
-    let options = PageOptions {
-        number: words.number(),
-        pre: words.pre(),
-    };
     page(
         alloc,
         words.painting().text(),
         painted,
         &syntax.groups,
         &syntax.links,
-        options,
+        page_options(words),
     )
+}
+
+/// The page of the view of a text.
+fn seen_page(alloc: Global, words: &PageWords<'_>, text: &Concealed) -> Result<List<u8>, Memory>
+    ensures { IfOk result (λ bytes. bytes ≡ seen_page words.now text.now) }
+{
+    let view = text.view(alloc)?;
+    let syntax = text.syntax();
+    page(
+        alloc,
+        words.painting().text(),
+        &view,
+        &syntax.groups,
+        &syntax.links,
+        page_options(words),
+    )
+}
+
+/// How the page is made.
+fn page_options(words: &PageWords<'_>) -> PageOptions
+    ensures { result ≡ page_options words.now }
+{
+    PageOptions {
+        number: words.number(),
+        pre: words.pre(),
+    }
 }

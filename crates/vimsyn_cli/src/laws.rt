@@ -1,15 +1,26 @@
 //! Laws of the definitions: the contracts of functions that have no code.
 ghost use Rattle.vimsyn_cli.specs.Laws.{AcceptedFilesAreFolded, AcceptedFilesArePages, AcceptedFilesArePainted, AcceptedLargeTextsAreEdited};
 ghost use Rattle.vimsyn_cli.specs.Laws.{AcceptedSyntaxFilesAreCounted, AcceptedTextsAreEdited, CarriedOutScriptsAreDone};
+ghost use Rattle.vimsyn_cli.specs.Laws.{AcceptedFilesAreSeen, AcceptedFilesAreSeenPages, ViewsAreRefusedAlike};
 ghost use Rattle.vimsyn_cli.specs.Laws.{KeptSyntaxIsAccepted, PaintedLargeTextsAreDone, TextsWithinLimitsArePainted};
 
 /// Where the syntax is accepted and the text is painted whole, `spans` prints its spans, `html`
-/// its page and `folds` its folds, and the status is Done; `edit` carries out its script.
+/// its page, both with all shown, and `folds` its folds, and the status is Done; `edit` carries out
+/// its script.
 pub fn accepted_files_are_painted()
     ensures spans { AcceptedFilesArePainted }
     ensures page { AcceptedFilesArePages }
     ensures folds { AcceptedFilesAreFolded }
     ensures edits { AcceptedTextsAreEdited }
+{}
+
+/// Where besides something is to be concealed, and the group `Conceal` is there or has room, `spans`
+/// prints the spans of the view and `html` its page. It is made of the spans of the marked painting,
+/// which stand for those of the text. Where those are refused, so is the view.
+pub fn accepted_files_are_seen()
+    ensures spans { AcceptedFilesAreSeen }
+    ensures page { AcceptedFilesAreSeenPages }
+    ensures refusals { ViewsAreRefusedAlike }
 {}
 
 /// The kept syntax is accepted, and where the generated text is painted whole, `large` prints the

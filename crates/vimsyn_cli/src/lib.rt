@@ -7,6 +7,7 @@
 #![tactic(auto)]
 
 mod check;
+mod concealing;
 mod deliver;
 mod edit;
 mod fault;
@@ -17,6 +18,7 @@ mod kept_files;
 mod large;
 pub mod laws;
 mod painting;
+mod picture;
 mod print;
 mod reading;
 mod refusal;

@@ -52,6 +52,12 @@ fn paint_text<L: Ledger>(
 {
     match Painted::paint(alloc, syntax, text, words.budget(), steps) {
         Ok(painted) => Ok(painted),
-        Err(Unpainted { error, syntax }) => Err(refusal(alloc, words.text(), &syntax, error)),
+        Err(Unpainted { error, syntax }) => Err(refusal(
+            alloc,
+            words.text(),
+            &syntax.groups,
+            &syntax.items,
+            error,
+        )),
     }
 }

@@ -9,14 +9,20 @@ use byte_text::{push_bytes, push_number_from_one};
 use state_cache::EditError;
 use std::alloc::{AllocError, Global};
 use syn_base::{GroupId, ItemId, List, Memory};
-use syn_reader::Syntax;
-use syntax_set::ItemSet;
+use syntax_set::{Groups, ItemSet};
 
-/// The stop for the painting of the text of this name, which is refused.
-pub(crate) fn refusal(alloc: Global, name: &str, syntax: &Syntax, error: EditError) -> Stop
-    ensures { IsRefusal name.now syntax.now error result }
+/// The stop for the painting of the text of this name, which is refused. The item that it tells is one
+/// of these, with its own group.
+pub(crate) fn refusal(
+    alloc: Global,
+    name: &str,
+    groups: &Groups,
+    items: &ItemSet,
+    error: EditError,
+) -> Stop
+    ensures { IsRefusal name.now groups.now items.now error result }
 {
-    match told(alloc, name, syntax, error) {
+    match told(alloc, name, groups, items, error) {
         Ok(line) => Stop::Fault(Fault {
             line,
             cause: FaultKind::Content,
@@ -25,24 +31,36 @@ pub(crate) fn refusal(alloc: Global, name: &str, syntax: &Syntax, error: EditErr
     }
 }
 
-fn told(alloc: Global, name: &str, syntax: &Syntax, error: EditError) -> Result<List<u8>, Memory>
+fn told(
+    alloc: Global,
+    name: &str,
+    groups: &Groups,
+    items: &ItemSet,
+    error: EditError,
+) -> Result<List<u8>, Memory>
     ensures { IfOk result (λ line. (error ≢ EditError.Memory)
-        × (line ≡ refused_line name.now syntax.now error)) }
+        × (line ≡ refused_line name.now groups.now items.now error)) }
 {
     let mut line = Vec::from_slice(alloc, name.as_bytes())?;
-    push_refusal(&mut line, syntax, error)?;
+    push_refusal(&mut line, groups, items, error)?;
     Ok(List::from_vec(line))
 }
 
 /// Appends what is told of a refusal.
-fn push_refusal(out: &mut Vec<u8>, syntax: &Syntax, error: EditError) -> Result<(), Memory>
+fn push_refusal(
+    out: &mut Vec<u8>,
+    groups: &Groups,
+    items: &ItemSet,
+    error: EditError,
+) -> Result<(), Memory>
     ensures known { OnOk result (error ≢ EditError.Memory) }
-    ensures text { OnOk result (out.new.items ≡ out.old.items ++ refusal_text syntax.now error) }
+    ensures text { OnOk result (out.new.items ≡ out.old.items
+        ++ refusal_text groups.now items.now error) }
 {
     match error {
         EditError::TooCostly { line, col, item } => {
-            let group = group_of(&syntax.items, item);
-            Ok(push_costly(out, line, col, syntax.groups.name(group))?)
+            let group = group_of(items, item);
+            Ok(push_costly(out, line, col, groups.name(group))?)
         }
         EditError::TooDeep { line, col } => Ok(push_deep(out, line, col)?),
         EditError::Memory => Err(Memory),

@@ -1,21 +1,25 @@
 //! What `spans` prints: a line for each span of the text (this profile).
 ghost use Rattle.std.specs.Prelude.{◌≡◌, ◌≤◌, ◌<◌, ◌+◌, ◌++◌, All, false, get_or, length, IfOk, IfSome, OnOk, []};
-ghost use Rattle.state_cache.specs.PaintedText.{IsPainted};
 ghost use Rattle.span_print.specs.SpanText.{line_text};
-ghost use Rattle.vimsyn_cli.specs.Painting.{IsPaintFault, IsUnreadPaint, text_told};
+ghost use Rattle.syn_base.specs.SpansFit.{FitLines};
+ghost use Rattle.vimsyn_cli.specs.Concealing.{IsUnreadView, IsViewFault};
+ghost use Rattle.vimsyn_cli.specs.Painting.{text_told};
 ghost use Rattle.vimsyn_cli.specs.Plans.{FollowsFiles, IfFault, RaisesItsCount, is_missing, is_too_long, is_unread};
-ghost use Rattle.vimsyn_cli.specs.Printing.{spans_bytes, spans_told};
+ghost use Rattle.vimsyn_cli.specs.Printing.{picture_bytes, seen_bytes, spans_bytes, spans_from, spans_told};
 ghost use Rattle.vimsyn_cli.specs.Session.{lines_in};
 
+use crate::concealing::Concealed;
 use crate::fault::Stop;
-use crate::painting::paint;
+use crate::picture::{Picture, read_picture};
 use byte_text::push_bytes;
+use hi_links::Links;
 use program_words::PaintWords;
 use span_print::span_text;
 use state_cache::Painted;
 use std::alloc::Global;
 use syn_base::{Colours, Files, Ledger, Lines, List, Memory, Span, Steps};
 use syn_reader::Syntax;
+use syntax_set::Groups;
 
 /// The span lines of the text.
 pub(crate) fn print_spans<F: Files, L: Ledger>(
@@ -26,50 +30,79 @@ pub(crate) fn print_spans<F: Files, L: Ledger>(
 ) -> Result<List<u8>, Stop>
     ensures kept { F.told files.new ≡ F.told files.old }
     ensures planned { FollowsFiles (F.told files.old)
-        (spans_told words.now) (IsUnreadPaint words.now) result }
-    ensures told { IfFault result (IsPaintFault words.now) }
+        (spans_told words.now) (IsUnreadView words.now) result }
+    ensures told { IfFault result (IsViewFault words.now) }
     ensures faults { RaisesItsCount is_unread result (F.faults files.old) (F.faults files.new) }
     ensures misses { RaisesItsCount is_missing result (F.misses files.old) (F.misses files.new) }
     ensures longs { RaisesItsCount is_too_long result (F.longs files.old) (F.longs files.new) }
     ensures steps { IfSome (F.told files.old) (λ known.
         steps.new ≤ steps.old + lines_in (text_told words.now.text known)) }
 {
-    let painted = paint(alloc, files, words, steps)?;
-    Ok(print_painted(alloc, painted)?)
+    let picture = read_picture(alloc, files, words, steps)?;
+    Ok(print_picture(alloc, picture)?)
 }
 
-/// The span lines of a painted text, which isn't needed behind them.
-fn print_painted(alloc: Global, painted: Painted) -> Result<List<u8>, Memory>
-    ensures { IfOk result (λ bytes. bytes ≡ spans_bytes painted) }
+/// The span lines of a text, which isn't needed behind them.
+fn print_picture(alloc: Global, picture: Picture) -> Result<List<u8>, Memory>
+    ensures { IfOk result (λ bytes. bytes ≡ picture_bytes picture) }
 {
-    spans_bytes(alloc, &painted)
+    match picture {
+        Picture::Shown(painted) => shown_bytes(alloc, &painted),
+        Picture::Concealed(text) => seen_bytes(alloc, &text),
+    }
 }
 
 /// The span lines of a painted text.
-fn spans_bytes(alloc: Global, painted: &Painted) -> Result<List<u8>, Memory>
+fn shown_bytes(alloc: Global, painted: &Painted) -> Result<List<u8>, Memory>
     ensures { IfOk result (λ bytes. bytes ≡ spans_bytes painted.now) }
 {
     let syntax = painted.syntax();
+    spans_bytes(alloc, painted, &syntax.groups, &syntax.links)
+}
+
+/// The span lines of the view of a text.
+fn seen_bytes(alloc: Global, text: &Concealed) -> Result<List<u8>, Memory>
+    ensures { IfOk result (λ bytes. bytes ≡ seen_bytes text.now) }
+{
+    let view = text.view(alloc)?;
+    let syntax = text.syntax();
+    spans_bytes(alloc, &view, &syntax.groups, &syntax.links)
+}
+
+/// The span lines of what is painted.
+fn spans_bytes<P: Lines + Colours>(
+    alloc: Global,
+    painting: &P,
+    groups: &Groups,
+    links: &Links,
+) -> Result<List<u8>, Memory>
+    requires as_many { length (P.coloured painting.now) ≡ length (P.lines painting.now) }
+    requires fit { FitLines (P.lines painting.now) (P.coloured painting.now) }
+    ensures { IfOk result (λ bytes. bytes
+        ≡ spans_from groups.now links.now 0 (P.coloured painting.now)) }
+{
     let mut out = Vec::new(alloc);
-    for number in 0..painted.len() {
-        let spans = spans_at(painted, number);
-        push_line(alloc, &mut out, syntax, number, spans, false)?;
+    for number in 0..painting.len() {
+        let spans = spans_at(painting, number);
+        let bytes = span_text(alloc, number, spans, groups, links, false)?;
+        push_bytes(&mut out, bytes.as_slice())?;
     }
     Ok(List::from_vec(out))
 }
 
 /// The spans of the line of this number. It and its columns have numbers from 1, as the text is in
 /// memory.
-pub(crate) fn spans_at(painted: &Painted, number: usize) -> &[Span]
-    requires within { number < length painted.now.text }
-    requires painted { IsPainted painted.now }
-    ensures is { result.now ≡ get_or painted.now.spans number [] }
+pub(crate) fn spans_at<P: Lines + Colours>(painting: &P, number: usize) -> &[Span]
+    requires within { number < length (P.lines painting.now) }
+    requires as_many { length (P.coloured painting.now) ≡ length (P.lines painting.now) }
+    requires fit { FitLines (P.lines painting.now) (P.coloured painting.now) }
+    ensures is { result.now ≡ get_or (P.coloured painting.now) number [] }
     ensures columns { All (λ span. (span.first < usize.MAX) × (span.last < usize.MAX)) result.now }
     ensures number { number < usize.MAX }
 {
-    let _columns = columns_of(painted.line(number));
-    let _count = painted.len();
-    painted.spans(number)
+    let _columns = columns_of(painting.line(number));
+    let _count = painting.len();
+    painting.spans(number)
 }
 
 /// How many columns a line in memory has.

@@ -1,10 +1,25 @@
-use Rattle.std.proofs.Common.{◌≤◌, ◌∙◌, arith, length}
-use Rattle.vimsyn_cli.proofs.PrintLaws.{all_printed}
+use Rattle.std.proofs.Common.{◌≤◌, ◌<◌, ◌+◌, ◌∙◌, ◌++◌, ℕ, List, ap, arith, length, refl, false}
+use Rattle.syn_base.specs.declared.places.Span.{Span}
+use Rattle.span_print.specs.SpanText.{line_text}
+use Rattle.vimsyn_cli.proofs.PrintLaws.{all_printed, printed_further}
 use Rattle.vimsyn_cli.proofs.spans.spans_bytes.Goals as goal
 
+pub loop-number-preserved : goal.loop-number-preserved
+loop-number-preserved g c =
+    let painting = g.P.Colours.coloured c.args.painting.now in
+    let names = c.args.groups.now in
+    let links = c.args.links.now in
+    let number = c.loop-number.number in
+    let within : number < length painting = omega (arith, c.loop-number-test.true, c.len-number-end.ensures.count, c.requires.as_many) in
+    printed_further names links painting number (number + 1) c.loop-number.out.items _ _ (omega arith) within
+    (c.in_ok-push_bytes.ensures
+    ∙ ap (λ (bytes : List ℕ). c.loop-number.out.items ++ bytes)
+    (c.as_slice.ensures ∙ c.in_ok-bytes.ensures ∙ ap (λ (spans : List Span). line_text names links number spans false) c.spans_at-spans.ensures.is))
+    c.loop-number.invariant
+
 pub returns : goal.returns
-returns c =
-    let painted = c.args.painted.now in
-    let past : length painted.spans ≤ c.loop-number.number = omega (arith, c.loop-number-test.false, c.len-number-end.ensures.count, c.syntax-syntax.ensures.painted.count) in
+returns g c =
+    let spans = g.P.Colours.coloured c.args.painting.now in
+    let past : length spans ≤ c.loop-number.number = omega (arith, c.loop-number-test.false, c.len-number-end.ensures.count, c.requires.as_many) in
     c.from_vec.ensures
-    ∙ all_printed painted.syntax.groups painted.syntax.links painted.spans c.loop-number.number c.loop-number.out.items _ past c.loop-number.invariant
+    ∙ all_printed c.args.groups.now c.args.links.now spans c.loop-number.number c.loop-number.out.items _ past c.loop-number.invariant
