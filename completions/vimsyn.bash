@@ -18,15 +18,16 @@ _vimsyn() {
     mapfile -t COMPREPLY < <(compgen -d -- "$word")
     return
   fi
-  if [[ $before == --budget= || $before == --close= ]]; then
+  if [[ $before == --budget= || $before == --close= || $before == --conceal= ]]; then
     return
   fi
   local options='' most=2
   case ${COMP_WORDS[1]} in
     check) options='--assume-fromstart --folder=' most=1 ;;
-    spans) options='--assume-fromstart --folder= --budget=' ;;
+    spans) options='--assume-fromstart --folder= --budget= --conceal=' ;;
     folds) options='--assume-fromstart --folder= --budget= --close=' ;;
-    html | edit) options='--assume-fromstart --folder= --budget= --number --no-pre' ;;
+    html) options='--assume-fromstart --folder= --budget= --conceal= --number --no-pre' ;;
+    edit) options='--assume-fromstart --folder= --budget= --number --no-pre' ;;
     large) options='--budget=' most=0 ;;
     *) return ;;
   esac

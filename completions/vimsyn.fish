@@ -53,5 +53,6 @@ complete -c vimsyn -n '__vimsyn_takes --assume-fromstart check spans html edit f
 complete -c vimsyn -n '__vimsyn_takes --folder= check spans html edit folds' -a '(__vimsyn_folders)'
 complete -c vimsyn -n '__vimsyn_takes --budget= spans html edit large folds' -a '--budget=' -d 'The most work of one attempt to match'
 complete -c vimsyn -n '__vimsyn_takes --close= folds' -a '--close=' -d 'Close folds above a level'
+complete -c vimsyn -n '__vimsyn_takes --conceal= spans html' -a '--conceal=' -d 'Hide what is concealed'
 complete -c vimsyn -n '__vimsyn_takes --number html edit' -a --number -d 'Number the lines'
 complete -c vimsyn -n '__vimsyn_takes --no-pre html edit' -a --no-pre -d 'A page without <pre>'
