@@ -1,13 +1,17 @@
 -- One place after the other.
-use Rattle.std.proofs.Common.{◌≡◌, ◌<◌, ◌≤◌, ◌+◌, ◌-◌, ℕ, suc, Bool, true, false, List, [], ◌∷◌, ◌++◌, ap, refl, sym, ◌∙◌, arith}
+use Rattle.std.proofs.Common.{◌≡◌, ◌<◌, ◌≤◌, ◌+◌, ◌-◌, ℕ, suc, Bool, true, false, List, [], ◌∷◌, ◌++◌, ap, refl, sym, ◌∙◌, arith, cond, nat_lt}
 use Rattle.std.specs.Prelude.{Option, Some, None, is_some, Result, Ok, Err}
 use Rattle.syn_base.specs.declared.places.Place.{Place}
 use Rattle.match_rules.specs.Ways.{Text, place}
+use Rattle.std.proofs.lemmas.Bool.Decides.{nat_tests}
+use Rattle.match_rules.specs.Attempt.{attempt}
 use Rattle.pattern_match.specs.declared.answer.Match.{Match}
+use Rattle.pattern_match.specs.declared.answer.Attempt.TheVariants.{TooCostly}
+use Rattle.pattern_match.specs.Answers.{found_or_absent}
 use Rattle.ex_substitute.specs.declared.error.ExError.{ExError}
 use Rattle.ex_substitute.specs.declared.refusal.Refusal.{Refusal}
 use Rattle.ex_substitute.specs.Answers.{◌>>=◌, FailsAs}
-use Rattle.ex_substitute.specs.Trying.{Trial, Counts, tried, columns, places_in, places_of, first_of, is_counted_by}
+use Rattle.ex_substitute.specs.Trying.{Trial, Counts, told_at, tried, columns, places_in, places_of, first_of, is_counted_by}
 use Rattle.ex_substitute.proofs.AnswerLaws.{fails-on}
 
 pub columns-step : (line at end : ℕ) → at < end → columns line at (end - at) ≡ place line at ∷ columns line (at + 1) (end - (at + 1))
@@ -149,3 +153,11 @@ told-counts t counts m p places (Err e) same on = absurd (cc)
 pub found-counts : (t : Trial) (counts : Counts) (m : Match) (places : List Place) → first_of t counts places ≡ Ok (Some m) → (q : Place) × (counts q m ≡ true)
 found-counts t counts m [] same = absurd (cc)
 found-counts t counts m (p ∷ places) same = told-counts t counts m p places (tried t p) same (found-counts t counts m places)
+
+-- ---- an attempt that is passed over
+
+pub vain-tried : (t : Trial) (p : Place) → (attempt t.tree t.x p).way ≡ None → (attempt t.tree t.x p).cost ≤ t.budget → tried t p ≡ Ok None
+vain-tried t p none cheap =
+    let a = attempt t.tree t.x p in
+    let within : nat_lt t.budget a.cost ≡ false = grind (arith, nat_tests) in
+    ap (λ b. told_at p (cond b TooCostly (found_or_absent t.x.text p a a.way))) within ∙ ap (λ w. told_at p (found_or_absent t.x.text p a w)) none

@@ -1,5 +1,10 @@
 -- What the code tries with, as the rules see it.
-use Rattle.match_rules.specs.Ways.{Text}
+use Rattle.std.specs.Prelude.{◌≡◌, ◌≤◌, ℕ, List, None}
+use Rattle.vim_pattern.specs.Tree.{PatternTree}
+use Rattle.match_rules.specs.Attempt.{attempt}
+use Rattle.match_rules.specs.Ways.{Text, line_at, place}
+use Rattle.pattern_match.specs.Contexts.{context_in}
+use Rattle.pattern_match.specs.declared.context.Context.{Context}
 use Rattle.ex_substitute.specs.declared.trying.Trying.{Trying}
 use Rattle.ex_substitute.specs.declared.trying.Wanted.{Wanted}
 use Rattle.ex_substitute.specs.declared.trying.Wanted.TheVariants.{Any, Behind}
@@ -17,3 +22,9 @@ trial_in text t = record {
 abbrev pub counts_of : Wanted → Counts
 counts_of Any = any_match
 counts_of (Behind end) = is_taken end
+
+-- wherever this line stands in a text, an attempt at the column has no way, and is within the budget
+abbrev pub IsVainWithin : ℕ → PatternTree → Context → List ℕ → ℕ → Type 0
+IsVainWithin budget tree c line col =
+    (text : Text) (number : ℕ) → line_at text number ≡ line →
+    ((attempt tree (context_in text c) (place number col)).way ≡ None) × ((attempt tree (context_in text c) (place number col)).cost ≤ budget)

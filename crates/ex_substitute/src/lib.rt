@@ -1,7 +1,8 @@
-//! Substitutions and deletions by pattern, read from their text: `s/PATTERN/STRING/FLAGS`, `g/PATTERN/d`
-//! and `v/PATTERN/d` (`:s`, `:g`, `:v`).
+//! Substitutions and deletions by pattern, read from their text and applied to a text:
+//! `s/PATTERN/STRING/FLAGS`, `g/PATTERN/d` and `v/PATTERN/d` (`:s`, `:g`, `:v`).
 //!
-//! A string is read to a list of pieces once, so that what is put for a match is told piece by piece.
+//! A string is read to a list of pieces once, and the matches are found on the text as it is before
+//! anything is made. What is made is then a run of characters and breaks, cut into lines.
 #![tactic(auto)]
 
 mod apply;

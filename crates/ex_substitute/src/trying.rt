@@ -1,6 +1,6 @@
 //! A command's pattern, tried at the places of a line.
 ghost use Rattle.std.specs.Prelude.{◌≡◌, ◌<◌, ◌≤◌, ◌-◌, length, IfOk, IfSome};
-ghost use Rattle.match_rules.specs.Ways.{IsPlaceOf, is_after, is_same_place};
+ghost use Rattle.match_rules.specs.Ways.{IsPlaceOf, line_at, is_after, is_same_place};
 ghost use Rattle.pattern_match.specs.OnText.{IsFoundOn};
 ghost use Rattle.ex_substitute.specs.Answers.{Gives};
 ghost use Rattle.ex_substitute.specs.Searching as searching;
@@ -92,14 +92,17 @@ pub(crate) struct Trying<'a> {
 }
 
 impl<'a> Trying<'a> {
-    /// Tries the pattern at a place.
+    /// Tries the pattern at a place, whose line this is. An attempt that is sure to be in vain is
+    /// passed over.
     fn tried<T: Lines>(
         &self,
         scratch: &mut Scratch<'a>,
         lines: &T,
+        line: &[char],
         p: Place,
     ) -> Result<Option<Match>, Refusal>
         requires present { p.line < length (T.lines lines.now) }
+        requires line { line.now ≡ line_at (T.lines lines.now) p.line }
         requires place { IsPlaceOf (T.lines lines.now) p }
         requires budget { 1 ≤ self.now.budget }
         ensures found { Gives result (spec.tried (trial_in (T.lines lines.now) self.now) p) }
@@ -112,6 +115,9 @@ impl<'a> Trying<'a> {
             sets: self.sets,
             externals: self.externals,
         };
+        if command.is_vain(line, p.col, &context, self.budget) {
+            return Ok(None);
+        }
         let told = command.attempt(scratch, self.alloc, lines, &context, p, self.budget)?;
         let found = told_at(p, told)?;
         Ok(found)
@@ -133,10 +139,11 @@ impl<'a> Trying<'a> {
         ensures on_text { IfOk result (λ found.
             IfSome found (IsFoundOn (T.lines lines.now))) }
     {
-        let end = lines.line(line).len() + 1;
+        let chars = lines.line(line);
+        let end = chars.len() + 1;
         for at in col..end {
             let p = Place { line, col: at };
-            let found = self.tried(scratch, lines, p)?;
+            let found = self.tried(scratch, lines, chars, p)?;
             if wanted.counts(p, &found) {
                 return Ok(found);
             }
