@@ -16,7 +16,7 @@ use Rattle.paint_marks.specs.Naming.{MarksOfGroups}
 use Rattle.conceal_view.specs.declared.marks.Mark.{Mark}
 use Rattle.conceal_view.specs.Marks.{concealed_areas, concealed_body, groups_to_mark, marks_for, marks_from, marks_of, matchgroups_in, matchgroups_of, number_behind, number_in}
 use Rattle.conceal_view.specs.Marking.{marked_from}
-use Rattle.conceal_view.specs.NoMarks.{AddedHasNoMarks, HaveNoMarks, IsNoMark, KindHasNoMarks, PatternHasNoMark}
+use Rattle.syntax_set.specs.NoMarks.{AddedHasNoMarks, HaveNoMarks, IsNoMark, KindHasNoMarks, PatternHasNoMark}
 use Rattle.conceal_view.specs.View.{AreNumbered}
 
 -- Groups that are marked are no marks themselves

@@ -11,7 +11,7 @@ use Rattle.paint_marks.proofs.TextLaws.{spans_are_alike}
 use Rattle.conceal_view.specs.MarkedPaintings.{AllowTheSame, ListsHaveTheSame, MarkedPaintingsAreTheOldOnes, MarkedRulesAreMarked, marked_rules}
 use Rattle.conceal_view.specs.Marks.{marks_of}
 use Rattle.conceal_view.specs.Marking.{marked_items, marked_lists, marks_by_group, old_groups}
-use Rattle.conceal_view.specs.NoMarks.{HaveNoMarks}
+use Rattle.syntax_set.specs.NoMarks.{HaveNoMarks}
 use Rattle.conceal_view.proofs.MarkLaws.{as_many_items, marks_are_numbered}
 use Rattle.conceal_view.proofs.NamedLaws.{clusters_name_alike, items_name_alike, list_names_alike}
 use Rattle.conceal_view.proofs.OldLaws.{items_back, old_of_mark, old_of_other}

@@ -23,7 +23,7 @@ use Rattle.paint_marks.proofs.BesideLaws.{clusters_with_marks, lists_with_marks}
 use Rattle.conceal_view.specs.declared.marks.Mark.{Mark}
 use Rattle.conceal_view.specs.Marks.{number_behind}
 use Rattle.conceal_view.specs.Marking.{in_marks, marked_from, marks_by_group, old_groups, shown_by, with_marks_named}
-use Rattle.conceal_view.specs.NoMarks.{AddedHasNoMarks, ClusterHasNoMarks, EntryIsNoMark, ItemHasNoMarks, ListHasNoMarks}
+use Rattle.syntax_set.specs.NoMarks.{AddedHasNoMarks, ClusterHasNoMarks, EntryIsNoMark, ItemHasNoMarks, ListHasNoMarks}
 use Rattle.conceal_view.specs.View.{AreNumbered, mark_of}
 use Rattle.conceal_view.proofs.BlockLaws.{none_below, numbers_behind}
 

@@ -21,7 +21,7 @@ use Rattle.paint_marks.specs.OldGroups.{OldGroups, unmarked_kind, unmarked_patte
 use Rattle.conceal_view.specs.declared.marks.Mark.{Mark}
 use Rattle.conceal_view.specs.Marks.{concealed_areas, concealed_body, groups_to_mark, marks_for, marks_from, number_behind}
 use Rattle.conceal_view.specs.Marking.{in_mark, in_marks, marked_from, marked_kind, marked_pattern, old_groups, shown_by, with_marks_named}
-use Rattle.conceal_view.specs.NoMarks.{AddedHasNoMarks, IsNoMark, ItemHasNoMarks, KindHasNoMarks, PatternHasNoMark}
+use Rattle.syntax_set.specs.NoMarks.{AddedHasNoMarks, IsNoMark, ItemHasNoMarks, KindHasNoMarks, PatternHasNoMark}
 use Rattle.conceal_view.specs.View.{AreNumbered}
 use Rattle.conceal_view.proofs.BlockLaws.{found_at, none_below}
 

@@ -2,7 +2,6 @@
 pub mod Cells
 pub mod View
 -- a marked syntax
-pub mod NoMarks
 pub mod Marks
 pub mod Marking
 -- what the laws say

@@ -14,7 +14,7 @@ use Rattle.paint_marks.specs.Marked.{AreMarked}
 use Rattle.paint_marks.specs.Naming.{marked_list}
 use Rattle.conceal_view.specs.Marks.{marks_of}
 use Rattle.conceal_view.specs.Marking.{marked_items, marked_lists, marks_of_groups, old_groups}
-use Rattle.conceal_view.specs.NoMarks.{HaveNoMarks, ListHasNoMarks}
+use Rattle.syntax_set.specs.NoMarks.{HaveNoMarks, ListHasNoMarks}
 
 -- the same items may start in each container, or on the empty stack
 abbrev pub AllowTheSame : List AddedItem → List ClusterList → List AddedItem → List ClusterList → Type 0

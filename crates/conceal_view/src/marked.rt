@@ -3,7 +3,7 @@ ghost use Rattle.std.specs.Prelude.{◌≡◌, ◌<◌, All, length, IfOk};
 ghost use Rattle.conceal_view.specs.MarkedPaintings.{AllowTheSame, ListsHaveTheSame};
 ghost use Rattle.conceal_view.specs.Marking.{marked_clusters, marked_items};
 ghost use Rattle.conceal_view.specs.Marks.{marks_of};
-ghost use Rattle.conceal_view.specs.NoMarks.{HaveNoMarks};
+ghost use Rattle.syntax_set.specs.NoMarks.{HaveNoMarks};
 ghost use Rattle.conceal_view.specs.View.{AreNumbered};
 
 use crate::Mark;

@@ -16,3 +16,7 @@ pub mod Behind
 pub mod SoundContents
 pub mod SoundItems
 pub mod SoundRuns
+pub mod NoMarkNames
+pub mod NoMarkLists
+pub mod NoMarkItems
+pub mod NoMarkRuns

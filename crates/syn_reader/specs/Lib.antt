@@ -15,6 +15,7 @@ pub mod Commands
 pub mod SyntaxOf
 pub mod Soundness
 pub mod Follows
+pub mod Laws
 -- what the code and proofs alone cite
 pub mod SyntaxCode
 pub mod SoundReading

@@ -14,6 +14,7 @@ mod entries;
 mod files;
 mod highlight;
 mod includes;
+mod laws;
 mod lists;
 mod names;
 mod names_pattern;
@@ -25,5 +26,6 @@ mod syntax;
 mod syntax_of;
 
 pub use files::MOST_SYNTAX_BYTES;
+pub use laws::read_syntaxes_name_no_marks;
 pub use syntax::{ReadError, ReadOptions, Syntax};
 pub use syntax_of::read_syntax;

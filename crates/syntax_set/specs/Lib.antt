@@ -7,6 +7,7 @@ pub mod Items
 pub mod Membership
 pub mod Allowed
 pub mod Soundness
+pub mod NoMarks
 -- what the code and proofs alone cite
 pub mod GroupEntries
 pub mod Reached

@@ -1,5 +1,5 @@
 -- Syntaxes that name no marks: each group that an item, a pattern, a list or a cluster names is below
--- 20,000.
+-- 20,000, as many as there are at most. Who marks items uses the numbers behind.
 use Rattle.std.specs.Prelude.{◌<◌, List}
 use Rattle.std.specs.List.{All}
 use Rattle.std.specs.Option.{ForSome}
