@@ -4,7 +4,12 @@ pub mod AnswerLaws
 pub mod TryLaws
 pub mod DeleteLaws
 pub mod SearchLaws
+pub mod OrderLaws
 pub mod PenLaws
+pub mod WholeLaws
 pub mod CountLaws
 pub mod ChangeLaws
+pub mod FitLaws
+pub mod RisingLaws
+pub mod OthersLaws
 pub mod TreeLaws

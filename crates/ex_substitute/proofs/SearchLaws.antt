@@ -81,7 +81,7 @@ pub record Stands (t : Trial) (scope : Scope) (all : Result (List Match) ExError
   pub all_found : joined_to found (found_from t scope room end at) ≡ all
 
 -- what is found from a place on, by its first match
-abbrev after_first : Trial → Scope → ℕ → Result (Option Match) ExError → Result (List Match) ExError
+abbrev pub after_first : Trial → Scope → ℕ → Result (Option Match) ExError → Result (List Match) ExError
 after_first t scope room told = told >>= λ found. elim found [
   | None ↦ Ok []
   | Some m ↦ (found_from t scope room (Some m.to) (next_after t.x.text scope m) >>= λ more. Ok (m ∷ more))

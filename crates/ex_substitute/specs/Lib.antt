@@ -14,6 +14,8 @@ pub mod Putting
 pub mod Changes
 pub mod Deleting
 pub mod Applying
+pub mod Fitting
+pub mod Laws
 -- what only code and proofs cite
 pub mod CommandCode
 pub mod CommandsRead

@@ -1,7 +1,9 @@
 //! Commands, applied to a text.
-ghost use Rattle.std.specs.Prelude.{◌≡◌, ◌<◌, ◌≤◌, length};
+ghost use Rattle.std.specs.Prelude.{◌≡◌, ◌<◌, ◌≤◌, length, IfOk};
 ghost use Rattle.ex_substitute.specs.Answers.{Answers, Gives};
 ghost use Rattle.ex_substitute.specs.Applying.{applied, done_by};
+ghost use Rattle.ex_substitute.specs.Counting.{is_counted};
+ghost use Rattle.ex_substitute.specs.Fitting.{FitsText};
 ghost use Rattle.ex_substitute.specs.Trials.{trial_in};
 ghost use Rattle.ex_substitute.specs.UsualSets.{usual_sets};
 
@@ -20,7 +22,8 @@ impl ExCommand {
     /// What the command makes of the lines from `a` up to, and without, `b`, both from 0. Of several
     /// causes the first attempt that costs more than `budget` comes first, then that there is no match,
     /// then too many lines in the text, then a new line that is too long (`:s`, `:g`, `:v`; the limits
-    /// are this profile's).
+    /// are this profile's). The change fits the text: it is one of its lines and leaves at least one, and
+    /// no more than a text has unless matches are counted alone.
     pub fn apply<T: Lines>(
         &self,
         alloc: Global,
@@ -32,7 +35,8 @@ impl ExCommand {
         requires order { a < b }
         requires within { b ≤ length (T.lines lines.now) }
         requires budget { 1 ≤ budget }
-        ensures { Answers result (applied self.now (T.lines lines.now) a b budget) }
+        ensures made { Answers result (applied self.now (T.lines lines.now) a b budget) }
+        ensures fits { IfOk result (FitsText (T.lines lines.now) (is_counted self.now.action)) }
     {
         match change_of(alloc, self, lines, a, b, budget) {
             Ok(change) => Ok(change),
