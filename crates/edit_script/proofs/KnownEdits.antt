@@ -1,6 +1,6 @@
 -- Commands, and what they do to texts.
 use Rattle.std.proofs.Common.{◌≡◌, ◌≤◌, ℕ, List, [], ◌∷◌, refl, arith}
-use Rattle.std.specs.Prelude.{codes, Option, Some, None, Result, Ok, Err}
+use Rattle.std.specs.Prelude.{codes, Ok, Err}
 use Rattle.std.proofs.lemmas.Bool.Decides.{nat_tests}
 use Rattle.edit_script.specs.declared.commands.EditCommand.{EditCommand}
 use Rattle.edit_script.specs.declared.commands.Last.{Last}
@@ -9,8 +9,8 @@ use Rattle.edit_script.specs.declared.commands.Resolved.TheVariants as does
 use Rattle.edit_script.specs.declared.commands.ResolveError.{ResolveError}
 use Rattle.edit_script.specs.declared.commands.ResolveError.TheVariants.{NoLine, Backwards, MoveIntoSelf, TooManyLines}
 use Rattle.edit_script.specs.declared.commands.Verb.{Verb}
-use Rattle.edit_script.specs.declared.commands.Verb.TheVariants.{Append, Insert, Change, Delete, Move, CopyTo, Print, Page, Folds, Syntax}
-use Rattle.edit_script.specs.Edits.{Replacement, edit_of, replaced, resolved_of}
+use Rattle.edit_script.specs.declared.commands.Verb.TheVariants.{Append, Insert, Change, Delete, Move, CopyTo, Print, Ex, Page, Folds, Syntax}
+use Rattle.edit_script.specs.Edits.{lines_become, moved, put_in_place, replaced, resolved_of}
 
 abbrev of : Last → Last → Verb → EditCommand
 of first last verb = record { first = first; last = last; verb = verb; lines = [] }
@@ -90,6 +90,19 @@ a_syntax_in_a_full_text = refl
 lines_printed : resolved_of (of (Number 2) End Print) 3 ≡ Ok (does.Print 1 3)
 lines_printed = refl
 
+lines_by_pattern : (text : List ℕ) → resolved_of (of (Number 2) End (Ex text)) 3 ≡ Ok (does.Ex 1 3)
+lines_by_pattern text = refl
+
+-- its range is looked at before what it says
+line_0_by_pattern : (text : List ℕ) → resolved_of (at 0 (Ex text)) 3 ≡ Err (NoLine 0)
+line_0_by_pattern text = refl
+
+backwards_by_pattern : (text : List ℕ) → resolved_of (of (Number 3) (Number 2) (Ex text)) 3 ≡ Err Backwards
+backwards_by_pattern text = refl
+
+by_pattern_in_a_full_text : (text : List ℕ) → resolved_of (of (Number 1) End (Ex text)) 2000000 ≡ Ok (does.Ex 0 2000000)
+by_pattern_in_a_full_text text = refl
+
 one_line_too_many : resolved_of (with 1 Append (codes "x" ∷ [])) 2000000 ≡ Err TooManyLines
 one_line_too_many = refl
 
@@ -116,45 +129,27 @@ c = codes "c"
 abbrev three : List (List ℕ)
 three = a ∷ b ∷ c ∷ []
 
-abbrev replaces : ℕ → ℕ → List (List ℕ) → Result (Option Replacement) ResolveError
-replaces from to new = Ok (Some (record { a = from; b = to; new = new }))
-
 -- a text left without lines is one empty line
-nothing_left : edit_of three (of (Number 1) End Delete) ≡ replaces 0 3 ([] ∷ [])
+nothing_left : put_in_place three 0 3 [] ≡ lines_become 0 3 ([] ∷ [])
 nothing_left = refl
 
-nothing_in_place_of_all : edit_of three (of (Number 1) End Change) ≡ replaces 0 3 ([] ∷ [])
-nothing_in_place_of_all = refl
-
-one_line_less : edit_of three (at 2 Delete) ≡ replaces 1 2 []
+one_line_less : put_in_place three 1 2 [] ≡ lines_become 1 2 []
 one_line_less = refl
 
-nothing_put : edit_of three (at 1 Append) ≡ replaces 1 1 []
+nothing_put : put_in_place three 1 1 [] ≡ lines_become 1 1 []
 nothing_put = refl
 
-moved_down : edit_of three (at 1 (Move End)) ≡ replaces 0 3 (b ∷ c ∷ a ∷ [])
+moved_down : moved three 0 1 3 ≡ lines_become 0 3 (b ∷ c ∷ a ∷ [])
 moved_down = refl
 
-moved_up : edit_of three (at 3 (Move (Number 1))) ≡ replaces 1 3 (c ∷ b ∷ [])
+moved_up : moved three 2 3 1 ≡ lines_become 1 3 (c ∷ b ∷ [])
 moved_up = refl
 
-stays_behind_the_line_before : edit_of three (of (Number 2) (Number 3) (Move (Number 1))) ≡ replaces 1 1 []
+stays_behind_the_line_before : moved three 1 3 1 ≡ lines_become 1 1 []
 stays_behind_the_line_before = refl
 
-stays_behind_its_last_line : edit_of three (of (Number 1) (Number 2) (Move (Number 2))) ≡ replaces 0 0 []
+stays_behind_its_last_line : moved three 0 2 2 ≡ lines_become 0 0 []
 stays_behind_its_last_line = refl
-
-copied : edit_of three (of (Number 1) (Number 2) (CopyTo (Number 3))) ≡ replaces 3 3 (a ∷ b ∷ [])
-copied = refl
-
-printed : edit_of three (of (Number 1) (Number 2) Print) ≡ Ok None
-printed = refl
-
-folded : edit_of three (of End End Folds) ≡ Ok None
-folded = refl
-
-under_another_syntax : edit_of three (of End End (Syntax (codes "s2"))) ≡ Ok None
-under_another_syntax = refl
 
 swapped : replaced three (record { a = 1; b = 3; new = c ∷ b ∷ [] }) ≡ a ∷ c ∷ b ∷ []
 swapped = refl

@@ -1,5 +1,5 @@
 -- Scripts, and what stands in them.
-use Rattle.std.proofs.Common.{◌≡◌, ◌<◌, ℕ, List, [], ◌∷◌, ◌++◌, length, refl, ap}
+use Rattle.std.proofs.Common.{◌≡◌, ◌<◌, ℕ, List, [], ◌∷◌, ◌++◌, length, false, refl, ap}
 use Rattle.std.specs.Prelude.{codes, Some, Ok, Err}
 use Rattle.std.specs.Str.{chars, is_utf8, IsUtf8}
 use Rattle.std.proofs.Math.Utf8.{encode}
@@ -9,7 +9,7 @@ use Rattle.edit_script.specs.declared.commands.Last.TheVariants.{Number, End}
 use Rattle.edit_script.specs.declared.commands.ScriptFault.{ScriptFault}
 use Rattle.edit_script.specs.declared.commands.ScriptFault.TheVariants.{BadCommand, BadAddress, UnfinishedText, BadUtf8, LongLine}
 use Rattle.edit_script.specs.declared.commands.Verb.{Verb}
-use Rattle.edit_script.specs.declared.commands.Verb.TheVariants.{Append, Insert, Change, Delete, Move, CopyTo, Print, Page, Folds, Syntax}
+use Rattle.edit_script.specs.declared.commands.Verb.TheVariants.{Append, Insert, Change, Delete, Move, CopyTo, Print, Ex, Page, Folds, Syntax}
 use Rattle.edit_script.specs.CommandLine.{alone, head_of, line_head, with_chars}
 use Rattle.edit_script.specs.Entries.{broken, entries_at_end, entries_of, kept_of}
 use Rattle.edit_script.proofs.TextLaws.{long_line}
@@ -75,6 +75,20 @@ a_name_is_characters : all ((codes "S " ++ 195 ∷ 169 ∷ []) ∷ []) ≡ told 
 unfolding chars encode is_utf8
 a_name_is_characters = refl
 
+-- a command by pattern is all that follows its range, a space and a further slash too
+by_pattern : all (codes "%s/a/b/g" ∷ codes "2,$g/x /d" ∷ codes "1v//" ∷ codes "$s/" ∷ [])
+    ≡ told 0 (Number 1) End (Ex (codes "s/a/b/g")) [] ∷ told 1 (Number 2) End (Ex (codes "g/x /d")) [] ∷ told 2 (Number 1) (Number 1) (Ex (codes "v//")) [] ∷ told 3 End End (Ex (codes "s/")) [] ∷ []
+unfolding chars encode is_utf8
+by_pattern = refl
+
+every_pattern : (text : List ℕ) → head_of (codes "1g/" ++ text) ≡ Some (record { takes_text = false; order = Some (record { first = Number 1; last = Number 1; verb = Ex (codes "g/" ++ text) }) })
+every_pattern text = refl
+
+-- it takes no text: what stands in the next line is a command
+by_pattern_without_text : all (codes "1s/a/b/" ∷ codes "." ∷ []) ≡ told 0 (Number 1) (Number 1) (Ex (codes "s/a/b/")) [] ∷ refused 1 BadCommand ∷ []
+unfolding chars encode is_utf8
+by_pattern_without_text = refl
+
 the_last_line : all (codes "$i" ∷ codes "x" ∷ codes "." ∷ codes "1,$t$" ∷ [])
     ≡ told 0 End End Insert (codes "x" ∷ []) ∷ told 3 (Number 1) End (CopyTo End) [] ∷ []
 unfolding chars encode is_utf8
@@ -133,6 +147,16 @@ no_syntax_without_a_name : all (codes "S" ∷ codes "S " ∷ codes "1S x" ∷ co
     ≡ refused 0 BadCommand ∷ refused 1 BadCommand ∷ refused 2 BadCommand ∷ refused 3 BadCommand ∷ refused 4 BadCommand ∷ refused 5 BadCommand ∷ refused 6 BadCommand ∷ refused 7 BadCommand ∷ []
 unfolding chars encode is_utf8
 no_syntax_without_a_name = refl
+
+-- neither without a range, nor with another delimiter or letter
+no_pattern_without_its_slash : all (codes "s/a/b/" ∷ codes "1s" ∷ codes "%s#a#b#" ∷ codes "1g x/d" ∷ codes "1x/a/" ∷ codes "1d/a/" ∷ codes "1 s/a/b/" ∷ codes "1,2,s/a/b/" ∷ [])
+    ≡ refused 0 BadCommand ∷ refused 1 BadCommand ∷ refused 2 BadCommand ∷ refused 3 BadCommand ∷ refused 4 BadCommand ∷ refused 5 BadCommand ∷ refused 6 BadCommand ∷ refused 7 BadCommand ∷ []
+unfolding chars encode is_utf8
+no_pattern_without_its_slash = refl
+
+bad_address_by_pattern : all (codes "0000000000000000001s/a/b/" ∷ codes "0000000000000000001s" ∷ []) ≡ refused 0 BadAddress ∷ refused 1 BadCommand ∷ []
+unfolding chars encode is_utf8
+bad_address_by_pattern = refl
 
 -- what is no command takes no text
 no_command_no_text : all (codes "1,2a" ∷ codes "1d" ∷ codes "." ∷ [])

@@ -3,7 +3,7 @@ use Rattle.std.proofs.Common.{◌≡◌, ℕ, ◌-◌, ◌<◌, ◌≤◌, Bool,
 use Rattle.std.specs.Prelude.{nat_le, nat_lt, ◌&&◌}
 use Rattle.std.proofs.lemmas.Bool.{le-leb, ltb-false}
 use Rattle.edit_script.specs.declared.commands.Verb.{Verb}
-use Rattle.edit_script.specs.declared.commands.Verb.TheVariants.{Append, Insert, Change, Delete, Move, CopyTo, Print, Page, Folds, Syntax}
+use Rattle.edit_script.specs.declared.commands.Verb.TheVariants.{Append, Insert, Change, Delete, Move, CopyTo, Print, Ex, Page, Folds, Syntax}
 use Rattle.edit_script.specs.Edits.{IsWithin, least_line}
 use Rattle.edit_script.specs.Resolving.{is_into_self, resolved_at}
 
@@ -24,6 +24,7 @@ lies_within Delete first last dest count least range within to none = (omega ari
 lies_within (Move line) first last dest count least range within to none = (omega arith, within, to, outside_self first last dest least none)
 lies_within (CopyTo line) first last dest count least range within to none = (omega arith, within, to)
 lies_within Print first last dest count least range within to none = (omega arith, within)
+lies_within (Ex text) first last dest count least range within to none = (omega arith, within)
 lies_within Page first last dest count least range within to none = tt
 lies_within Folds first last dest count least range within to none = tt
 lies_within (Syntax name) first last dest count least range within to none = tt

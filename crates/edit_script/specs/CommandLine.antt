@@ -1,8 +1,9 @@
 -- The line of a command: `H`; `F`; `S`, one space and the name of a syntax file, which goes up to
--- the line's end; or a range, the letter of a verb and for `m` and `t` one address more, with
--- nothing behind. Before `a` and `i` stands one address. The form is asked for first, with addresses
--- of any number of digits.
-use Rattle.std.specs.Prelude.{ℕ, ◌==◌, nat_lt, not, ◌&&◌, Bool, true, false, List, [], ◌∷◌, length, codes, Option, Some, None, Result, Ok, Err, option_map, if◌then◌else◌}
+-- the line's end; a range and `s/`, `g/` or `v/`, which begin a command by pattern, up to the line's
+-- end too; or a range, the letter of a verb and for `m` and `t` one address more, with nothing
+-- behind. Before `a` and `i` stands one address. The form is asked for first, with addresses of any
+-- number of digits.
+use Rattle.std.specs.Prelude.{ℕ, ◌==◌, nat_lt, not, ◌&&◌, ◌||◌, Bool, true, false, List, [], ◌∷◌, length, codes, Option, Some, None, Result, Ok, Err, option_map, if◌then◌else◌}
 use Rattle.std.specs.Str.{bytes_eq, chars, is_utf8}
 use Rattle.text_buffer.specs.TextOfBytes.{most_chars}
 use Rattle.edit_script.specs.declared.commands.Last.{Last}
@@ -66,9 +67,20 @@ verb_behind range (c ∷ cs) =
     else if c == 116 then at_destination range does.CopyTo (destination cs)
     else None
 
+-- whether a command by pattern stands there: `s`, `g` or `v`, which are 115, 103 and 118, and `/`, which is 47
+abbrev pub is_by_pattern : List ℕ → Bool
+is_by_pattern [] = false
+is_by_pattern (letter ∷ []) = false
+is_by_pattern (letter ∷ c ∷ cs) = (letter == 115 || letter == 103 || letter == 118) && c == 47
+
+-- a command by pattern has all that follows its range, from the letter on
+abbrev pub pattern_or_verb : Range → List ℕ → Option Head
+pattern_or_verb range text =
+    if is_by_pattern text then ended range false (does.Ex text) [] else verb_behind range text
+
 abbrev pub with_range : Option (Range × List ℕ) → Option Head
 with_range None = None
-with_range (Some found) = verb_behind found.0 found.1
+with_range (Some found) = pattern_or_verb found.0 found.1
 
 abbrev pub ranged : List ℕ → Option Head
 ranged text = with_range (range_at text)

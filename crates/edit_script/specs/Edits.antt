@@ -6,7 +6,7 @@ use Rattle.text_buffer.specs.TextOfBytes.{most_lines}
 use Rattle.edit_script.specs.declared.commands.Last.{Last}
 use Rattle.edit_script.specs.declared.commands.Last.TheVariants.{Number, End}
 use Rattle.edit_script.specs.declared.commands.Verb.{Verb}
-use Rattle.edit_script.specs.declared.commands.Verb.TheVariants.{Append, Insert, Change, Delete, Move, CopyTo, Print, Page, Folds, Syntax}
+use Rattle.edit_script.specs.declared.commands.Verb.TheVariants.{Append, Insert, Change, Delete, Move, CopyTo, Print, Ex, Page, Folds, Syntax}
 use Rattle.edit_script.specs.declared.commands.EditCommand.{EditCommand}
 use Rattle.edit_script.specs.declared.commands.Resolved.{Resolved}
 use Rattle.edit_script.specs.declared.commands.Resolved.TheVariants as does
@@ -62,11 +62,12 @@ does_of Delete first last count = does.Replace (first - 1) last
 does_of (Move to) first last count = does.Move (first - 1) last (line_named to count)
 does_of (CopyTo to) first last count = does.CopyTo (first - 1) last (line_named to count)
 does_of Print first last count = does.Print (first - 1) last
+does_of (Ex text) first last count = does.Ex (first - 1) last
 does_of Page first last count = does.Page
 does_of Folds first last count = does.Folds
 does_of (Syntax name) first last count = does.Syntax
 
--- a text of so many lines would have too many afterwards
+-- a text of so many lines would have too many afterwards; of a command by pattern its application tells
 abbrev pub too_many : ℕ → Option ResolveError
 too_many lines = if nat_lt most_lines lines then Some TooManyLines else None
 
@@ -75,6 +76,7 @@ too_many_lines (does.Replace a b) new count = too_many (count - (b - a) + new)
 too_many_lines (does.Move a b dest) new count = too_many count
 too_many_lines (does.CopyTo a b dest) new count = too_many (count + (b - a))
 too_many_lines (does.Print a b) new count = None
+too_many_lines (does.Ex a b) new count = None
 too_many_lines does.Page new count = None
 too_many_lines does.Folds new count = None
 too_many_lines does.Syntax new count = None
@@ -108,6 +110,7 @@ IsWithin (does.Replace a b) count = (a ≤ b) × (b ≤ count)
 IsWithin (does.Move a b dest) count = (a < b) × (b ≤ count) × (dest ≤ count) × (a < dest → b ≤ dest)
 IsWithin (does.CopyTo a b dest) count = (a < b) × (b ≤ count) × (dest ≤ count)
 IsWithin (does.Print a b) count = (a < b) × (b ≤ count)
+IsWithin (does.Ex a b) count = (a < b) × (b ≤ count)
 IsWithin does.Page count = Unit {0}
 IsWithin does.Folds count = Unit {0}
 IsWithin does.Syntax count = Unit {0}
@@ -136,27 +139,6 @@ moved text a b dest =
     if nat_lt dest a then lines_become dest b (slice_range text a b ++ slice_range text dest a)
     else if nat_lt b dest then lines_become a dest (slice_range text b dest ++ slice_range text a b)
     else lines_become a a []
-
--- the replacement of the lines of a text, where the command is an edit
-abbrev pub replacement : List (List ℕ) → Resolved → List (List ℕ) → Option Replacement
-replacement text (does.Replace a b) new = Some (put_in_place text a b new)
-replacement text (does.Move a b dest) new = Some (moved text a b dest)
-replacement text (does.CopyTo a b dest) new = Some (lines_become dest dest (slice_range text a b))
-replacement text (does.Print a b) new = None
-replacement text does.Page new = None
-replacement text does.Folds new = None
-replacement text does.Syntax new = None
-
-abbrev pub replacement_or_cause :
-    List (List ℕ) → Result Resolved ResolveError → List (List ℕ)
-    → Result (Option Replacement) ResolveError
-replacement_or_cause text (Ok resolved) new = Ok (replacement text resolved new)
-replacement_or_cause text (Err cause) new = Err cause
-
--- what a command does to a text, which has at least one line: a replacement, nothing, or the first
--- cause against it
-abbrev pub edit_of : List (List ℕ) → EditCommand → Result (Option Replacement) ResolveError
-edit_of text command = replacement_or_cause text (resolved_of command (length text)) command.lines
 
 -- the text behind a replacement
 abbrev pub replaced : List (List ℕ) → Replacement → List (List ℕ)

@@ -2,7 +2,7 @@
 use Rattle.std.specs.Prelude.{ℕ, ◌+◌, ◌-◌, nat_le, nat_lt, Bool, true, false, ◌&&◌, Option, Some, None}
 use Rattle.text_buffer.specs.TextOfBytes.{most_lines}
 use Rattle.edit_script.specs.declared.commands.Verb.{Verb}
-use Rattle.edit_script.specs.declared.commands.Verb.TheVariants.{Append, Insert, Change, Delete, Move, CopyTo, Print, Page, Folds, Syntax}
+use Rattle.edit_script.specs.declared.commands.Verb.TheVariants.{Append, Insert, Change, Delete, Move, CopyTo, Print, Ex, Page, Folds, Syntax}
 use Rattle.edit_script.specs.declared.commands.Resolved.{Resolved}
 use Rattle.edit_script.specs.declared.commands.Resolved.TheVariants as does
 use Rattle.edit_script.specs.declared.commands.ResolveError.{ResolveError}
@@ -27,6 +27,7 @@ resolved_at Delete first last dest = does.Replace (first - 1) last
 resolved_at (Move to) first last dest = does.Move (first - 1) last dest
 resolved_at (CopyTo to) first last dest = does.CopyTo (first - 1) last dest
 resolved_at Print first last dest = does.Print (first - 1) last
+resolved_at (Ex text) first last dest = does.Ex (first - 1) last
 resolved_at Page first last dest = does.Page
 resolved_at Folds first last dest = does.Folds
 resolved_at (Syntax name) first last dest = does.Syntax

@@ -9,8 +9,8 @@ pub enum Last {
     End,
 }
 
-/// What a command does (`:append`, `:insert`, `:change`, `:delete`, `:move`, `:copy`). In a script
-/// these are `a`, `i`, `c`, `d`, `m`, `t`, `p`, `H`, `F` and `S`.
+/// What a command does (`:append`, `:insert`, `:change`, `:delete`, `:move`, `:copy`, `:s`, `:g`,
+/// `:v`). In a script these are `a`, `i`, `c`, `d`, `m`, `t`, `p`, `s`, `g`, `v`, `H`, `F` and `S`.
 #[derive(Drop)]
 pub enum Verb {
     /// Puts the text behind the line.
@@ -26,6 +26,8 @@ pub enum Verb {
     CopyTo(Last),
     /// Prints the spans of the lines.
     Print,
+    /// A command by pattern (`:s`, `:g`, `:v`), from its letter on; it begins with `s/`, `g/` or `v/`.
+    Ex(List<char>),
     /// Prints the page.
     Page,
     /// Prints the folds of the text (`:syn-fold`).
@@ -80,6 +82,8 @@ pub enum Resolved {
     /// The lines come before line `dest` once more.
     CopyTo { a: usize, b: usize, dest: usize },
     Print { a: usize, b: usize },
+    /// The command by pattern is applied to the lines.
+    Ex { a: usize, b: usize },
     Page,
     Folds,
     /// The syntax of the file that the command names is put in force.

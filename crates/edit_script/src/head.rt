@@ -1,5 +1,5 @@
 //! The line of a command.
-ghost use Rattle.std.specs.Prelude.{◌≡◌, Some, None, IfOk, MatchOption};
+ghost use Rattle.std.specs.Prelude.{◌≡◌, false, [], Some, None, IfOk, MatchOption};
 ghost use Rattle.edit_script.specs.CommandLine as spec;
 
 use crate::addresses::{Range, address_at, range_at};
@@ -116,12 +116,32 @@ fn alone(verb: Verb) -> Head
     }
 }
 
-/// A range and its verb, up to the end of the line.
-fn ranged(text: &[char]) -> Option<Head>
-    ensures { result ≡ spec.ranged text.now }
+/// The command by pattern with these characters.
+fn by_pattern(alloc: Global, range: Range, text: &[char]) -> Result<Option<Head>, Memory>
+    ensures { IfOk result (λ head. head ≡ spec.ended range false (spec.does.Ex text.now) []) }
 {
-    let (range, rest) = range_at(text)?;
-    verb_behind(range, rest)
+    let verb = Verb::Ex(List::from_slice(alloc, text)?);
+    Ok(ended(range, false, verb, &[]))
+}
+
+/// What stands behind a range, up to the end of the line.
+fn pattern_or_verb(alloc: Global, range: Range, text: &[char]) -> Result<Option<Head>, Memory>
+    ensures { IfOk result (λ head. head ≡ spec.pattern_or_verb range text.now) }
+{
+    match text {
+        ['s' | 'g' | 'v', '/', ..] => by_pattern(alloc, range, text),
+        _ => Ok(verb_behind(range, text)),
+    }
+}
+
+/// A range and its command, up to the end of the line.
+fn ranged(alloc: Global, text: &[char]) -> Result<Option<Head>, Memory>
+    ensures { IfOk result (λ head. head ≡ spec.ranged text.now) }
+{
+    match range_at(text) {
+        Some((range, rest)) => pattern_or_verb(alloc, range, rest),
+        None => Ok(None),
+    }
 }
 
 /// The name of a syntax file behind `S` and one space. It isn't empty.
@@ -151,7 +171,7 @@ pub(crate) fn head_of(alloc: Global, text: &[char]) -> Result<Option<Head>, Memo
         ['F'] => Ok(Some(alone(Verb::Folds))),
         _ => match syntax_name(text) {
             Some(name) => Ok(Some(with_syntax(alloc, name)?)),
-            None => Ok(ranged(text)),
+            None => ranged(alloc, text),
         },
     }
 }

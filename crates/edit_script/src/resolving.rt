@@ -70,6 +70,7 @@ fn does_of(verb: &Verb, first: usize, last: usize, dest: usize) -> Resolved
         Verb::Move(_) => Resolved::Move { a, b: last, dest },
         Verb::CopyTo(_) => Resolved::CopyTo { a, b: last, dest },
         Verb::Print => Resolved::Print { a, b: last },
+        Verb::Ex(_) => Resolved::Ex { a, b: last },
         Verb::Page => Resolved::Page,
         Verb::Folds => Resolved::Folds,
         Verb::Syntax(_) => Resolved::Syntax,
@@ -91,7 +92,7 @@ fn has_too_many_lines(resolved: Resolved, new: usize, count: usize) -> bool
         Resolved::Replace { a, b } => is_over(count.saturating_sub(b.saturating_sub(a)), new),
         Resolved::Move { .. } => is_over(count, 0),
         Resolved::CopyTo { a, b, .. } => is_over(count, b.saturating_sub(a)),
-        Resolved::Print { .. } | Resolved::Page | Resolved::Folds | Resolved::Syntax => false,
+        _ => false,
     }
 }
 

@@ -6,28 +6,37 @@ use Rattle.edit_script.specs.declared.commands.EditCommand.{EditCommand}
 use Rattle.edit_script.specs.declared.commands.Entry.{Entry}
 use Rattle.edit_script.specs.declared.commands.ResolveError.{ResolveError}
 use Rattle.edit_script.specs.declared.commands.Resolved.{Resolved}
-use Rattle.edit_script.specs.declared.commands.Resolved.TheVariants.{Replace, Move, CopyTo, Print, Page, Folds, Syntax}
+use Rattle.edit_script.specs.declared.commands.Resolved.TheVariants.{Replace, Move, CopyTo, Print, Ex, Page, Folds, Syntax}
 use Rattle.edit_script.specs.declared.commands.ScriptFault.{ScriptFault}
-use Rattle.edit_script.specs.Edits.{Replacement, moved, put_in_place, replaced, replacement_or_cause, resolved_of}
+use Rattle.edit_script.specs.Edits.{Replacement, moved, put_in_place, replaced, resolved_of}
+use Rattle.edit_session.specs.declared.changes.Substituted.{Substituted}
+use Rattle.edit_session.specs.declared.changes.Substituted.TheVariants.{Becomes, Counted}
 use Rattle.edit_session.specs.Laws.{AreCarriedOut, CommandGoesThrough, GoesThrough, IsCarriedOut, IsTaken}
 use Rattle.edit_session.specs.Painter.{Library, Painter, Painted}
-use Rattle.edit_session.specs.Session.{Standing, answers, does, entries_read, obeys, script_session, session, start, syntax_named, with_painter, with_painting, with_syntax}
+use Rattle.edit_session.specs.Session.{Standing, answers, change_in, change_or_words, does, entries_read, ex_text, obeys, script_session, session, start, substitutes, syntax_named, with_painter, with_painting, with_syntax}
 
 painted_well : (s : Standing) (line : ℕ) (r : Replacement) (painting : Result (List (List Span)) (List ℕ)) → IsOk painting → (with_painting s line r painting).stands.refused ≡ s.refused
 painted_well s line r (Ok spans) is = refl
 painted_well s line r (Err cause) is = absurd (cc)
 
-obeyed_well : (s : Standing) (line : ℕ) (lines : List (List ℕ)) (found : Result Resolved ResolveError) → GoesThrough s.painter s.painted.text (replacement_or_cause s.painted.text found lines) → (obeys s line lines found).stands.refused ≡ s.refused
-obeyed_well s line lines (Ok (Replace a b)) is =
-    let r = put_in_place s.painted.text a b lines in painted_well s line r (s.painter.paint (replaced s.painted.text r)) is
-obeyed_well s line lines (Ok (Move a b dest)) is =
+substituted_well : (s : Standing) (line : ℕ) (made : Result Substituted (List ℕ)) → GoesThrough s.painter s.painted.text (change_in made) → (substitutes s line made).stands.refused ≡ s.refused
+substituted_well s line (Ok (Becomes r)) is = painted_well s line r (s.painter.paint (replaced s.painted.text r)) is
+substituted_well s line (Ok (Counted count)) is = refl
+substituted_well s line (Err words) is = absurd is
+
+obeyed_well : (s : Standing) (line : ℕ) (command : EditCommand) (found : Result Resolved ResolveError) → GoesThrough s.painter s.painted.text (change_or_words s.painter s.painted.text command found) → (obeys s line command found).stands.refused ≡ s.refused
+obeyed_well s line command (Ok (Replace a b)) is =
+    let r = put_in_place s.painted.text a b command.lines in painted_well s line r (s.painter.paint (replaced s.painted.text r)) is
+obeyed_well s line command (Ok (Move a b dest)) is =
     let r = moved s.painted.text a b dest in painted_well s line r (s.painter.paint (replaced s.painted.text r)) is
-obeyed_well s line lines (Ok (CopyTo a b dest)) is = painted_well s line _ _ is
-obeyed_well s line lines (Ok (Print a b)) is = refl
-obeyed_well s line lines (Ok Page) is = refl
-obeyed_well s line lines (Ok Folds) is = refl
-obeyed_well s line lines (Ok Syntax) is = refl
-obeyed_well s line lines (Err misfit) is = absurd is
+obeyed_well s line command (Ok (CopyTo a b dest)) is = painted_well s line _ _ is
+obeyed_well s line command (Ok (Print a b)) is = refl
+obeyed_well s line command (Ok (Ex a b)) is =
+    substituted_well s line (s.painter.substitute s.painted.text a b (ex_text command.verb)) is
+obeyed_well s line command (Ok Page) is = refl
+obeyed_well s line command (Ok Folds) is = refl
+obeyed_well s line command (Ok Syntax) is = refl
+obeyed_well s line command (Err misfit) is = absurd is
 
 painted_by : (s : Standing) (line : ℕ) (q : Painter) (painting : Result (List (List Span)) (List ℕ)) → IsOk painting → (with_painter s line q painting).stands.refused ≡ s.refused
 painted_by s line q (Ok spans) is = refl
@@ -40,7 +49,7 @@ taken_well s line (Err words) is = absurd is
 done_well : (library : Library) (s : Standing) (line : ℕ) (command : EditCommand) (named : Option (List ℕ)) → CommandGoesThrough library s command named → (does library s line command named).stands.refused ≡ s.refused
 done_well library s line command (Some name) is = taken_well s line (library.reads name) is
 done_well library s line command None is =
-    obeyed_well s line command.lines (resolved_of command (length s.painted.text)) is
+    obeyed_well s line command (resolved_of command (length s.painted.text)) is
 
 answered_well : (library : Library) (s : Standing) (line : ℕ) (what : Result EditCommand ScriptFault) → IsCarriedOut library s what → (answers library s line what).stands.refused ≡ s.refused
 answered_well library s line (Ok command) is = done_well library s line command (syntax_named command.verb) is

@@ -5,15 +5,18 @@ use Rattle.std.proofs.lemmas.List.{length-append}
 use Rattle.syn_base.specs.declared.places.Span.{Span}
 use Rattle.syn_base.specs.Causes.{Rose}
 use Rattle.syn_base.specs.Outside.{AppendsPrefix, FileMap}
+use Rattle.edit_script.specs.declared.commands.EditCommand.{EditCommand}
 use Rattle.edit_script.specs.declared.commands.Resolved.{Resolved}
-use Rattle.edit_script.specs.declared.commands.Resolved.TheVariants.{Replace, Move, CopyTo, Print, Page, Folds, Syntax}
+use Rattle.edit_script.specs.declared.commands.Resolved.TheVariants.{Replace, Move, CopyTo, Print, Ex, Page, Folds, Syntax}
 use Rattle.edit_script.specs.Edits.{Replacement, moved, put_in_place, replaced}
+use Rattle.edit_session.specs.declared.changes.Substituted.{Substituted}
+use Rattle.edit_session.specs.declared.changes.Substituted.TheVariants.{Becomes, Counted}
 use Rattle.edit_session.specs.declared.commands.Harm.{Harm}
 use Rattle.edit_session.specs.declared.reading.End.{End}
 use Rattle.edit_session.specs.declared.reading.End.TheVariants.{Done, Refused, TooLong, Unread, Unfetched, Unwritten, Memory}
 use Rattle.edit_session.specs.Ends.{FilesChange, HasCause, MeetsLongs, SinkChange, SourceChange, Takes, TakesFew, files_change, sink_change, source_change}
 use Rattle.edit_session.specs.Painter.{Library}
-use Rattle.edit_session.specs.Session.{Answer, Standing, carries_out, most_bytes, with_painting}
+use Rattle.edit_session.specs.Session.{Answer, Standing, carries_out, ex_text, most_bytes, substitutes, with_painting}
 use Rattle.edit_session.specs.Steps.{Answers, AreCaused, GivesAnswer, GivesOrStops, HasTaken, KeepsHarm, ReachesEnd, StandsAt, TakesPiece, TakesPieces, TakesScript, end_of}
 use Rattle.edit_session.proofs.SessionLaws.{appended_nothing}
 use Rattle.edit_session.proofs.ReadingLaws.{takes_more, takes_nothing}
@@ -28,32 +31,46 @@ painted_unharmed : (s : Standing) (line : ℕ) (r : Replacement) (painting : Res
 painted_unharmed s line r (Ok spans) none = none
 painted_unharmed s line r (Err cause) none = absurd (cc)
 
-pub carries_unharmed : (s : Standing) (line : ℕ) (lines : List (List ℕ)) (resolved : Resolved) → (carries_out s line lines resolved).stands.refused ≡ false → s.refused ≡ false
-carries_unharmed s line lines (Replace a b) none =
-    let r = put_in_place s.painted.text a b lines in painted_unharmed s line r (s.painter.paint (replaced s.painted.text r)) none
-carries_unharmed s line lines (Move a b dest) none =
+substituted_unharmed : (s : Standing) (line : ℕ) (made : Result Substituted (List ℕ)) → (substitutes s line made).stands.refused ≡ false → s.refused ≡ false
+substituted_unharmed s line (Ok (Becomes r)) none = painted_unharmed s line r (s.painter.paint (replaced s.painted.text r)) none
+substituted_unharmed s line (Ok (Counted count)) none = none
+substituted_unharmed s line (Err words) none = absurd (cc)
+
+pub carries_unharmed : (s : Standing) (line : ℕ) (command : EditCommand) (resolved : Resolved) → (carries_out s line command resolved).stands.refused ≡ false → s.refused ≡ false
+carries_unharmed s line command (Replace a b) none =
+    let r = put_in_place s.painted.text a b command.lines in painted_unharmed s line r (s.painter.paint (replaced s.painted.text r)) none
+carries_unharmed s line command (Move a b dest) none =
     let r = moved s.painted.text a b dest in painted_unharmed s line r (s.painter.paint (replaced s.painted.text r)) none
-carries_unharmed s line lines (CopyTo a b dest) none = painted_unharmed s line _ _ none
-carries_unharmed s line lines (Print a b) none = none
-carries_unharmed s line lines Page none = none
-carries_unharmed s line lines Folds none = none
-carries_unharmed s line lines Syntax none = none
+carries_unharmed s line command (CopyTo a b dest) none = painted_unharmed s line _ _ none
+carries_unharmed s line command (Print a b) none = none
+carries_unharmed s line command (Ex a b) none =
+    substituted_unharmed s line (s.painter.substitute s.painted.text a b (ex_text command.verb)) none
+carries_unharmed s line command Page none = none
+carries_unharmed s line command Folds none = none
+carries_unharmed s line command Syntax none = none
 
 painted_meets_none : (s : Standing) (line : ℕ) (r : Replacement) (painting : Result (List (List Span)) (List ℕ)) → (with_painting s line r painting).stands.met_long ≡ s.met_long
 painted_meets_none s line r (Ok spans) = refl
 painted_meets_none s line r (Err cause) = refl
 
+substituted_meets_none : (s : Standing) (line : ℕ) (made : Result Substituted (List ℕ)) → (substitutes s line made).stands.met_long ≡ s.met_long
+substituted_meets_none s line (Ok (Becomes r)) = painted_meets_none s line r (s.painter.paint (replaced s.painted.text r))
+substituted_meets_none s line (Ok (Counted count)) = refl
+substituted_meets_none s line (Err words) = refl
+
 -- nor does it meet a file
-pub carries_meet_none : (s : Standing) (line : ℕ) (lines : List (List ℕ)) (resolved : Resolved) → (carries_out s line lines resolved).stands.met_long ≡ s.met_long
-carries_meet_none s line lines (Replace a b) =
-    let r = put_in_place s.painted.text a b lines in painted_meets_none s line r (s.painter.paint (replaced s.painted.text r))
-carries_meet_none s line lines (Move a b dest) =
+pub carries_meet_none : (s : Standing) (line : ℕ) (command : EditCommand) (resolved : Resolved) → (carries_out s line command resolved).stands.met_long ≡ s.met_long
+carries_meet_none s line command (Replace a b) =
+    let r = put_in_place s.painted.text a b command.lines in painted_meets_none s line r (s.painter.paint (replaced s.painted.text r))
+carries_meet_none s line command (Move a b dest) =
     let r = moved s.painted.text a b dest in painted_meets_none s line r (s.painter.paint (replaced s.painted.text r))
-carries_meet_none s line lines (CopyTo a b dest) = painted_meets_none s line _ _
-carries_meet_none s line lines (Print a b) = refl
-carries_meet_none s line lines Page = refl
-carries_meet_none s line lines Folds = refl
-carries_meet_none s line lines Syntax = refl
+carries_meet_none s line command (CopyTo a b dest) = painted_meets_none s line _ _
+carries_meet_none s line command (Print a b) = refl
+carries_meet_none s line command (Ex a b) =
+    substituted_meets_none s line (s.painter.substitute s.painted.text a b (ex_text command.verb))
+carries_meet_none s line command Page = refl
+carries_meet_none s line command Folds = refl
+carries_meet_none s line command Syntax = refl
 
 pub unharmed_by : (E : Type 0) (result : Result (List ℕ) E) (s now : Standing) (answer : Answer) → GivesAnswer result now answer → (answer.stands.refused ≡ false → s.refused ≡ false) → answer.stands.met_long ≡ s.met_long → OnOk result (KeepsHarm (harm_of s) (harm_of now))
 unharmed_by E (Ok text) s now answer given by same = record {

@@ -6,7 +6,7 @@ use Rattle.std.proofs.lemmas.Bool.Decides.{nat_tests}
 use Rattle.text_buffer.specs.TextOfBytes.{most_lines}
 use Rattle.edit_script.specs.declared.commands.Last.{Last}
 use Rattle.edit_script.specs.declared.commands.Verb.{Verb}
-use Rattle.edit_script.specs.declared.commands.Verb.TheVariants.{Append, Insert, Change, Delete, Move, CopyTo, Print, Page, Folds, Syntax}
+use Rattle.edit_script.specs.declared.commands.Verb.TheVariants.{Append, Insert, Change, Delete, Move, CopyTo, Print, Ex, Page, Folds, Syntax}
 use Rattle.edit_script.specs.declared.commands.EditCommand.{EditCommand}
 use Rattle.edit_script.specs.declared.commands.Resolved.{Resolved}
 use Rattle.edit_script.specs.declared.commands.ResolveError.{ResolveError}
@@ -36,19 +36,20 @@ ordered_of first last none = grind (arith, nat_tests)
 few_of : (lines : ℕ) → too_many lines ≡ None → lines ≤ most_lines
 few_of lines none = grind (arith, nat_tests)
 
-fits_does : (verb : Verb) (first last count new : ℕ) → syntax_named verb ≡ None → first ≤ count → last ≤ count → destination_outside verb count ≡ None → first ≤ last → too_many_lines (does_of verb first last count) new count ≡ None → FitsText count new (does_of verb first last count)
-fits_does Append first last count new other in_first in_last dest ordered few = (omega arith, in_last, few_of _ few)
-fits_does Insert first last count new other in_first in_last dest ordered few = (omega arith, omega arith, few_of _ few)
-fits_does Change first last count new other in_first in_last dest ordered few = (omega arith, in_last, few_of _ few)
-fits_does Delete first last count new other in_first in_last dest ordered few = (omega arith, in_last, few_of _ few)
-fits_does (Move to) first last count new other in_first in_last dest ordered few =
+fits_does : (verb : Verb) (first last count new : ℕ) → syntax_named verb ≡ None → least_line verb ≤ first → first ≤ count → last ≤ count → destination_outside verb count ≡ None → first ≤ last → too_many_lines (does_of verb first last count) new count ≡ None → FitsText count new (does_of verb first last count)
+fits_does Append first last count new other least in_first in_last dest ordered few = (omega arith, in_last, few_of _ few)
+fits_does Insert first last count new other least in_first in_last dest ordered few = (omega arith, omega arith, few_of _ few)
+fits_does Change first last count new other least in_first in_last dest ordered few = (omega arith, in_last, few_of _ few)
+fits_does Delete first last count new other least in_first in_last dest ordered few = (omega arith, in_last, few_of _ few)
+fits_does (Move to) first last count new other least in_first in_last dest ordered few =
     (omega arith, in_last, (within_of 0 to count dest).1, few_of _ few)
-fits_does (CopyTo to) first last count new other in_first in_last dest ordered few =
+fits_does (CopyTo to) first last count new other least in_first in_last dest ordered few =
     (omega arith, in_last, (within_of 0 to count dest).1, few_of _ few)
-fits_does Print first last count new other in_first in_last dest ordered few = (omega arith, in_last)
-fits_does Page first last count new other in_first in_last dest ordered few = tt
-fits_does Folds first last count new other in_first in_last dest ordered few = tt
-fits_does (Syntax name) first last count new other in_first in_last dest ordered few = absurd (cc)
+fits_does Print first last count new other least in_first in_last dest ordered few = (omega arith, in_last)
+fits_does (Ex text) first last count new other least in_first in_last dest ordered few = (omega arith, in_last)
+fits_does Page first last count new other least in_first in_last dest ordered few = tt
+fits_does Folds first last count new other least in_first in_last dest ordered few = tt
+fits_does (Syntax name) first last count new other least in_first in_last dest ordered few = absurd (cc)
 
 pub fits_of : (command : EditCommand) (count : ℕ) (resolved : Resolved) → syntax_named command.verb ≡ None → resolved_of command count ≡ Ok resolved → FitsText count (length command.lines) resolved
 fits_of command count resolved other is =
@@ -63,7 +64,7 @@ fits_of command count resolved other is =
     let e = none_first (into_self verb first last count) _ d.1 in
     let P : Resolved → Type 0 = FitsText count (length command.lines) in
     subst P whole.1
-    (fits_does verb first last count (length command.lines) other (within_of (least_line verb) command.first count a.0).1 (within_of (least_line verb) command.last count b.0).1 c.0 (ordered_of first last d.0) e.1)
+    (fits_does verb first last count (length command.lines) other (within_of (least_line verb) command.first count a.0).0 (within_of (least_line verb) command.first count a.0).1 (within_of (least_line verb) command.last count b.0).1 c.0 (ordered_of first last d.0) e.1)
 
 pub fits_text : (command : EditCommand) (text : List (List ℕ)) (count : ℕ) (resolved : Resolved) → syntax_named command.verb ≡ None → count ≡ length text → resolved_of command count ≡ Ok resolved → FitsText (length text) (length command.lines) resolved
 fits_text command text count resolved other counted is =

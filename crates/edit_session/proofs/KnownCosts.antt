@@ -18,6 +18,7 @@ painter = record {
   paint = λ text. if nat_lt 2 (length text) then Err (codes "too costly") else Ok (without_spans text);
   report = λ before after a b count. [];
   costs = λ text r. length (replaced text r);
+  substitute = λ text a b command. Err [];
   line = λ number spans. [];
   page = λ text spans. [];
   folds = λ text. [];

@@ -8,3 +8,4 @@ pub mod LongLaws
 pub mod CarriedOutLaws
 pub mod KnownCosts
 pub mod KnownSyntaxes
+pub mod KnownPatterns

@@ -54,6 +54,18 @@ files_change told told_after faults faults_after misses misses_after longs longs
   longs_after = longs_after;
 }
 
+-- what a call did to a source, a sink and files, by what tells what each of them holds and its counts
+abbrev pub source_between : {S : Type 0} → (S → Option (List ℕ)) → (S → ℕ) → S → S → SourceChange
+source_between left faults old new = source_change (left old) (left new) (faults old) (faults new)
+
+abbrev pub sink_between : {S : Type 0} → (S → Option (List ℕ)) → (S → ℕ) → S → S → SinkChange
+sink_between written faults old new = sink_change (written old) (written new) (faults old) (faults new)
+
+abbrev pub files_between :
+    {F : Type 0} → (F → Option FileMap) → (F → ℕ) → (F → ℕ) → (F → ℕ) → F → F → FilesChange
+files_between told faults misses longs old new =
+    files_change (told old) (told new) (faults old) (faults new) (misses old) (misses new) (longs old) (longs new)
+
 -- where the files are told
 abbrev pub IfKnown : Option FileMap → (FileMap → Type 0) → Type 0
 IfKnown told P = (known : FileMap) → told ≡ Some known → P known

@@ -1,8 +1,11 @@
 -- What a session of edits asks of its painter, which stands for the syntax in force, and of the files in
 -- which further syntaxes lie.
-use Rattle.std.specs.Prelude.{◌≡◌, ℕ, Bool, true, false, List, length, Option, Some, Result, Ok, Err, ⊤}
+use Rattle.std.specs.Prelude.{◌≡◌, ◌<◌, ◌≤◌, ℕ, Bool, true, false, List, length, Option, Some, Result, Ok, Err, ⊤}
 use Rattle.syn_base.specs.declared.places.Span.{Span}
 use Rattle.command_print.specs.Shown.{Shown, lines_shown_otherwise}
+use Rattle.text_buffer.specs.TextOfBytes.{most_lines}
+use Rattle.edit_session.specs.declared.changes.Substituted.{Substituted}
+use Rattle.edit_session.specs.declared.changes.Substituted.TheVariants.{Becomes, Counted}
 use Rattle.edit_session.specs.declared.document.Unedited.{Unedited}
 use Rattle.edit_session.specs.declared.document.Unedited.TheVariants as unedited
 use Rattle.edit_session.specs.declared.document.Untaken.{Untaken}
@@ -18,6 +21,9 @@ pub record Painter : Type 0 where
   pub report : List (List Span) → List (List Span) → ℕ → ℕ → ℕ → List ℕ
   -- how many lines may be painted, at most, where this text is changed so
   pub costs : List (List ℕ) → Replacement → ℕ
+  -- what a command by pattern comes to on lines a to b, b excluded, of a text: a change or a count, or the
+  -- words against it
+  pub substitute : List (List ℕ) → ℕ → ℕ → List ℕ → Result Substituted (List ℕ)
   -- the span lines of the line of this number, from 0; a line without spans is told too
   pub line : ℕ → List Span → List ℕ
   -- the page of a painted text
@@ -55,6 +61,23 @@ Edits p r before after (Ok told) =
 Edits p r before after (Err (unedited.Refused cause)) =
     (p.paint (replaced before.text r) ≡ Err cause) × (after ≡ before)
 Edits p r before after (Err unedited.Memory) = after ≡ before
+
+-- ---- commands by pattern
+
+-- what such a command comes to was answered, or the words against it; or memory ran out
+abbrev pub ComesTo : Result Substituted (List ℕ) → Result Substituted Unedited → Type 0
+ComesTo rules (Ok made) = rules ≡ Ok made
+ComesTo rules (Err (unedited.Refused cause)) = rules ≡ Err cause
+ComesTo rules (Err unedited.Memory) = ⊤
+
+-- a change lies in the text, which has lines afterwards, and not too many; a count changes none
+abbrev pub FitsIn : List (List ℕ) → Substituted → Type 0
+FitsIn text (Becomes r) =
+    (r.a ≤ r.b)
+    × (r.b ≤ length text)
+    × (0 < length (replaced text r))
+    × (length (replaced text r) ≤ most_lines)
+FitsIn text (Counted count) = ⊤
 
 -- ---- another syntax
 

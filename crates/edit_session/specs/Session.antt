@@ -1,7 +1,7 @@
 -- A session of edits: the commands of a script, carried out one after the other on the text as it is and by
 -- the syntax then in force. The text is painted anew, from its first line on, at each command that changes
 -- either.
-use Rattle.std.specs.Prelude.{ℕ, ◌+◌, ◌-◌, ◌||◌, nat_lt, Bool, true, false, List, [], ◌∷◌, ◌++◌, length, take, slice_range, get_or, Option, Some, None, Result, Ok, Err, if◌then◌else◌}
+use Rattle.std.specs.Prelude.{ℕ, ◌+◌, ◌-◌, ◌||◌, nat_lt, Bool, true, false, List, [], ◌∷◌, ◌++◌, length, take, slice_range, get_or, codes, decimal, Option, Some, None, Result, Ok, Err, if◌then◌else◌}
 use Rattle.std.specs.List.{range_with_len}
 use Rattle.syn_base.specs.declared.places.Span.{Span}
 use Rattle.command_print.specs.CommandText.{head_text, refusal_text}
@@ -9,12 +9,14 @@ use Rattle.edit_script.specs.declared.commands.EditCommand.{EditCommand}
 use Rattle.edit_script.specs.declared.commands.Entry.{Entry}
 use Rattle.edit_script.specs.declared.commands.ResolveError.{ResolveError}
 use Rattle.edit_script.specs.declared.commands.Resolved.{Resolved}
-use Rattle.edit_script.specs.declared.commands.Resolved.TheVariants.{Replace, Move, CopyTo, Print, Page, Folds, Syntax}
+use Rattle.edit_script.specs.declared.commands.Resolved.TheVariants.{Replace, Move, CopyTo, Print, Ex, Page, Folds, Syntax}
 use Rattle.edit_script.specs.declared.commands.ScriptFault.{ScriptFault}
 use Rattle.edit_script.specs.declared.commands.Verb.{Verb}
 use Rattle.edit_script.specs.declared.commands.Verb.TheVariants as verb
-use Rattle.edit_script.specs.Edits.{Replacement, edit_of, moved, put_in_place, replaced, resolved_of}
+use Rattle.edit_script.specs.Edits.{Replacement, lines_become, moved, put_in_place, replaced, resolved_of}
 use Rattle.edit_script.specs.Entries.{entries_at_end, entries_of}
+use Rattle.edit_session.specs.declared.changes.Substituted.{Substituted}
+use Rattle.edit_session.specs.declared.changes.Substituted.TheVariants.{Becomes, Counted}
 use Rattle.edit_session.specs.Causes.{fault_label, misfit_text}
 use Rattle.edit_session.specs.Painter.{Library, Painter, Painted, syntax_costs, told_lines, told_otherwise}
 
@@ -102,21 +104,37 @@ abbrev pub takes_syntax : Library → Standing → ℕ → List ℕ → Answer
 takes_syntax library s line name =
     asks name (marked (library.is_long name) (with_syntax s line (library.reads name)))
 
--- a command with this text, which fits the actual text; the name of a syntax isn't part of what is resolved, so that
--- command is answered apart
-abbrev pub carries_out : Standing → ℕ → List (List ℕ) → Resolved → Answer
-carries_out s line lines (Replace a b) = edits s line (put_in_place s.painted.text a b lines)
-carries_out s line lines (Move a b dest) = edits s line (moved s.painted.text a b dest)
-carries_out s line lines (CopyTo a b dest) = edits s line (record { a = dest; b = dest; new = slice_range s.painted.text a b })
-carries_out s line lines (Print a b) = prints s s.painted (lines_text s.painter s.painted.spans (range_with_len a (b - a)))
-carries_out s line lines Page = prints s s.painted (s.painter.page s.painted.text s.painted.spans)
-carries_out s line lines Folds = prints s s.painted (s.painter.folds s.painted.text)
-carries_out s line lines Syntax = prints s s.painted []
+-- how many matches were counted
+abbrev pub count_text : ℕ → List ℕ
+count_text count = decimal count ++ codes " matches\n"
+
+-- what a command by pattern came to: a change of the text, a count that leaves it, or the words against it
+abbrev pub substitutes : Standing → ℕ → Result Substituted (List ℕ) → Answer
+substitutes s line (Ok (Becomes r)) = edits s line r
+substitutes s line (Ok (Counted count)) = prints s s.painted (count_text count)
+substitutes s line (Err words) = refuses s line words
+
+-- the characters of a command by pattern
+abbrev pub ex_text : Verb → List ℕ
+ex_text (verb.Ex text) = text
+ex_text other = []
+
+-- a command that fits the actual text; the name of a syntax isn't part of what is resolved, so that command is answered
+-- apart
+abbrev pub carries_out : Standing → ℕ → EditCommand → Resolved → Answer
+carries_out s line command (Replace a b) = edits s line (put_in_place s.painted.text a b command.lines)
+carries_out s line command (Move a b dest) = edits s line (moved s.painted.text a b dest)
+carries_out s line command (CopyTo a b dest) = edits s line (lines_become dest dest (slice_range s.painted.text a b))
+carries_out s line command (Print a b) = prints s s.painted (lines_text s.painter s.painted.spans (range_with_len a (b - a)))
+carries_out s line command (Ex a b) = substitutes s line (s.painter.substitute s.painted.text a b (ex_text command.verb))
+carries_out s line command Page = prints s s.painted (s.painter.page s.painted.text s.painted.spans)
+carries_out s line command Folds = prints s s.painted (s.painter.folds s.painted.text)
+carries_out s line command Syntax = prints s s.painted []
 
 -- where it doesn't fit, it is refused
-abbrev pub obeys : Standing → ℕ → List (List ℕ) → Result Resolved ResolveError → Answer
-obeys s line lines (Ok resolved) = carries_out s line lines resolved
-obeys s line lines (Err misfit) = refuses s line (misfit_text misfit)
+abbrev pub obeys : Standing → ℕ → EditCommand → Result Resolved ResolveError → Answer
+obeys s line command (Ok resolved) = carries_out s line command resolved
+obeys s line command (Err misfit) = refuses s line (misfit_text misfit)
 
 -- the syntax that a command names
 abbrev pub syntax_named : Verb → Option (List ℕ)
@@ -125,7 +143,7 @@ syntax_named other = None
 
 abbrev pub does : Library → Standing → ℕ → EditCommand → Option (List ℕ) → Answer
 does library s line command (Some name) = takes_syntax library s line name
-does library s line command None = obeys s line command.lines (resolved_of command (length s.painted.text))
+does library s line command None = obeys s line command (resolved_of command (length s.painted.text))
 
 -- what stands in a line of the script: a command, or what is none
 abbrev pub answers : Library → Standing → ℕ → Result EditCommand ScriptFault → Answer
@@ -152,17 +170,45 @@ session library s [] = nothing_at s
 session library s (entry ∷ entries) =
     let own = answers library s entry.line entry.what in behind own (session library own.stands entries)
 
+-- ---- what a command comes to
+
+-- the change that a command by pattern comes to, where it only counts none; or the words against it
+abbrev pub change_in : Result Substituted (List ℕ) → Result (Option Replacement) (List ℕ)
+change_in (Ok (Becomes r)) = Ok (Some r)
+change_in (Ok (Counted count)) = Ok None
+change_in (Err words) = Err words
+
+-- the change of a text that a command comes to which fits it, where it is an edit
+abbrev pub change_by : Painter → List (List ℕ) → EditCommand → Resolved → Result (Option Replacement) (List ℕ)
+change_by p text command (Replace a b) = Ok (Some (put_in_place text a b command.lines))
+change_by p text command (Move a b dest) = Ok (Some (moved text a b dest))
+change_by p text command (CopyTo a b dest) = Ok (Some (lines_become dest dest (slice_range text a b)))
+change_by p text command (Print a b) = Ok None
+change_by p text command (Ex a b) = change_in (p.substitute text a b (ex_text command.verb))
+change_by p text command Page = Ok None
+change_by p text command Folds = Ok None
+change_by p text command Syntax = Ok None
+
+abbrev pub change_or_words :
+    Painter → List (List ℕ) → EditCommand → Result Resolved ResolveError → Result (Option Replacement) (List ℕ)
+change_or_words p text command (Ok resolved) = change_by p text command resolved
+change_or_words p text command (Err misfit) = Err (misfit_text misfit)
+
+-- what a command comes to on a text, which has at least one line: a change, nothing, or the words against it
+abbrev pub change_of : Painter → List (List ℕ) → EditCommand → Result (Option Replacement) (List ℕ)
+change_of p text command = change_or_words p text command (resolved_of command (length text))
+
 -- ---- how many lines it may paint
 
 -- those of the change that a command comes to, where it comes to one
-abbrev pub change_costs : Painter → List (List ℕ) → Result (Option Replacement) ResolveError → ℕ
+abbrev pub change_costs : Painter → List (List ℕ) → Result (Option Replacement) (List ℕ) → ℕ
 change_costs p text (Ok (Some r)) = p.costs text r
 change_costs p text (Ok None) = 0
-change_costs p text (Err misfit) = 0
+change_costs p text (Err words) = 0
 
 abbrev pub command_costs : Library → Standing → EditCommand → Option (List ℕ) → ℕ
 command_costs library s command (Some name) = syntax_costs (library.reads name) s.painted.text
-command_costs library s command None = change_costs s.painter s.painted.text (edit_of s.painted.text command)
+command_costs library s command None = change_costs s.painter s.painted.text (change_of s.painter s.painted.text command)
 
 -- what stands in a line of the script: what is no command paints nothing
 abbrev pub what_costs : Library → Standing → Result EditCommand ScriptFault → ℕ

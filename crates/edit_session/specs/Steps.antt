@@ -1,5 +1,5 @@
 -- What the steps of a session say.
-use Rattle.std.specs.Prelude.{◌≡◌, ℕ, ◌+◌, ◌-◌, ◌≤◌, Bool, true, false, List, [], ◌++◌, length, take, Option, IfSome, Result, Ok, Err, ⊤}
+use Rattle.std.specs.Prelude.{◌≡◌, ℕ, ◌+◌, ◌-◌, ◌<◌, ◌≤◌, Bool, true, false, List, [], ◌++◌, length, take, Option, IfSome, Result, Ok, Err, ⊤}
 use Rattle.syn_base.specs.declared.places.Span.{Span}
 use Rattle.syn_base.specs.Causes.{Rose}
 use Rattle.syn_base.specs.Outside.{AppendsPrefix, appended}
@@ -12,7 +12,7 @@ use Rattle.edit_session.specs.declared.reading.End.TheVariants.{Done, Refused, T
 use Rattle.text_buffer.specs.TextOfBytes.{most_lines}
 use Rattle.edit_script.specs.declared.commands.Entry.{Entry}
 use Rattle.edit_script.specs.declared.commands.Resolved.{Resolved}
-use Rattle.edit_script.specs.declared.commands.Resolved.TheVariants.{Replace, Move, CopyTo, Print, Page, Folds, Syntax}
+use Rattle.edit_script.specs.declared.commands.Resolved.TheVariants.{Replace, Move, CopyTo, Print, Ex, Page, Folds, Syntax}
 use Rattle.edit_script.specs.Entries.{entries_of, kept_of}
 use Rattle.edit_script.specs.Kept.{Kept}
 use Rattle.edit_session.specs.Ends.{FailsBehind, FilesChange, IsReadWhole, IsUnharmed, IsUnreadOf, MeetsLongs, ReadsOver, ReadsToEnd, SinkChange, SourceChange, StopsAtFile, Takes, TakesFew, TakesMany}
@@ -36,6 +36,7 @@ FitsText count new (Replace a b) = (a ≤ b) × (b ≤ count) × (count - (b - a
 FitsText count new (Move a b dest) = (a ≤ b) × (b ≤ count) × (dest ≤ count) × (count ≤ most_lines)
 FitsText count new (CopyTo a b dest) = (a ≤ b) × (b ≤ count) × (dest ≤ count) × (count + (b - a) ≤ most_lines)
 FitsText count new (Print a b) = (a ≤ b) × (b ≤ count)
+FitsText count new (Ex a b) = (a < b) × (b ≤ count)
 FitsText count new Page = ⊤
 FitsText count new Folds = ⊤
 FitsText count new Syntax = ⊥

@@ -23,6 +23,15 @@ impl Model for Replacement {
     ghost view = { λ r. record { a = r.a; b = r.b; new = r.new } };
 }
 
+/// What a command by pattern comes to on a text.
+#[derive(Drop)]
+pub enum Substituted {
+    /// Lines become others.
+    Becomes(Replacement),
+    /// So many matches are counted, and the text stays (`:s_n`).
+    Counted(usize),
+}
+
 /// A text in place of lines `a` to `b - 1`; where a text would be left without lines, one empty
 /// line.
 pub(crate) fn put_in_place<T: Lines>(

@@ -3,22 +3,22 @@ ghost use Rattle.std.specs.Prelude.{◌≡◌, ◌≤◌, ◌<◌, ◌+◌, ◌-
 ghost use Rattle.std.specs.List.{range_with_len};
 ghost use Rattle.command_print.specs.CommandText.{head_text};
 ghost use Rattle.text_buffer.specs.TextOfBytes.{most_lines};
-ghost use Rattle.edit_script.specs.Edits.{edit_of, replaced, replacement as replacement_of, resolved_of};
-ghost use Rattle.edit_session.specs.Ends.{IfKnown, files_change, sink_change};
+ghost use Rattle.edit_script.specs.Edits.{replaced, resolved_of};
+ghost use Rattle.edit_session.specs.Ends.{IfKnown, files_between, sink_between};
 ghost use Rattle.edit_session.specs.Painter.{Painted, Painter, syntax_costs};
-ghost use Rattle.edit_session.specs.Session.{answers, carries_out, change_costs, edits, entry_costs, lines_text, marked, obeys, prints, refuses, session, session_costs, syntax_named, takes_syntax, what_costs};
+ghost use Rattle.edit_session.specs.Session.{answers, carries_out, change_by, change_costs, change_of, edits, entry_costs, lines_text, marked, obeys, prints, refuses, session, session_costs, syntax_named, takes_syntax, what_costs};
 ghost use Rattle.edit_session.specs.Steps.{Answers, AreCaused, FitsText, GivesAnswer, GivesOrStops, IsAnswerCaused, KeepsHarm, standing};
 
 use crate::causes::{fault_label, misfit_text};
 use crate::changes::{Replacement, copied, moved, put_in_place};
 use crate::document::{Document, Unedited, Untaken};
+use crate::patterns::ex_text;
 use crate::reading::End;
 use byte_text::push_bytes;
 use command_print::{head_text, refusal_text};
 use edit_script::{EditCommand, Entry, Resolved, ScriptFault, Verb, resolve};
 use std::alloc::Global;
 use syn_base::{Files, Ledger, Lines, List, Memory, Sink, Steps, put_all};
-use text_buffer::Line;
 
 /// What went wrong with the commands so far.
 #[derive(Drop)]
@@ -53,16 +53,12 @@ impl<D: Document + Drop> Commands<D> {
         ensures answers { IfKnown (F.told files.old) (λ known.
             Answers (D.library self.old.document known)
             (session (D.library self.old.document known) (standing D.lines D.shown D.painter self.old) entries)
-            (standing D.lines D.shown D.painter self.new) (sink_change (O.written out.old) (O.written out.new)
-            (O.faults out.old) (O.faults out.new)) result) }
+            (standing D.lines D.shown D.painter self.new) (sink_between O.written O.faults out.old out.new) result) }
         ensures steps { IfKnown (F.told files.old) (λ known. steps.new ≤ steps.old
             + session_costs (D.library self.old.document known) (standing D.lines D.shown D.painter self.old) entries) }
         ensures causes { AreCaused self.old.harm self.new.harm
-            (files_change (F.told files.old) (F.told files.new)
-            (F.faults files.old) (F.faults files.new) (F.misses files.old) (F.misses files.new)
-            (F.longs files.old) (F.longs files.new))
-            (sink_change (O.written out.old) (O.written out.new)
-            (O.faults out.old) (O.faults out.new)) result }
+            (files_between F.told F.faults F.misses F.longs files.old files.new)
+            (sink_between O.written O.faults out.old out.new) result }
     {
         for entry in entries.into_vec() {
             self.answer_one(alloc, entry, files, out, steps)?;
@@ -84,16 +80,12 @@ impl<D: Document + Drop> Commands<D> {
         ensures answers { IfKnown (F.told files.old) (λ known.
             Answers (D.library self.old.document known)
             (answers (D.library self.old.document known) (standing D.lines D.shown D.painter self.old) entry.line entry.what)
-            (standing D.lines D.shown D.painter self.new) (sink_change (O.written out.old) (O.written out.new)
-            (O.faults out.old) (O.faults out.new)) result) }
+            (standing D.lines D.shown D.painter self.new) (sink_between O.written O.faults out.old out.new) result) }
         ensures steps { IfKnown (F.told files.old) (λ known. steps.new ≤ steps.old
             + entry_costs (D.library self.old.document known) (standing D.lines D.shown D.painter self.old) entry) }
         ensures causes { AreCaused self.old.harm self.new.harm
-            (files_change (F.told files.old) (F.told files.new)
-            (F.faults files.old) (F.faults files.new) (F.misses files.old) (F.misses files.new)
-            (F.longs files.old) (F.longs files.new))
-            (sink_change (O.written out.old) (O.written out.new)
-            (O.faults out.old) (O.faults out.new)) result }
+            (files_between F.told F.faults F.misses F.longs files.old files.new)
+            (sink_between O.written O.faults out.old out.new) result }
     {
         let text = self.answer(alloc, entry, files, steps)?;
         if put_all(out, text.as_slice()) {
@@ -119,9 +111,7 @@ impl<D: Document + Drop> Commands<D> {
         ensures steps { IfKnown (F.told files.old) (λ known. steps.new ≤ steps.old
             + what_costs (D.library self.old.document known) (standing D.lines D.shown D.painter self.old) entry.what) }
         ensures causes { IsAnswerCaused self.old.harm self.new.harm
-            (files_change (F.told files.old) (F.told files.new)
-            (F.faults files.old) (F.faults files.new) (F.misses files.old) (F.misses files.new)
-            (F.longs files.old) (F.longs files.new)) result }
+            (files_between F.told F.faults F.misses F.longs files.old files.new) result }
     {
         let Entry { line, what } = entry;
         match what {
@@ -147,9 +137,7 @@ impl<D: Document + Drop> Commands<D> {
         ensures steps { IfKnown (F.told files.old) (λ known. steps.new ≤ steps.old
             + what_costs (D.library self.old.document known) (standing D.lines D.shown D.painter self.old) (Ok command)) }
         ensures causes { IsAnswerCaused self.old.harm self.new.harm
-            (files_change (F.told files.old) (F.told files.new)
-            (F.faults files.old) (F.faults files.new) (F.misses files.old) (F.misses files.new)
-            (F.longs files.old) (F.longs files.new)) result }
+            (files_between F.told F.faults F.misses F.longs files.old files.new) result }
     {
         if let Verb::Syntax(name) = &command.verb {
             return self.take_syntax(alloc, line, name.as_slice(), files, steps);
@@ -175,9 +163,7 @@ impl<D: Document + Drop> Commands<D> {
             + syntax_costs ((D.library self.old.document known).reads name.now)
             (D.lines self.old.document)) }
         ensures causes { IsAnswerCaused self.old.harm self.new.harm
-            (files_change (F.told files.old) (F.told files.new)
-            (F.faults files.old) (F.faults files.new) (F.misses files.old) (F.misses files.new)
-            (F.longs files.old) (F.longs files.new)) result }
+            (files_between F.told F.faults F.misses F.longs files.old files.new) result }
     {
         match self.document.take_syntax(alloc, files, name, steps) {
             Ok(numbers) => Ok(self.print_lines(alloc, numbers.as_slice())?),
@@ -199,15 +185,15 @@ impl<D: Document + Drop> Commands<D> {
         requires other { syntax_named command.verb ≡ None }
         ensures library { D.library self.new.document ≡ D.library self.old.document }
         ensures answer { GivesAnswer result (standing D.lines D.shown D.painter self.new)
-            (obeys (standing D.lines D.shown D.painter self.old) line command.lines
+            (obeys (standing D.lines D.shown D.painter self.old) line command
             (resolved_of command (length (D.lines self.old.document)))) }
         ensures unharmed { OnOk result (KeepsHarm self.old.harm self.new.harm) }
         ensures steps { steps.new ≤ steps.old
             + change_costs (D.painter self.old.document) (D.lines self.old.document)
-            (edit_of (D.lines self.old.document) command) }
+            (change_of (D.painter self.old.document) (D.lines self.old.document) command) }
     {
         match resolve(&command, self.document.len()) {
-            Ok(resolved) => self.carry_out(alloc, line, resolved, command.lines, steps),
+            Ok(resolved) => self.carry_out(alloc, line, resolved, command, steps),
             Err(misfit) => {
                 let cause = misfit_text(alloc, misfit)?;
                 self.refuse(alloc, line, cause.as_slice())
@@ -221,22 +207,22 @@ impl<D: Document + Drop> Commands<D> {
         alloc: Global,
         line: usize,
         resolved: Resolved,
-        lines: List<Line>,
+        command: EditCommand,
         steps: &mut Steps<L>,
     ) -> Result<List<u8>, Memory>
         requires some { 0 < length (D.lines self.old.document) }
-        requires fits { FitsText (length (D.lines self.old.document)) (length lines) resolved }
+        requires fits { FitsText (length (D.lines self.old.document)) (length command.lines) resolved }
         ensures library { D.library self.new.document ≡ D.library self.old.document }
         ensures answer { GivesAnswer result (standing D.lines D.shown D.painter self.new)
             (carries_out (standing D.lines D.shown D.painter self.old)
-            line lines resolved) }
+            line command resolved) }
         ensures steps { steps.new ≤ steps.old
             + change_costs (D.painter self.old.document) (D.lines self.old.document)
-            (Ok (replacement_of (D.lines self.old.document) resolved lines)) }
+            (change_by (D.painter self.old.document) (D.lines self.old.document) command resolved) }
     {
         match resolved {
             Resolved::Replace { a, b } => {
-                let made = put_in_place(alloc, &self.document, a, b, lines)?;
+                let made = put_in_place(alloc, &self.document, a, b, command.lines)?;
                 self.edit(alloc, line, made, steps)
             }
             Resolved::Move { a, b, dest } => {
@@ -248,6 +234,14 @@ impl<D: Document + Drop> Commands<D> {
                 self.edit(alloc, line, made, steps)
             }
             Resolved::Print { a, b } => self.print_range(alloc, a, b),
+            Resolved::Ex { a, b } => self.substitute(
+                alloc,
+                line,
+                a,
+                b,
+                ex_text(&command.verb),
+                steps,
+            ),
             Resolved::Page => self.print_page(alloc),
             Resolved::Folds => self.print_folds(alloc),
             Resolved::Syntax => unreachable!(),
@@ -255,7 +249,7 @@ impl<D: Document + Drop> Commands<D> {
     }
 
     /// Changes the text, and tells the lines that changed with it.
-    fn edit<L: Ledger>(
+    pub(crate) fn edit<L: Ledger>(
         &mut self,
         alloc: Global,
         line: usize,
@@ -281,7 +275,12 @@ impl<D: Document + Drop> Commands<D> {
     }
 
     /// The refusal of a command.
-    fn refuse(&mut self, alloc: Global, line: usize, cause: &[u8]) -> Result<List<u8>, Memory>
+    pub(crate) fn refuse(
+        &mut self,
+        alloc: Global,
+        line: usize,
+        cause: &[u8],
+    ) -> Result<List<u8>, Memory>
         ensures document { self.new.document ≡ self.old.document }
         ensures answer { GivesAnswer result (standing D.lines D.shown D.painter self.new)
             (refuses (standing D.lines D.shown D.painter self.old) line cause.now) }
@@ -362,7 +361,7 @@ impl<D: Document + Drop> Commands<D> {
     }
 
     /// The head of the next command.
-    fn head(&mut self, alloc: Global) -> Result<Vec<u8>, Memory>
+    pub(crate) fn head(&mut self, alloc: Global) -> Result<Vec<u8>, Memory>
         ensures document { self.new.document ≡ self.old.document }
         ensures harm { self.new.harm ≡ self.old.harm }
         ensures number { OnOk result (self.new.number ≡ self.old.number + 1) }

@@ -3,19 +3,20 @@ ghost use Rattle.std.specs.Prelude.{◌≡◌, ◌≤◌, ◌<◌, ◌+◌, ◌+
 ghost use Rattle.syn_base.specs.declared.places.Span.{Span as SpanOf};
 ghost use Rattle.text_buffer.specs.TextOfBytes.{most_lines};
 ghost use Rattle.edit_script.specs.Edits.{replaced};
-ghost use Rattle.edit_session.specs.Ends.{IfKnown, files_change};
-ghost use Rattle.edit_session.specs.Painter.{Edits, Library, Painter, TakesSyntax, syntax_costs};
+ghost use Rattle.edit_session.specs.Ends.{IfKnown, files_between};
+ghost use Rattle.edit_session.specs.Painter.{ComesTo, Edits, FitsIn, Library, Painter, TakesSyntax, syntax_costs};
 ghost use Rattle.edit_session.specs.Steps.{IsTakingCaused};
 ghost use Rattle.syn_base.specs.Outside.{FileMap};
 
-use crate::changes::Replacement;
+use crate::changes::{Replacement, Substituted};
 use std::alloc::Global;
 use syn_base::{Files, Ledger, Lines, List, Memory, Steps};
 
 /// Why a text wasn't changed.
 #[derive(Drop)]
 pub enum Unedited {
-    /// The painting of the changed text is refused, for the cause that these bytes tell.
+    /// The painting of the changed text is refused, or the command by pattern, for the cause that
+    /// these bytes tell.
     Refused(List<u8>),
     Memory,
 }
@@ -58,6 +59,21 @@ pub trait Document: Lines {
     fn folds(&self, alloc: Global) -> Result<List<u8>, Memory>
         ensures { IfOk result (λ bytes. bytes ≡ (painter self.now).folds (Self.lines self.now)) };
 
+    /// What a command by pattern (`:s`, `:g`, `:v`) comes to on lines `a` to `b - 1`. The text stays
+    /// as it is.
+    fn substitute(
+        &self,
+        alloc: Global,
+        a: usize,
+        b: usize,
+        command: &[char],
+    ) -> Result<Substituted, Unedited>
+        requires ordered { a < b }
+        requires within { b ≤ length (Self.lines self.now) }
+        ensures comes { ComesTo
+            ((painter self.now).substitute (Self.lines self.now) a b command.now) result }
+        ensures fits { IfOk result (FitsIn (Self.lines self.now)) };
+
     /// Replaces the lines and paints the text, and answers the lines to tell, least first. On
     /// each refusal all is as it was.
     fn edit<L: Ledger>(
@@ -99,9 +115,7 @@ pub trait Document: Lines {
             × (shown self.new ≡ shown self.old)) }
         ensures within { IfOk result (All (λ number. number < length (Self.lines self.new))) }
         ensures causes { IsTakingCaused
-            (files_change (F.told files.old) (F.told files.new)
-            (F.faults files.old) (F.faults files.new) (F.misses files.old) (F.misses files.new)
-            (F.longs files.old) (F.longs files.new)) result }
+            (files_between F.told F.faults F.misses F.longs files.old files.new) result }
         ensures steps { IfKnown (F.told files.old) (λ known. steps.new ≤ steps.old
             + syntax_costs ((library self.old known).reads name.now) (Self.lines self.old)) };
 }

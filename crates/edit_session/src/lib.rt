@@ -4,8 +4,9 @@
 //! What a session writes is a function of the text, the script and the files in which further
 //! syntaxes lie: the fold of its commands, each over the text as it is then and by the syntax then
 //! in force. The text is painted anew whenever one of them changes. How it is painted and printed,
-//! and how many lines that paints, is the painter's; which painter a name stands for is the
-//! library's. Both are behind a trait, so the session knows nothing of syntaxes nor of what is kept.
+//! how many lines that paints, and what a command by pattern comes to, is the painter's; which
+//! painter a name stands for is the library's. Both are behind a trait, so the session knows nothing
+//! of syntaxes and patterns nor of what is kept.
 #![tactic(auto)]
 
 mod causes;
@@ -13,10 +14,11 @@ mod changes;
 mod commands;
 mod document;
 pub mod laws;
+mod patterns;
 mod pieces;
 mod reading;
 mod script_bytes;
 
-pub use changes::Replacement;
+pub use changes::{Replacement, Substituted};
 pub use document::{Document, Unedited, Untaken};
 pub use reading::{End, carry_out_script};

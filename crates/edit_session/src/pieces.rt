@@ -1,7 +1,7 @@
 //! The pieces of a script, and the commands whose last line is whole with each of them.
 ghost use Rattle.std.specs.Prelude.{◌≡◌, ◌+◌, ◌<◌, ◌≤◌, ◌++◌, [], length, OnOk};
 ghost use Rattle.edit_script.specs.Entries.{entries_at_end, entries_of, kept_of};
-ghost use Rattle.edit_session.specs.Ends.{IfKnown, files_change, sink_change, source_change};
+ghost use Rattle.edit_session.specs.Ends.{IfKnown, files_between, sink_between, source_between};
 ghost use Rattle.edit_session.specs.Session.{session, session_costs};
 ghost use Rattle.edit_session.specs.Steps.{Answers, AreCaused, ReadsPiece, ReadsPieces, TakesPiece, TakesPieces, standing, steps_change};
 
@@ -36,18 +36,12 @@ pub(crate) fn read_pieces<D: Document + Drop, F: Files, I: Source, O: Sink, L: L
     ensures library { D.library commands.new.document ≡ D.library commands.old.document }
     ensures read { IfKnown (F.told files.old) (λ known. ReadsPieces (D.library commands.old.document known)
         (standing D.lines D.shown D.painter commands.old) (standing D.lines D.shown D.painter commands.new) kept.new
-        (source_change (I.left script.old) (I.left script.new)
-        (I.faults script.old) (I.faults script.new))
-        (sink_change (O.written out.old) (O.written out.new)
-        (O.faults out.old) (O.faults out.new)) (steps_change steps.old steps.new) result) }
+        (source_between I.left I.faults script.old script.new)
+        (sink_between O.written O.faults out.old out.new) (steps_change steps.old steps.new) result) }
     ensures causes { TakesPieces commands.old.harm commands.new.harm
-        (source_change (I.left script.old) (I.left script.new)
-        (I.faults script.old) (I.faults script.new))
-        (files_change (F.told files.old) (F.told files.new)
-        (F.faults files.old) (F.faults files.new) (F.misses files.old) (F.misses files.new)
-        (F.longs files.old) (F.longs files.new))
-        (sink_change (O.written out.old) (O.written out.new)
-        (O.faults out.old) (O.faults out.new)) result }
+        (source_between I.left I.faults script.old script.new)
+        (files_between F.told F.faults F.misses F.longs files.old files.new)
+        (sink_between O.written O.faults out.old out.new) result }
 {
     let mut taken = 0;
     while taken < MOST_BYTES {
@@ -88,18 +82,12 @@ fn read_piece<D: Document + Drop, F: Files, I: Source, O: Sink, L: Ledger>(
     ensures piece { IfKnown (F.told files.old) (λ known. ReadsPiece (D.library commands.old.document known)
         (standing D.lines D.shown D.painter commands.old) (standing D.lines D.shown D.painter commands.new) kept.old kept.new
         (length buffer.old)
-        (source_change (I.left script.old) (I.left script.new)
-        (I.faults script.old) (I.faults script.new))
-        (sink_change (O.written out.old) (O.written out.new)
-        (O.faults out.old) (O.faults out.new)) (steps_change steps.old steps.new) result) }
+        (source_between I.left I.faults script.old script.new)
+        (sink_between O.written O.faults out.old out.new) (steps_change steps.old steps.new) result) }
     ensures causes { TakesPiece (length buffer.old) commands.old.harm commands.new.harm
-        (source_change (I.left script.old) (I.left script.new)
-        (I.faults script.old) (I.faults script.new))
-        (files_change (F.told files.old) (F.told files.new)
-        (F.faults files.old) (F.faults files.new) (F.misses files.old) (F.misses files.new)
-        (F.longs files.old) (F.longs files.new))
-        (sink_change (O.written out.old) (O.written out.new)
-        (O.faults out.old) (O.faults out.new)) result }
+        (source_between I.left I.faults script.old script.new)
+        (files_between F.told F.faults F.misses F.longs files.old files.new)
+        (sink_between O.written O.faults out.old out.new) result }
 {
     match take_bytes(script, buffer) {
         Err(end) => Err(end),
@@ -127,17 +115,13 @@ fn feed<D: Document + Drop, F: Files, O: Sink, L: Ledger>(
         (session (D.library commands.old.document known) (standing D.lines D.shown D.painter commands.old)
         (entries_of kept.old.lines (kept.old.bytes ++ piece.now)))
         (standing D.lines D.shown D.painter commands.new)
-        (sink_change (O.written out.old) (O.written out.new)
-        (O.faults out.old) (O.faults out.new)) result) }
+        (sink_between O.written O.faults out.old out.new) result) }
     ensures steps { IfKnown (F.told files.old) (λ known. steps.new ≤ steps.old
         + session_costs (D.library commands.old.document known) (standing D.lines D.shown D.painter commands.old)
         (entries_of kept.old.lines (kept.old.bytes ++ piece.now))) }
     ensures causes { AreCaused commands.old.harm commands.new.harm
-        (files_change (F.told files.old) (F.told files.new)
-        (F.faults files.old) (F.faults files.new) (F.misses files.old) (F.misses files.new)
-        (F.longs files.old) (F.longs files.new))
-        (sink_change (O.written out.old) (O.written out.new)
-        (O.faults out.old) (O.faults out.new)) result }
+        (files_between F.told F.faults F.misses F.longs files.old files.new)
+        (sink_between O.written O.faults out.old out.new) result }
 {
     let entries = kept.feed(piece)?;
     commands.answer_all(alloc, entries, files, out, steps)
@@ -158,17 +142,13 @@ pub(crate) fn finish<D: Document + Drop, F: Files, O: Sink, L: Ledger>(
         (session (D.library commands.old.document known) (standing D.lines D.shown D.painter commands.old)
         (entries_at_end kept.lines kept.bytes))
         (standing D.lines D.shown D.painter commands.new)
-        (sink_change (O.written out.old) (O.written out.new)
-        (O.faults out.old) (O.faults out.new)) result) }
+        (sink_between O.written O.faults out.old out.new) result) }
     ensures steps { IfKnown (F.told files.old) (λ known. steps.new ≤ steps.old
         + session_costs (D.library commands.old.document known) (standing D.lines D.shown D.painter commands.old)
         (entries_at_end kept.lines kept.bytes)) }
     ensures causes { AreCaused commands.old.harm commands.new.harm
-        (files_change (F.told files.old) (F.told files.new)
-        (F.faults files.old) (F.faults files.new) (F.misses files.old) (F.misses files.new)
-        (F.longs files.old) (F.longs files.new))
-        (sink_change (O.written out.old) (O.written out.new)
-        (O.faults out.old) (O.faults out.new)) result }
+        (files_between F.told F.faults F.misses F.longs files.old files.new)
+        (sink_between O.written O.faults out.old out.new) result }
 {
     let entries = kept.finish()?;
     commands.answer_all(alloc, entries, files, out, steps)

@@ -1,7 +1,7 @@
 //! A script from its source: each command is carried out as soon as its last byte was read.
 ghost use Rattle.std.specs.Prelude.{◌≡◌, ◌+◌, ◌≤◌, length, IfSome};
 ghost use Rattle.syn_base.specs.Outside.{AppendsPrefix};
-ghost use Rattle.edit_session.specs.Ends.{CountsLongs, EndsSo, HasCause, IfKnown, TakesFew, files_change, sink_change, source_change};
+ghost use Rattle.edit_session.specs.Ends.{CountsLongs, EndsSo, HasCause, IfKnown, TakesFew, files_between, sink_between, source_between};
 ghost use Rattle.edit_session.specs.Session.{script_costs, script_session, start};
 ghost use Rattle.edit_session.specs.Steps.{EndsReading, MeetsAsTold, StaysWithin, TakesScript, end_of, standing, steps_change};
 
@@ -65,10 +65,8 @@ pub fn carry_out_script<D: Document + Drop, F: Files, I: Source, O: Sink, L: Led
     ensures ends { IfKnown (F.told files.old) (λ known. EndsSo (D.library document known)
         (start (D.painter document)
         (record { text = D.lines document; spans = D.shown document }))
-        (source_change (I.left script.old) (I.left script.new)
-        (I.faults script.old) (I.faults script.new))
-        (sink_change (O.written out.old) (O.written out.new)
-        (O.faults out.old) (O.faults out.new)) result) }
+        (source_between I.left I.faults script.old script.new)
+        (sink_between O.written O.faults out.old out.new) result) }
     ensures part { IfKnown (F.told files.old) (λ known. IfSome (I.left script.old) (λ bytes.
         AppendsPrefix (O.written out.old) (O.written out.new)
         (script_session (D.library document known)
@@ -79,22 +77,15 @@ pub fn carry_out_script<D: Document + Drop, F: Files, I: Source, O: Sink, L: Led
         (start (D.painter document)
         (record { text = D.lines document; spans = D.shown document })) bytes)) }
     ensures causes { HasCause
-        (source_change (I.left script.old) (I.left script.new)
-        (I.faults script.old) (I.faults script.new))
-        (sink_change (O.written out.old) (O.written out.new)
-        (O.faults out.old) (O.faults out.new))
-        (files_change (F.told files.old) (F.told files.new)
-        (F.faults files.old) (F.faults files.new) (F.misses files.old) (F.misses files.new)
-        (F.longs files.old) (F.longs files.new)) result }
+        (source_between I.left I.faults script.old script.new)
+        (sink_between O.written O.faults out.old out.new)
+        (files_between F.told F.faults F.misses F.longs files.old files.new) result }
     ensures longs { IfKnown (F.told files.old) (λ known. CountsLongs (D.library document known)
         (start (D.painter document)
         (record { text = D.lines document; spans = D.shown document })) (I.left script.old)
-        (files_change (F.told files.old) (F.told files.new)
-        (F.faults files.old) (F.faults files.new) (F.misses files.old) (F.misses files.new)
-        (F.longs files.old) (F.longs files.new)) result) }
+        (files_between F.told F.faults F.misses F.longs files.old files.new) result) }
     ensures taken { TakesFew
-        (source_change (I.left script.old) (I.left script.new)
-        (I.faults script.old) (I.faults script.new)) }
+        (source_between I.left I.faults script.old script.new) }
 {
     let mut commands = Commands {
         document,
@@ -129,30 +120,21 @@ fn read_script<D: Document + Drop, F: Files, I: Source, O: Sink, L: Ledger>(
     ensures kept { F.told files.new ≡ F.told files.old }
     ensures ends { IfKnown (F.told files.old) (λ known. EndsReading (D.library commands.old.document known)
         (standing D.lines D.shown D.painter commands.old) commands.new.harm.refused
-        (source_change (I.left script.old) (I.left script.new)
-        (I.faults script.old) (I.faults script.new))
-        (sink_change (O.written out.old) (O.written out.new)
-        (O.faults out.old) (O.faults out.new)) result) }
+        (source_between I.left I.faults script.old script.new)
+        (sink_between O.written O.faults out.old out.new) result) }
     ensures within { IfKnown (F.told files.old) (λ known. StaysWithin (D.library commands.old.document known)
         (standing D.lines D.shown D.painter commands.old)
-        (source_change (I.left script.old) (I.left script.new)
-        (I.faults script.old) (I.faults script.new))
-        (sink_change (O.written out.old) (O.written out.new)
-        (O.faults out.old) (O.faults out.new)) (steps_change steps.old steps.new)) }
+        (source_between I.left I.faults script.old script.new)
+        (sink_between O.written O.faults out.old out.new) (steps_change steps.old steps.new)) }
     ensures causes { TakesScript commands.old.harm commands.new.harm
-        (source_change (I.left script.old) (I.left script.new)
-        (I.faults script.old) (I.faults script.new))
-        (files_change (F.told files.old) (F.told files.new)
-        (F.faults files.old) (F.faults files.new) (F.misses files.old) (F.misses files.new)
-        (F.longs files.old) (F.longs files.new))
-        (sink_change (O.written out.old) (O.written out.new)
-        (O.faults out.old) (O.faults out.new)) result }
+        (source_between I.left I.faults script.old script.new)
+        (files_between F.told F.faults F.misses F.longs files.old files.new)
+        (sink_between O.written O.faults out.old out.new) result }
     ensures longs { IfKnown (F.told files.old) (λ known. MeetsAsTold (D.library commands.old.document known)
         (standing D.lines D.shown D.painter commands.old) (I.left script.old)
         commands.new.harm.met_long result) }
     ensures taken { TakesFew
-        (source_change (I.left script.old) (I.left script.new)
-        (I.faults script.old) (I.faults script.new)) }
+        (source_between I.left I.faults script.old script.new) }
 {
     let mut buffer = vec![in alloc; 0u8; PIECE]?;
     read_with(
@@ -180,30 +162,21 @@ fn read_with<D: Document + Drop, F: Files, I: Source, O: Sink, L: Ledger>(
     ensures kept { F.told files.new ≡ F.told files.old }
     ensures ends { IfKnown (F.told files.old) (λ known. EndsReading (D.library commands.old.document known)
         (standing D.lines D.shown D.painter commands.old) commands.new.harm.refused
-        (source_change (I.left script.old) (I.left script.new)
-        (I.faults script.old) (I.faults script.new))
-        (sink_change (O.written out.old) (O.written out.new)
-        (O.faults out.old) (O.faults out.new)) result) }
+        (source_between I.left I.faults script.old script.new)
+        (sink_between O.written O.faults out.old out.new) result) }
     ensures within { IfKnown (F.told files.old) (λ known. StaysWithin (D.library commands.old.document known)
         (standing D.lines D.shown D.painter commands.old)
-        (source_change (I.left script.old) (I.left script.new)
-        (I.faults script.old) (I.faults script.new))
-        (sink_change (O.written out.old) (O.written out.new)
-        (O.faults out.old) (O.faults out.new)) (steps_change steps.old steps.new)) }
+        (source_between I.left I.faults script.old script.new)
+        (sink_between O.written O.faults out.old out.new) (steps_change steps.old steps.new)) }
     ensures causes { TakesScript commands.old.harm commands.new.harm
-        (source_change (I.left script.old) (I.left script.new)
-        (I.faults script.old) (I.faults script.new))
-        (files_change (F.told files.old) (F.told files.new)
-        (F.faults files.old) (F.faults files.new) (F.misses files.old) (F.misses files.new)
-        (F.longs files.old) (F.longs files.new))
-        (sink_change (O.written out.old) (O.written out.new)
-        (O.faults out.old) (O.faults out.new)) result }
+        (source_between I.left I.faults script.old script.new)
+        (files_between F.told F.faults F.misses F.longs files.old files.new)
+        (sink_between O.written O.faults out.old out.new) result }
     ensures longs { IfKnown (F.told files.old) (λ known. MeetsAsTold (D.library commands.old.document known)
         (standing D.lines D.shown D.painter commands.old) (I.left script.old)
         commands.new.harm.met_long result) }
     ensures taken { TakesFew
-        (source_change (I.left script.old) (I.left script.new)
-        (I.faults script.old) (I.faults script.new)) }
+        (source_between I.left I.faults script.old script.new) }
 {
     let mut kept = Script::new(alloc);
     match read_pieces(

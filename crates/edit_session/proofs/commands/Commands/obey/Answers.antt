@@ -13,7 +13,7 @@ pub returns-in-Ok-clause-unharmed : goal.returns-in-Ok-clause-unharmed
 returns-in-Ok-clause-unharmed g c =
     let s = standing g.D.Lines.lines g.D.Document.shown g.D.Document.painter c.args.self.now in
     let now = standing g.D.Lines.lines g.D.Document.shown g.D.Document.painter c.carry_out.new.self in
-    unharmed_by _ c.carry_out.result s now (carries_out s c.args.line c.args.command.lines c.in-Ok.resolved) c.carry_out.ensures.answer (carries_unharmed s c.args.line c.args.command.lines c.in-Ok.resolved) (carries_meet_none s c.args.line c.args.command.lines c.in-Ok.resolved)
+    unharmed_by _ c.carry_out.result s now (carries_out s c.args.line c.args.command c.in-Ok.resolved) c.carry_out.ensures.answer (carries_unharmed s c.args.line c.args.command c.in-Ok.resolved) (carries_meet_none s c.args.line c.args.command c.in-Ok.resolved)
 
 pub returns-in_ok-cause-in-Err-clause-unharmed : goal.returns-in_ok-cause-in-Err-clause-unharmed
 returns-in_ok-cause-in-Err-clause-unharmed g c =
