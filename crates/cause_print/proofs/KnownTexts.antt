@@ -5,9 +5,12 @@ use Rattle.std.specs.Fmt.{digits}
 use Rattle.std.proofs.Math.Utf8.{encode}
 use Rattle.pattern_items.specs.declared.cause.PatternCause.TheVariants as pattern
 use Rattle.syn_words.specs.declared.cause.Cause.TheVariants as cause
+use Rattle.ex_substitute.specs.declared.error.ExError.TheVariants as error
+use Rattle.syn_base.specs.declared.places.Place.{Place}
 use Rattle.cause_print.specs.declared.lines.FileFault.TheVariants as fault
 use Rattle.cause_print.specs.CauseText.{cause_bytes}
 use Rattle.cause_print.specs.CountText.{counts_text}
+use Rattle.cause_print.specs.ExCauseText.{ex_cause_text}
 use Rattle.cause_print.specs.FaultText.{file_fault_text, refused_text}
 
 -- a command that isn't one, in line 20
@@ -52,3 +55,16 @@ named = refl
 counts : counts_text 10 7 2 ≡ codes "items 10\nkeywords 7\nclusters 2\n"
 unfolding digits
 counts = refl
+
+-- causes against a command: in its pattern, in its string, and at a place of the text
+command_pattern : ex_cause_text (error.Pattern 1 pattern.NothingToRepeat) ≡ codes "pattern: nothing to repeat at 2"
+unfolding digits encode
+command_pattern = refl
+
+command_string : ex_cause_text (error.BadReplacement 0) ≡ codes "bad replacement at 1"
+unfolding digits
+command_string = refl
+
+command_costly : ex_cause_text (error.TooCostly (let p : Place = record { line = 11; col = 0 } in p)) ≡ codes "pattern too costly at line 12, column 1"
+unfolding digits
+command_costly = refl

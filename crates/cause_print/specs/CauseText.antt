@@ -1,5 +1,6 @@
 -- What is told of a cause for which a syntax file is refused.
 use Rattle.std.specs.Prelude.{ℕ, ◌+◌, List, [], ◌++◌, codes, decimal, encode_utf8_all}
+use Rattle.pattern_items.specs.declared.cause.PatternCause.{PatternCause}
 use Rattle.pattern_items.specs.CauseText.{cause_text}
 use Rattle.syn_words.specs.declared.cause.Cause.{Cause}
 use Rattle.syn_words.specs.declared.cause.Cause.TheVariants.{BadUtf8, UnknownCommand, UnknownSubcommand, NotInProfile, SyncMethod, GuardUnfinished, BadGroupName, ReservedName, MissingArgument, ExtraText, UnknownOption, OptionHere, BadList, NoPattern, NoDelimiter, BadOffset, TwoSkips, NoStart, NoEnd, TooLongWord, BadBrackets, BadOptionValue, BadStyle, BadFileName, TooLongFile, TooManyIncludes, TooDeepIncludes, TooManyItems, TooManyGroups, Pattern, CostlyNames}
@@ -38,11 +39,14 @@ label TooManyGroups = codes "too many groups"
 label (Pattern at cause) = codes "pattern: "
 label CostlyNames = codes "pattern of names too costly"
 
--- what stands behind the words: the refused word as written, or why the pattern has no tree, with the
--- place of the offending character, which is printed from 1
+-- why a pattern has no tree, with the place of the offending character, which is printed from 1
+abbrev pub pattern_fault : ℕ → PatternCause → List ℕ
+pattern_fault at cause = cause_text cause ++ codes " at " ++ decimal (at + 1)
+
+-- what stands behind the words: the refused word as written, or the pattern's fault
 abbrev pub detail : Cause → List ℕ
 detail (NotInProfile word) = encode_utf8_all word
-detail (Pattern at cause) = cause_text cause ++ codes " at " ++ decimal (at + 1)
+detail (Pattern at cause) = pattern_fault at cause
 detail _ = []
 
 abbrev pub cause_bytes : Cause → List ℕ

@@ -2,3 +2,5 @@
 pub mod CauseText
 pub mod CountText
 pub mod FaultText
+pub mod PlaceWords
+pub mod ExCauseText

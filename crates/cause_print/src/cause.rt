@@ -1,6 +1,5 @@
 //! The causes.
-ghost use Rattle.std.specs.Prelude.{◌≡◌, ◌+◌, ◌++◌, codes, decimal, OnOk};
-ghost use Rattle.pattern_items.specs.CauseText as pattern;
+ghost use Rattle.std.specs.Prelude.{◌≡◌, ◌++◌, OnOk};
 ghost use Rattle.cause_print.specs.CauseText as spec;
 
 use byte_text::{push_bytes, push_chars, push_number_from_one};
@@ -16,20 +15,19 @@ pub(crate) fn print_cause(alloc: Global, out: &mut Vec<u8>, cause: &Cause) -> Re
     push_bytes(out, label(cause).as_bytes())?;
     match cause {
         Cause::NotInProfile { word } => push_chars(out, word.as_slice()),
-        Cause::Pattern { at, cause } => print_place(alloc, out, *at, cause),
+        Cause::Pattern { at, cause } => print_fault(alloc, out, *at, cause),
         _ => Ok(()),
     }
 }
 
 /// Appends a pattern's cause and the place of the offending character.
-fn print_place(
+pub(crate) fn print_fault(
     alloc: Global,
     out: &mut Vec<u8>,
     at: usize,
     cause: &PatternCause,
 ) -> Result<(), AllocError>
-    ensures { OnOk result (out.new.items ≡ out.old.items ++ pattern.cause_text cause.now
-        ++ codes " at " ++ decimal (at + 1)) }
+    ensures { OnOk result (out.new.items ≡ out.old.items ++ spec.pattern_fault at cause.now) }
 {
     push_bytes(out, cause.to_string(alloc)?.as_bytes())?;
     push_bytes(out, b" at ")?;

@@ -292,6 +292,14 @@ impl Painted {
     {
         &self.syntax
     }
+
+    /// The most ticks for an attempt.
+    pub fn budget(&self) -> u64
+        ensures is { result ≡ self.now.budget }
+        ensures some { 1 ≤ result }
+    {
+        self.budget
+    }
 }
 
 impl Lines for Painted {
