@@ -6,7 +6,7 @@ use Rattle.conceal_view.proofs.MarkedLaws.{marked_paintings_are_the_old_ones}
 use Rattle.conceal_view.specs.Marking.{old_groups}
 use Rattle.conceal_view.specs.MarkedPaintings.{marked_rules}
 use Rattle.conceal_view.specs.Marks.{marks_of}
-use Rattle.conceal_view.specs.NoMarks.{HaveNoMarks}
+use Rattle.syntax_set.specs.NoMarks.{HaveNoMarks}
 use Rattle.paint_marks.specs.Alike.{RefusedAt, Spans as SpansOf, Told, told_of, unmarked_told}
 use Rattle.paint_marks.specs.OldGroups.{OldGroups, unmarked_spans}
 use Rattle.paint_rules.specs.Line.{Painting, Whole, Fails, painting}
@@ -20,18 +20,21 @@ use Rattle.state_cache.specs.Spans.{refused_at, spans_of, spans_told, syntax_rul
 use Rattle.syn_base.specs.declared.places.GroupId.{GroupId}
 use Rattle.syn_base.specs.declared.places.Span.{Span}
 use Rattle.syn_base.specs.Outside.{FileMap}
+use Rattle.syn_reader.specs.declared.syntax.ReadOptions.{ReadOptions}
 use Rattle.syn_reader.specs.declared.syntax.Syntax.{Syntax}
 use Rattle.syn_reader.specs.Names.{is_full}
+use Rattle.syn_reader.specs.SyntaxOf.{syntax_of, told_by}
+use Rattle.syn_reader.proofs.NoMarkRuns.{read_syntaxes_name_no_marks}
 use Rattle.syntax_set.specs.Groups.{group_of, with_group}
 use Rattle.vimsyn_cli.specs.declared.fault.Fault.{Fault}
 use Rattle.vimsyn_cli.specs.declared.picture.Picture.{Picture}
 use Rattle.vimsyn_cli.specs.declared.picture.Picture.TheVariants as picture
 use Rattle.vimsyn_cli.specs.Concealing.{ConcealedText, concealed_told, cover_name, covered_if, covered_told, marked_syntax, marked_told, with_cover, with_marks}
-use Rattle.vimsyn_cli.specs.Laws.{IsAccepted, MayBeMarked, ShowsView, concealed_of}
+use Rattle.vimsyn_cli.specs.Laws.{HasRoomForCover, IsAccepted, ShowsView, concealed_of}
 use Rattle.vimsyn_cli.specs.Painting.{text_told}
 use Rattle.vimsyn_cli.specs.Plans.{and_then}
 use Rattle.vimsyn_cli.specs.Printing.{picture_at, picture_bytes, picture_page, picture_told, seen_bytes, seen_page}
-use Rattle.vimsyn_cli.specs.Reading.{syntax_told, with_told}
+use Rattle.vimsyn_cli.specs.Reading.{options_of, syntax_told, with_told}
 use Rattle.vimsyn_cli.specs.Session.{session, session_told, with_asked}
 use Rattle.vimsyn_cli.proofs.PictureLaws.{some_level}
 use Rattle.vimsyn_cli.proofs.SessionLaws.{text_is}
@@ -69,11 +72,16 @@ seen_spans syntax budget text spans none is =
     marked_as (old_groups (marks_of syntax.items)) (painting (marked_rules r) text) (told_of (painting r text)) spans
     (marked_paintings_are_the_old_ones r none text) (sym (answered (painting r text)) ∙ is)
 
-pub refused_alike : (syntax : Syntax) (budget : ℕ) (text : List (List ℕ)) (error : EditError) → HaveNoMarks syntax.items (syntax.clusters).lists → text_spans syntax budget text ≡ Err error → text_spans (marked_syntax syntax) budget text ≡ Err error
-refused_alike syntax budget text error none is =
+pub refused_alike : (files : FileMap) (name : List ℕ) (options : ReadOptions) (syntax : Syntax) (budget : ℕ) (text : List (List ℕ)) (error : EditError) → syntax_of files name options ≡ Ok syntax → text_spans syntax budget text ≡ Err error → text_spans (marked_syntax syntax) budget text ≡ Err error
+refused_alike files name options syntax budget text error read is =
+    let none = read_syntaxes_name_no_marks (told_by files) name options syntax read in
     let r = syntax_rules syntax budget in
     refused_as (old_groups (marks_of syntax.items)) (painting (marked_rules r) text) (told_of (painting r text)) error
     (marked_paintings_are_the_old_ones r none text) (sym (answered (painting r text)) ∙ is)
+
+-- an accepted syntax names no mark
+unmarked : (words : PaintWords) (files : FileMap) (painted : PaintedText) → IsAccepted words files painted → HaveNoMarks painted.syntax.items (painted.syntax.clusters).lists
+unmarked words files painted is = read_syntaxes_name_no_marks (told_by files) (words.syntax).syntax (options_of words.syntax) painted.syntax is.syntax_is
 
 -- ---- the group that covers has room
 
@@ -84,12 +92,12 @@ roomy : (o : Option GroupId) (n most : ℕ) → (o ≡ None → n < most) → (n
 roomy (Some g) n most h = refl
 roomy None n most h = less_is_other n most (h refl)
 
-covered_of : (name : List ℕ) (syntax : Syntax) → MayBeMarked syntax → with_cover name syntax ≡ Ok (record syntax { groups = with_group syntax.groups cover_name })
-covered_of name syntax may = ap (λ (full : Bool). covered_if full name syntax) (roomy (group_of syntax.groups cover_name) (length syntax.groups) 20000 may.room)
+covered_of : (name : List ℕ) (syntax : Syntax) → HasRoomForCover syntax → with_cover name syntax ≡ Ok (record syntax { groups = with_group syntax.groups cover_name })
+covered_of name syntax may = ap (λ (full : Bool). covered_if full name syntax) (roomy (group_of syntax.groups cover_name) (length syntax.groups) 20000 may)
 
 -- ---- what is seen
 
-concealed_is : (words : PaintWords) (files : FileMap) (painted : PaintedText) (spans : List (List Span)) → IsAccepted words files painted → MayBeMarked painted.syntax → text_spans (marked_syntax painted.syntax) words.budget painted.text ≡ Ok spans → concealed_told words files ≡ Ok (concealed_of words painted spans)
+concealed_is : (words : PaintWords) (files : FileMap) (painted : PaintedText) (spans : List (List Span)) → IsAccepted words files painted → HasRoomForCover painted.syntax → text_spans (marked_syntax painted.syntax) words.budget painted.text ≡ Ok spans → concealed_told words files ≡ Ok (concealed_of words painted spans)
 concealed_is words files painted spans is may marked =
     let covered : Syntax = record painted.syntax { groups = with_group painted.syntax.groups cover_name } in
     let more : Syntax → Result ConcealedText Fault = λ syntax. and_then (text_told words.text files) (marked_told words syntax) in
@@ -100,15 +108,15 @@ concealed_is words files painted spans is may marked =
     ∙ ap (λ (e : Result (List (List ℕ)) Fault). and_then e (marked_told words covered)) (text_is words files painted is)
     ∙ ap (with_marks words covered painted.text) marked
 
-picture_is : (words : PaintWords) (files : FileMap) (painted : PaintedText) (spans : List (List Span)) → 1 ≤ words.conceal → IsAccepted words files painted → MayBeMarked painted.syntax → text_spans (marked_syntax painted.syntax) words.budget painted.text ≡ Ok spans → picture_told words files ≡ Ok (picture.Concealed (concealed_of words painted spans))
+picture_is : (words : PaintWords) (files : FileMap) (painted : PaintedText) (spans : List (List Span)) → 1 ≤ words.conceal → IsAccepted words files painted → HasRoomForCover painted.syntax → text_spans (marked_syntax painted.syntax) words.budget painted.text ≡ Ok spans → picture_told words files ≡ Ok (picture.Concealed (concealed_of words painted spans))
 picture_is words files painted spans some is may marked =
     ap (λ (all : Bool). picture_at all words files) (some_level words.conceal some)
     ∙ ap (λ (e : Result ConcealedText Fault). let f : Result Picture Fault = and_then e (λ text. Ok (picture.Concealed text)) in f) (concealed_is words files painted spans is may marked)
 
 -- the spans of the view
-pub accepted_seen : (typed : List (List ℕ)) (files : FileMap) (script : List ℕ) (words : PaintWords) (painted : PaintedText) → asked_of typed ≡ Some (Print (Spans words)) → 1 ≤ words.conceal → IsAccepted words files painted → MayBeMarked painted.syntax → ShowsView words painted seen_bytes (session typed files script)
+pub accepted_seen : (typed : List (List ℕ)) (files : FileMap) (script : List ℕ) (words : PaintWords) (painted : PaintedText) → asked_of typed ≡ Some (Print (Spans words)) → 1 ≤ words.conceal → IsAccepted words files painted → HasRoomForCover painted.syntax → ShowsView words painted seen_bytes (session typed files script)
 accepted_seen typed files script words painted asked some is may =
-    let seen = seen_spans painted.syntax words.budget painted.text painted.spans may.unmarked is.spans_are in
+    let seen = seen_spans painted.syntax words.budget painted.text painted.spans (unmarked words files painted is) is.spans_are in
     record {
       spans = seen.marked;
       marked = seen.told;
@@ -118,9 +126,9 @@ accepted_seen typed files script words painted asked some is may =
     }
 
 -- or its page
-pub accepted_seen_pages : (typed : List (List ℕ)) (files : FileMap) (script : List ℕ) (words : PageWords) (painted : PaintedText) → asked_of typed ≡ Some (Print (Html words)) → 1 ≤ (words.painting).conceal → IsAccepted words.painting files painted → MayBeMarked painted.syntax → ShowsView words.painting painted (seen_page words) (session typed files script)
+pub accepted_seen_pages : (typed : List (List ℕ)) (files : FileMap) (script : List ℕ) (words : PageWords) (painted : PaintedText) → asked_of typed ≡ Some (Print (Html words)) → 1 ≤ (words.painting).conceal → IsAccepted words.painting files painted → HasRoomForCover painted.syntax → ShowsView words.painting painted (seen_page words) (session typed files script)
 accepted_seen_pages typed files script words painted asked some is may =
-    let seen = seen_spans painted.syntax words.painting.budget painted.text painted.spans may.unmarked is.spans_are in
+    let seen = seen_spans painted.syntax words.painting.budget painted.text painted.spans (unmarked words.painting files painted is) is.spans_are in
     record {
       spans = seen.marked;
       marked = seen.told;

@@ -1,5 +1,6 @@
 -- The painter by a syntax: how a session paints a text, and how it tells and prints it.
-use Rattle.std.specs.Prelude.{ℕ, ◌+◌, Bool, true, false, List, [], ◌++◌, codes, decimal, Result, Ok, Err}
+use Rattle.std.specs.Prelude.{ℕ, Bool, true, false, List, [], ◌++◌, codes, Result, Ok, Err}
+use Rattle.cause_print.specs.PlaceWords.{place_words}
 use Rattle.edit_session.specs.Painter.{Painter, Painted}
 use Rattle.program_words.specs.Given.{PageWords}
 use Rattle.span_print.specs.SpanText.{line_text}
@@ -18,10 +19,7 @@ use Rattle.vimsyn_cli.specs.declared.status.Status.TheVariants.{Done, Refused}
 use Rattle.vimsyn_cli.specs.Folds.{folds_text}
 use Rattle.vimsyn_cli.specs.Painting.{group_name}
 use Rattle.vimsyn_cli.specs.Printing.{page_options}
-
--- a line and a column, from 1
-abbrev pub place_words : ℕ → ℕ → List ℕ
-place_words line col = codes "at line " ++ decimal (line + 1) ++ codes ", column " ++ decimal (col + 1)
+use Rattle.vimsyn_cli.specs.Substitutions.{substituted_by}
 
 -- the words for a painting that is refused; the rules of painting know no want of memory, so nothing is
 -- told of it
@@ -42,6 +40,7 @@ painter_of words syntax budget = record {
   paint = λ text. with_words syntax (text_spans syntax budget text);
   report = λ before after a b count. report before after (record { a = a; b = b; count = count });
   costs = λ text r. lines_to_paint (syntax_rules syntax budget) text r.a r.b r.new;
+  substitute = substituted_by budget;
   line = λ number spans. line_text syntax.groups syntax.links number spans true;
   page = λ text spans. page_text (words.painting).text text spans syntax.groups syntax.links (page_options words);
   folds = λ text. folds_text syntax budget text;

@@ -2,7 +2,6 @@
 use Rattle.std.specs.Prelude.{◌≡◌, ℕ, ◌<◌, ◌≤◌, List, length, map, codes, Some, None, Ok, Err, IsOk}
 use Rattle.conceal_view.specs.Marking.{old_groups}
 use Rattle.conceal_view.specs.Marks.{marks_of}
-use Rattle.conceal_view.specs.NoMarks.{HaveNoMarks}
 use Rattle.edit_session.specs.Laws.{AreCarriedOut}
 use Rattle.edit_session.specs.Session.{entries_read, is_too_long}
 use Rattle.large_session.specs.Laws.{ArePainted}
@@ -13,6 +12,7 @@ use Rattle.program_words.specs.Given.{CheckWords, FoldWords, LargeWords, PageWor
 use Rattle.program_words.specs.Words.{asked_of, large_page}
 use Rattle.syn_base.specs.declared.places.Span.{Span}
 use Rattle.syn_base.specs.Outside.{FileMap, file_named}
+use Rattle.syn_reader.specs.declared.syntax.ReadOptions.{ReadOptions}
 use Rattle.syn_reader.specs.declared.syntax.Syntax.{Syntax}
 use Rattle.syn_reader.specs.SyntaxOf.{syntax_of}
 use Rattle.state_cache.specs.declared.refusal.EditError.{EditError}
@@ -65,10 +65,9 @@ AcceptedFilesAreFolded =
     → asked_of typed ≡ Some (Print (Folds words)) → IsAccepted words.painting files painted
     → session typed files script ≡ shows (folds_shown words.close painted)
 
--- a syntax that has the group of the characters that are put, or room for it, and that names no mark
-pub record MayBeMarked (syntax : Syntax) : Type 0 where
-  pub room : group_of syntax.groups cover_name ≡ None → length syntax.groups < 20000
-  pub unmarked : HaveNoMarks syntax.items (syntax.clusters).lists
+-- a syntax that has the group of the characters that are put, or room for it
+abbrev pub HasRoomForCover : Syntax → Type 0
+HasRoomForCover syntax = group_of syntax.groups cover_name ≡ None → length syntax.groups < 20000
 
 -- a painted text with spans that show marks
 abbrev pub concealed_of : PaintWords → PaintedText → List (List Span) → ConcealedText
@@ -93,20 +92,20 @@ pub record ShowsView (words : PaintWords) (painted : PaintedText) (print : Conce
 abbrev pub AcceptedFilesAreSeen : Type 0
 AcceptedFilesAreSeen =
     (typed : List (List ℕ)) (files : FileMap) (script : List ℕ) (words : PaintWords) (painted : PaintedText)
-    → asked_of typed ≡ Some (Print (Spans words)) → 1 ≤ words.conceal → IsAccepted words files painted → MayBeMarked painted.syntax
+    → asked_of typed ≡ Some (Print (Spans words)) → 1 ≤ words.conceal → IsAccepted words files painted → HasRoomForCover painted.syntax
     → ShowsView words painted seen_bytes (session typed files script)
 
 abbrev pub AcceptedFilesAreSeenPages : Type 0
 AcceptedFilesAreSeenPages =
     (typed : List (List ℕ)) (files : FileMap) (script : List ℕ) (words : PageWords) (painted : PaintedText)
-    → asked_of typed ≡ Some (Print (Html words)) → 1 ≤ (words.painting).conceal → IsAccepted words.painting files painted → MayBeMarked painted.syntax
+    → asked_of typed ≡ Some (Print (Html words)) → 1 ≤ (words.painting).conceal → IsAccepted words.painting files painted → HasRoomForCover painted.syntax
     → ShowsView words.painting painted (seen_page words) (session typed files script)
 
 -- and a text that is refused is so as without, with the same line, column and item
 abbrev pub ViewsAreRefusedAlike : Type 0
 ViewsAreRefusedAlike =
-    (syntax : Syntax) (budget : ℕ) (text : List (List ℕ)) (error : EditError)
-    → HaveNoMarks syntax.items (syntax.clusters).lists → text_spans syntax budget text ≡ Err error
+    (files : FileMap) (name : List ℕ) (options : ReadOptions) (syntax : Syntax) (budget : ℕ) (text : List (List ℕ)) (error : EditError)
+    → syntax_of files name options ≡ Ok syntax → text_spans syntax budget text ≡ Err error
     → text_spans (marked_syntax syntax) budget text ≡ Err error
 
 -- or, for `edit`, prints what the commands of the script print, one after the other
@@ -116,8 +115,9 @@ AcceptedTextsAreEdited =
     → asked_of typed ≡ Some (Edit words) → IsAccepted words.painting files painted
     → session typed files script ≡ script_end (is_too_long script) (script_answer words files painted script)
 
--- and where each command of a script fits the text as it is then, each syntax file that they name is accepted, and so
--- is the painting of each text that they change or paint by another syntax, it ends well, with what the commands print
+-- and where each command of a script fits the text as it is then, each one by pattern comes to a change or a count, each
+-- syntax file that they name is accepted, and so is the painting of each text that they change or paint by another syntax,
+-- it ends well, with what the commands print
 abbrev pub CarriedOutScriptsAreDone : Type 0
 CarriedOutScriptsAreDone =
     (typed : List (List ℕ)) (files : FileMap) (script : List ℕ) (words : PageWords) (painted : PaintedText)

@@ -18,6 +18,7 @@ pub mod Report
 pub mod Runs
 pub mod Session
 pub mod Statuses
+pub mod Substitutions
 pub mod TextFault
 pub mod Written
 -- what only code and proofs cite

@@ -1,6 +1,6 @@
 //! What a command prints, or the line of a fault, as it is written.
 ghost use Rattle.vimsyn_cli.specs.Answers.{Delivers, Writes};
-ghost use Rattle.vimsyn_cli.specs.Changes.{sink_change};
+ghost use Rattle.vimsyn_cli.specs.Changes.{sink_between};
 
 use crate::Status;
 use crate::fault::Stop;
@@ -13,8 +13,8 @@ pub(crate) fn deliver<O: Sink, E: Sink>(
     err: &mut E,
 ) -> Status
     ensures { Delivers answer
-        (sink_change (O.written out.old) (O.written out.new) (O.faults out.old) (O.faults out.new))
-        (sink_change (E.written err.old) (E.written err.new) (E.faults err.old) (E.faults err.new))
+        (sink_between O.written O.faults out.old out.new)
+        (sink_between E.written E.faults err.old err.new)
         result }
 {
     match answer {
@@ -26,8 +26,7 @@ pub(crate) fn deliver<O: Sink, E: Sink>(
 
 /// Writes the bytes, and answers the status, or that a write failed.
 pub(crate) fn finish<S: Sink>(sink: &mut S, bytes: &[u8], status: Status) -> Status
-    ensures { Writes (sink_change (S.written sink.old) (S.written sink.new)
-        (S.faults sink.old) (S.faults sink.new)) bytes.now status result }
+    ensures { Writes (sink_between S.written S.faults sink.old sink.new) bytes.now status result }
 {
     if put_all(sink, bytes) {
         status

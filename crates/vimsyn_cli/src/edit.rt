@@ -4,7 +4,7 @@ ghost use Rattle.std.specs.Prelude.{◌≡◌, ◌≤◌, ◌+◌, IfSome, Some}
 ghost use Rattle.edit_session.specs.Ends.{IfKnown, LongsRise};
 ghost use Rattle.program_words.specs.declared.words.Asked.TheVariants.{Edit};
 ghost use Rattle.vimsyn_cli.specs.Answers.{Closes};
-ghost use Rattle.vimsyn_cli.specs.Changes.{files_change, sink_change, source_change};
+ghost use Rattle.vimsyn_cli.specs.Changes.{files_between, sink_between, source_between};
 ghost use Rattle.vimsyn_cli.specs.EditRun.{edit_start, script_lines};
 ghost use Rattle.vimsyn_cli.specs.Runs.{CountsNamed, EditsPainted, IfTold, Runs};
 ghost use Rattle.vimsyn_cli.specs.Renewal.{library_of};
@@ -38,21 +38,16 @@ pub(crate) fn run_edit<F: Files, I: Source, O: Sink, E: Sink, L: Ledger>(
     steps: &mut Steps<L>,
 ) -> Status
     ensures runs { Runs (Some (Edit words.now))
-        (files_change (F.told files.old) (F.told files.new)
-        (F.faults files.old) (F.faults files.new) (F.misses files.old) (F.misses files.new)
-        (F.longs files.old) (F.longs files.new))
-        (source_change (I.left script.old) (I.left script.new)
-        (I.faults script.old) (I.faults script.new))
-        (sink_change (O.written out.old) (O.written out.new) (O.faults out.old) (O.faults out.new))
-        (sink_change (E.written err.old) (E.written err.new) (E.faults err.old) (E.faults err.new))
+        (files_between F.told F.faults F.misses F.longs files.old files.new)
+        (source_between I.left I.faults script.old script.new)
+        (sink_between O.written O.faults out.old out.new)
+        (sink_between E.written E.faults err.old err.new)
         result }
     ensures steps { IfTold (F.told files.old) (I.left script.old) (λ known bytes.
         steps.new ≤ steps.old + edit_lines words.now known bytes) }
     ensures long_named { result ≡ Status.Refused → IfTold (F.told files.old) (I.left script.old)
         (λ known bytes. CountsNamed (Some (Edit words.now)) known bytes
-        (files_change (F.told files.old) (F.told files.new)
-        (F.faults files.old) (F.faults files.new) (F.misses files.old) (F.misses files.new)
-        (F.longs files.old) (F.longs files.new))) }
+        (files_between F.told F.faults F.misses F.longs files.old files.new)) }
 {
     match paint(alloc, files, words.painting(), steps) {
         Ok(painted) => edit_painted(alloc, words, painted, files, script, out, err, steps),
@@ -72,22 +67,17 @@ fn edit_painted<F: Files, I: Source, O: Sink, E: Sink, L: Ledger>(
     steps: &mut Steps<L>,
 ) -> Status
     ensures edits { EditsPainted words.now painted
-        (files_change (F.told files.old) (F.told files.new)
-        (F.faults files.old) (F.faults files.new) (F.misses files.old) (F.misses files.new)
-        (F.longs files.old) (F.longs files.new))
-        (source_change (I.left script.old) (I.left script.new)
-        (I.faults script.old) (I.faults script.new))
-        (sink_change (O.written out.old) (O.written out.new) (O.faults out.old) (O.faults out.new))
-        (sink_change (E.written err.old) (E.written err.new) (E.faults err.old) (E.faults err.new))
+        (files_between F.told F.faults F.misses F.longs files.old files.new)
+        (source_between I.left I.faults script.old script.new)
+        (sink_between O.written O.faults out.old out.new)
+        (sink_between E.written E.faults err.old err.new)
         result }
     ensures steps { IfKnown (F.told files.old) (λ known. IfSome (I.left script.old) (λ bytes.
         steps.new ≤ steps.old + script_lines words.now known painted bytes)) }
     ensures long_named { result ≡ Status.Refused → IfKnown (F.told files.old) (λ known.
         LongsRise (library_of words.now painted.budget known) (edit_start words.now painted)
         (I.left script.old)
-        (files_change (F.told files.old) (F.told files.new)
-        (F.faults files.old) (F.faults files.new) (F.misses files.old) (F.misses files.new)
-        (F.longs files.old) (F.longs files.new))) }
+        (files_between F.told F.faults F.misses F.longs files.old files.new)) }
 {
     let _syntax = painted.syntax();
     let sheet = Sheet { painted, words };
@@ -98,7 +88,7 @@ fn edit_painted<F: Files, I: Source, O: Sink, E: Sink, L: Ledger>(
 /// Tells how the script ended, and answers the status.
 fn close<E: Sink>(end: End, err: &mut E) -> Status
     ensures { Closes end
-        (sink_change (E.written err.old) (E.written err.new) (E.faults err.old) (E.faults err.new))
+        (sink_between E.written E.faults err.old err.new)
         result }
 {
     match end {

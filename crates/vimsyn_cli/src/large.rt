@@ -2,7 +2,7 @@
 ghost use Rattle.std.specs.Prelude.{◌≡◌, ◌≤◌, ◌+◌, IfOk, OnOk};
 ghost use Rattle.program_words.specs.Words.{large_page};
 ghost use Rattle.large_session.specs.LargeSession.{number_behind};
-ghost use Rattle.vimsyn_cli.specs.Changes.{sink_change};
+ghost use Rattle.vimsyn_cli.specs.Changes.{sink_between};
 ghost use Rattle.vimsyn_cli.specs.Large.{large_files, large_lines, large_painting, lines_edited};
 ghost use Rattle.vimsyn_cli.specs.LargeRun.{DeliversLarge, IsLarge, RunsLarge};
 ghost use Rattle.vimsyn_cli.specs.Editing.{script_status};
@@ -29,10 +29,8 @@ pub(crate) fn run_large<O: Sink, E: Sink, L: Ledger>(
     steps: &mut Steps<L>,
 ) -> Status
     ensures runs { RunsLarge words.now
-        (sink_change (O.written out.old) (O.written out.new)
-        (O.faults out.old) (O.faults out.new))
-        (sink_change (E.written err.old) (E.written err.new)
-        (E.faults err.old) (E.faults err.new))
+        (sink_between O.written O.faults out.old out.new)
+        (sink_between E.written E.faults err.old err.new)
         result }
     ensures steps { steps.new ≤ steps.old + large_lines words.now }
 {
@@ -48,10 +46,8 @@ fn deliver_large<O: Sink, E: Sink>(
     err: &mut E,
 ) -> Status
     ensures { DeliversLarge outcome
-        (sink_change (O.written out.old) (O.written out.new)
-        (O.faults out.old) (O.faults out.new))
-        (sink_change (E.written err.old) (E.written err.new)
-        (E.faults err.old) (E.faults err.new))
+        (sink_between O.written O.faults out.old out.new)
+        (sink_between E.written E.faults err.old err.new)
         result }
 {
     match outcome {

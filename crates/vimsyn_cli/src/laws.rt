@@ -36,7 +36,8 @@ pub fn accepted_syntax_files_are_counted()
 {}
 
 /// `edit` ends Done, with what its commands print, where besides each command of a short enough
-/// script fits the text as it is then, and the painting of each text that they change is accepted.
+/// script fits the text as it is then, each one by pattern comes to a change or a count, and the
+/// painting of each text that they change is accepted.
 /// `large` ends Done where the painting of each text that its edits change is accepted: they fit.
 pub fn accepted_edits_are_carried_out()
     ensures script { CarriedOutScriptsAreDone }

@@ -27,6 +27,7 @@ mod session;
 mod sheet;
 mod spans;
 mod status;
+mod substituting;
 mod text_file;
 
 pub use session::run;

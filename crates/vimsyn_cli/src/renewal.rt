@@ -2,7 +2,7 @@
 ghost use Rattle.std.specs.Prelude.{◌≡◌, ◌≤◌, ◌+◌, ◌-◌, length, take, encode_utf8_all, IfErr, IfOk, OnErr, OnOk};
 ghost use Rattle.std.specs.String.{string_bytes};
 ghost use Rattle.command_print.specs.Shown.{lines_shown_otherwise};
-ghost use Rattle.edit_session.specs.Ends.{IfKnown, files_change};
+ghost use Rattle.edit_session.specs.Ends.{IfKnown, files_between};
 ghost use Rattle.edit_session.specs.Steps.{IsTakingCaused};
 ghost use Rattle.state_cache.specs.PaintedText.{IsPaintingOf};
 ghost use Rattle.state_cache.specs.Shown.{text_shown};
@@ -29,9 +29,7 @@ pub(crate) fn read_named<F: Files>(
     ensures read { IfKnown (F.told files.old) (λ known.
         IsReadNamed (naming words.now name.now) known result) }
     ensures causes { IsTakingCaused
-        (files_change (F.told files.old) (F.told files.new)
-        (F.faults files.old) (F.faults files.new) (F.misses files.old) (F.misses files.new)
-        (F.longs files.old) (F.longs files.new)) result }
+        (files_between F.told F.faults F.misses F.longs files.old files.new) result }
 {
     match text_of(alloc, name) {
         Ok(file) => match read(alloc, files, &words.naming(file.as_str())) {

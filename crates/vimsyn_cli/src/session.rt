@@ -8,7 +8,7 @@ ghost use Rattle.program_words.specs.declared.words.Asked.TheVariants.{Print};
 ghost use Rattle.program_words.specs.Words.{asked_of, texts_of};
 ghost use Rattle.syn_base.specs.Causes.{Rose};
 ghost use Rattle.vimsyn_cli.specs.Answers.{GivesSession};
-ghost use Rattle.vimsyn_cli.specs.Changes.{files_change, sink_change, source_change};
+ghost use Rattle.vimsyn_cli.specs.Changes.{files_between, sink_between, source_between};
 ghost use Rattle.vimsyn_cli.specs.LargeRun.{RunsIfLarge};
 ghost use Rattle.vimsyn_cli.specs.Runs.{CountsNamed, IfTold, PaintsFew, Runs};
 ghost use Rattle.vimsyn_cli.specs.Session.{print_lines, script_read, session};
@@ -56,13 +56,10 @@ pub fn run<F: Files, I: Source, O: Sink, E: Sink, L: Ledger>(
     // This, and what holds whatever is told: what the sinks got in any case, each answer with its
     // cause, what stays as it was, and what is taken of the script.
     ensures runs { Runs (asked_of (texts_of words.now))
-        (files_change (F.told files.old) (F.told files.new)
-        (F.faults files.old) (F.faults files.new) (F.misses files.old) (F.misses files.new)
-        (F.longs files.old) (F.longs files.new))
-        (source_change (I.left script.old) (I.left script.new)
-        (I.faults script.old) (I.faults script.new))
-        (sink_change (O.written out.old) (O.written out.new) (O.faults out.old) (O.faults out.new))
-        (sink_change (E.written err.old) (E.written err.new) (E.faults err.old) (E.faults err.new))
+        (files_between F.told F.faults F.misses F.longs files.old files.new)
+        (source_between I.left I.faults script.old script.new)
+        (sink_between O.written O.faults out.old out.new)
+        (sink_between E.written E.faults err.old err.new)
         result }
 
     // It is refused for a file that is too long, which a command of the script names, only where
@@ -70,16 +67,12 @@ pub fn run<F: Files, I: Source, O: Sink, E: Sink, L: Ledger>(
     ensures long_named { result ≡ Status.Refused → IfTold (F.told files.old)
         (script_read (asked_of (texts_of words.now)) (I.left script.old))
         (λ known bytes. CountsNamed (asked_of (texts_of words.now)) known bytes
-        (files_change (F.told files.old) (F.told files.new)
-        (F.faults files.old) (F.faults files.new) (F.misses files.old) (F.misses files.new)
-        (F.longs files.old) (F.longs files.new))) }
+        (files_between F.told F.faults F.misses F.longs files.old files.new)) }
 
     // Of the large mode all this holds whatever the files and the script tell.
     ensures large { RunsIfLarge (asked_of (texts_of words.now))
-        (sink_change (O.written out.old) (O.written out.new)
-        (O.faults out.old) (O.faults out.new))
-        (sink_change (E.written err.old) (E.written err.new)
-        (E.faults err.old) (E.faults err.new)) result }
+        (sink_between O.written O.faults out.old out.new)
+        (sink_between E.written E.faults err.old err.new) result }
 
     // Lines that are painted: at most those of the text, and none for words that name no text. For
     // a session of edits, and for the large mode, besides at each edit that fits the text those that
@@ -110,22 +103,15 @@ fn run_asked<F: Files, I: Source, O: Sink, E: Sink, L: Ledger>(
     ensures long_named { result ≡ Status.Refused
         → IfTold (F.told files.old) (script_read asked.entry (I.left script.old))
         (λ known bytes. CountsNamed asked.entry known bytes
-        (files_change (F.told files.old) (F.told files.new)
-        (F.faults files.old) (F.faults files.new) (F.misses files.old) (F.misses files.new)
-        (F.longs files.old) (F.longs files.new))) }
+        (files_between F.told F.faults F.misses F.longs files.old files.new)) }
     ensures large { RunsIfLarge asked.entry
-        (sink_change (O.written out.old) (O.written out.new)
-        (O.faults out.old) (O.faults out.new))
-        (sink_change (E.written err.old) (E.written err.new)
-        (E.faults err.old) (E.faults err.new)) result }
+        (sink_between O.written O.faults out.old out.new)
+        (sink_between E.written E.faults err.old err.new) result }
     ensures runs { Runs asked.entry
-        (files_change (F.told files.old) (F.told files.new)
-        (F.faults files.old) (F.faults files.new) (F.misses files.old) (F.misses files.new)
-        (F.longs files.old) (F.longs files.new))
-        (source_change (I.left script.old) (I.left script.new)
-        (I.faults script.old) (I.faults script.new))
-        (sink_change (O.written out.old) (O.written out.new) (O.faults out.old) (O.faults out.new))
-        (sink_change (E.written err.old) (E.written err.new) (E.faults err.old) (E.faults err.new))
+        (files_between F.told F.faults F.misses F.longs files.old files.new)
+        (source_between I.left I.faults script.old script.new)
+        (sink_between O.written O.faults out.old out.new)
+        (sink_between E.written E.faults err.old err.new)
         result }
 {
     match asked {
@@ -147,13 +133,10 @@ fn run_print<F: Files, I: Source, O: Sink, E: Sink, L: Ledger>(
     steps: &mut Steps<L>,
 ) -> Status
     ensures runs { Runs (Some (Print printing.now))
-        (files_change (F.told files.old) (F.told files.new)
-        (F.faults files.old) (F.faults files.new) (F.misses files.old) (F.misses files.new)
-        (F.longs files.old) (F.longs files.new))
-        (source_change (I.left script.old) (I.left script.new)
-        (I.faults script.old) (I.faults script.new))
-        (sink_change (O.written out.old) (O.written out.new) (O.faults out.old) (O.faults out.new))
-        (sink_change (E.written err.old) (E.written err.new) (E.faults err.old) (E.faults err.new))
+        (files_between F.told F.faults F.misses F.longs files.old files.new)
+        (source_between I.left I.faults script.old script.new)
+        (sink_between O.written O.faults out.old out.new)
+        (sink_between E.written E.faults err.old err.new)
         result }
     ensures steps { IfSome (F.told files.old) (λ known.
         steps.new ≤ steps.old + print_lines printing.now known) }

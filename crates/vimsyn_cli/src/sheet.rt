@@ -1,7 +1,8 @@
 //! A painted text as a session of edits changes and prints it.
 ghost use Rattle.std.specs.Prelude.{◌≡◌, ◌≢◌, ◌++◌, codes, length, IfOk, OnOk};
 ghost use Rattle.std.specs.List.{sum_by};
-ghost use Rattle.vimsyn_cli.specs.Editing.{cause_words, painter_of, place_words};
+ghost use Rattle.cause_print.specs.PlaceWords.{place_words};
+ghost use Rattle.vimsyn_cli.specs.Editing.{cause_words, painter_of};
 ghost use Rattle.vimsyn_cli.specs.Refusal.{IsUnedited};
 ghost use Rattle.vimsyn_cli.specs.Renewal.{library_of};
 
@@ -10,8 +11,10 @@ use crate::html::page_bytes;
 use crate::refusal::group_of;
 use crate::renewal::{read_named, renew};
 use crate::spans::{push_line, spans_at};
-use byte_text::{push_bytes, push_number_from_one};
-use edit_session::{Document, Replacement, Unedited, Untaken};
+use crate::substituting::substituted;
+use byte_text::push_bytes;
+use cause_print::push_place;
+use edit_session::{Document, Replacement, Substituted, Unedited, Untaken};
 use large_session::LargeDocument;
 use program_words::PageWords;
 use state_cache::{EditError, Painted, Repainted};
@@ -57,6 +60,16 @@ impl<'a> Document for Sheet<'a> {
 
     fn folds(&self, alloc: Global) -> Result<List<u8>, Memory> {
         folds_bytes(alloc, &self.painted)
+    }
+
+    fn substitute(
+        &self,
+        alloc: Global,
+        a: usize,
+        b: usize,
+        command: &[char],
+    ) -> Result<Substituted, Unedited> {
+        substituted(alloc, &self.painted, a, b, self.painted.budget(), command)
     }
 
     fn edit<L: Ledger>(
@@ -171,14 +184,4 @@ fn push_deep(out: &mut Vec<u8>, line: usize, col: usize) -> Result<(), AllocErro
 {
     push_bytes(out, b"too deep ")?;
     push_place(out, line, col)
-}
-
-/// Appends a line and a column, counted from 1.
-fn push_place(out: &mut Vec<u8>, line: usize, col: usize) -> Result<(), AllocError>
-    ensures { OnOk result (out.new.items ≡ out.old.items ++ place_words line col) }
-{
-    push_bytes(out, b"at line ")?;
-    push_number_from_one(out, line)?;
-    push_bytes(out, b", column ")?;
-    push_number_from_one(out, col)
 }
