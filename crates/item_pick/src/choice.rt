@@ -28,10 +28,7 @@ pub(crate) fn admits<S: Syntax>(syntax: &S, choice: Choice, id: ItemId) -> bool
 {
     let items = syntax.items();
     match choice {
-        Choice::ListOf(waiting) => match &items.item(waiting).nextgroup {
-            Some(list) => items.in_next(syntax.clusters(), id, list),
-            None => false,
-        },
+        Choice::ListOf(waiting) => items.follows(syntax.clusters(), id, waiting),
         Choice::Within(container) => items.allowed(syntax.clusters(), id, container),
         Choice::NoItem => false,
     }

@@ -11,3 +11,4 @@ mod KnownLists
 pub mod EntryLaws
 pub mod ListedLaws
 pub mod SoundLaws
+pub mod NamedLaws

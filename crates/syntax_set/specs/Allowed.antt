@@ -33,6 +33,11 @@ is_allowed items lists id (Some container) =
 abbrev pub is_in_next : List AddedItem → List ClusterList → ItemId → GroupList → Bool
 is_in_next items lists id list = passes (is_member lists list 0) (slice_get items id.0)
 
+-- whether the `nextgroup` of an item has another
+abbrev pub follows : List AddedItem → List ClusterList → ItemId → ItemId → Bool
+follows items lists id other =
+    passes (λ owner. passes (is_member_of_option lists owner.item.nextgroup 0) (slice_get items id.0)) (slice_get items other.0)
+
 -- an item no longer live
 abbrev pub dead : AddedItem → AddedItem
 dead added = record added { live = false }

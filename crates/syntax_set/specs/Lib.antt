@@ -11,3 +11,4 @@ pub mod NoMarks
 -- what the code and proofs alone cite
 pub mod GroupEntries
 pub mod Reached
+pub mod NamedLists

@@ -1,12 +1,15 @@
 //! Clusters by name.
 ghost use Rattle.std.specs.Prelude.{◌≡◌, ◌≤◌, ◌<◌, ◌==◌, [], length, slice_get, Some, IfOk, IfErr, OnOk, OnErr};
+ghost use Rattle.std.specs.List.{list_any};
 ghost use Rattle.syntax_set.specs.ClusterLists.{cluster_of, list_at, with_change, with_cluster, IsListOf};
 ghost use Rattle.syntax_set.specs.ClusterTable.{no_clusters};
 ghost use Rattle.syntax_set.specs.Groups.{IsRefusedGroup};
 ghost use Rattle.syntax_set.specs.Membership.{cluster_has, entry_has};
+ghost use Rattle.syntax_set.specs.NamedLists.{named_has};
 
 use crate::cluster_graph::{Column, MOST_LEVELS, all_columns, has_within, leads_to_group};
 use crate::cluster_list::ClusterList;
+use crate::named::Named;
 use crate::{Entry, GroupList, Groups, SetError};
 use std::alloc::Global;
 use std::marker::Model;
@@ -160,6 +163,21 @@ impl Clusters {
             Entry::Group(named) => group.0 == named.0,
             Entry::Cluster(cluster) => self.cluster_has(cluster, group.0),
         }
+    }
+
+    /// Whether the group is named, or a cluster that has it.
+    pub(crate) fn names_have(&self, named: &Named, group: GroupId) -> bool
+        ensures { result ≡ named_has self.now.lists named.now group }
+    {
+        named.groups().contains(group.0) || self.any_has(named.clusters(), group.0)
+    }
+
+    /// Whether one of these clusters has the group.
+    fn any_has(&self, clusters: &[u32], group: u32) -> bool
+        ensures { result ≡ list_any (cluster_has self.now.lists 30 group) clusters.now }
+    {
+        let mut clusters = clusters.iter();
+        clusters.any(|cluster| self.cluster_has(*cluster, group))
     }
 
     fn cluster_has(&self, cluster: u32, group: u32) -> bool

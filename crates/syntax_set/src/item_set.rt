@@ -1,9 +1,10 @@
 //! The items of a syntax by number.
 ghost use Rattle.std.specs.Prelude.{◌≡◌, ◌≤◌, ◌<◌, ◌==◌, [], ◌∷◌, ◌++◌, length, map, count_by, slice_get, Some, option_map, IsErrOf, IfOk, OnOk, OnErr, ◌↔◌, true, false};
 ghost use Rattle.std.specs.Option.{ForSome};
-ghost use Rattle.syntax_set.specs.Allowed.{cleared, is_allowed, is_in_next};
+ghost use Rattle.syntax_set.specs.Allowed.{cleared, follows, is_allowed, is_in_next};
 ghost use Rattle.syntax_set.specs.Items.{with_item};
 
+use crate::kept_item::KeptItem;
 use crate::{AddedItem, Clusters, GroupList, Item, SetError};
 use std::alloc::Global;
 use std::marker::Model;
@@ -15,7 +16,8 @@ pub const MOST_ITEMS: usize = 32_000;
 /// Items, which contracts see as the list of all that were added, each with its liveness.
 #[derive(Drop)]
 pub struct ItemSet {
-    added: Vec<AddedItem>,
+    alloc: Global,
+    added: Vec<KeptItem>,
 }
 
 impl Model for ItemSet {
@@ -39,6 +41,7 @@ impl ItemSet {
         ensures { result ≡ [] }
     {
         ItemSet {
+            alloc,
             added: Vec::new(alloc),
         }
     }
@@ -85,7 +88,8 @@ impl ItemSet {
         ensures added { OnOk result (self.new ≡ self.old ++ added ∷ []) }
         ensures unchanged { OnErr result (self.new ≡ self.old) }
     {
-        Ok(self.added.push(added)?)
+        let kept = KeptItem::of(self.alloc, added)?;
+        Ok(self.added.push(kept)?)
     }
 
     /// An item, live or not.
@@ -93,7 +97,7 @@ impl ItemSet {
         requires { id.0 < length self.now }
         ensures { Some result.now ≡ option_map (λ added. added.item) (slice_get self.now id.0) }
     {
-        &self.at(id).item
+        &self.at(id).added().item
     }
 
     /// Whether an item is live.
@@ -101,7 +105,7 @@ impl ItemSet {
         requires { id.0 < length self.now }
         ensures { Some result ≡ option_map (λ added. added.live) (slice_get self.now id.0) }
     {
-        self.at(id).live
+        self.at(id).added().live
     }
 
     /// How many live items there are.
@@ -143,7 +147,7 @@ impl ItemSet {
         let added = self.at(id);
         match container {
             Some(container) => added.is_allowed_in(clusters, self.at(container)),
-            None => added.is_free(),
+            None => added.added().is_free(),
         }
     }
 
@@ -156,7 +160,17 @@ impl ItemSet {
         self.at(id).is_member(clusters, list, 0)
     }
 
-    fn at(&self, id: ItemId) -> &AddedItem
+    /// Whether the `nextgroup` of another item has an item (`:syn-nextgroup`). It answers as `in_next`,
+    /// and is quick where the list is long.
+    pub fn follows(&self, clusters: &Clusters, id: ItemId, other: ItemId) -> bool
+        requires item { id.0 < length self.now }
+        requires other { other.0 < length self.now }
+        ensures { result ≡ follows self.now clusters.now.lists id other }
+    {
+        self.at(id).follows(clusters, self.at(other))
+    }
+
+    fn at(&self, id: ItemId) -> &KeptItem
         requires { id.0 < length self.now }
         ensures { Some result.now ≡ slice_get self.now id.0 }
     {
@@ -164,19 +178,19 @@ impl ItemSet {
     }
 }
 
-fn count_live(items: &[AddedItem]) -> usize
+fn count_live(items: &[KeptItem]) -> usize
     ensures { result ≡ count_by (λ added. added.live) items.now }
 {
     let mut count = 0;
     for added in items {
-        if added.live {
+        if added.added().live {
             count += 1;
         }
     }
     count
 }
 
-fn clear_all(items: &mut [AddedItem], group: Option<GroupId>)
+fn clear_all(items: &mut [KeptItem], group: Option<GroupId>)
     ensures { items.new ≡ map (cleared group) items.old }
 {
     for added in items.iter_mut() {

@@ -15,6 +15,8 @@ mod copy;
 mod groups;
 mod item;
 mod item_set;
+mod kept_item;
+mod list_names;
 mod named;
 mod number_set;
 mod set_error;
