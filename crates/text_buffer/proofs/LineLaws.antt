@@ -1,16 +1,16 @@
 -- Laws of pieces and lines: a piece up to its line break, and the text that a further line makes.
 use Rattle.std.proofs.Common.{◌≡◌, ℕ, zero, suc, ◌+◌, ◌-◌, ◌≤◌, ◌<◌, List, [], ◌∷◌, ◌++◌, take, drop, length, map, refl, ap, sym, ◌∙◌, arith, length-drop, Bool, true, false}
-use Rattle.std.specs.Prelude.{slice_range, Some, None, Result, Err, ◌==◌, if◌then◌else◌}
+use Rattle.std.specs.Prelude.{slice_range, Some, None, Result, Ok, Err, ◌==◌, if◌then◌else◌}
 use Rattle.std.specs.Str.{chars, is_utf8, IsUtf8}
 use Rattle.std.proofs.lemmas.Str.{IsUtf8-from_is_utf8, is_utf8-from_IsUtf8}
-use Rattle.text_buffer.specs.declared.TextError.TheVariants.{BadUtf8, LineTooLong, TooManyLines}
+use Rattle.text_buffer.specs.declared.LineFault.TheVariants.{NotUtf8, TooLong}
 use Rattle.std.proofs.lemmas.List.{append_assoc, drop-drop, drop_all}
 use Rattle.std.proofs.lemmas.Grind.{common_steps}
 use Rattle.std.proofs.lemmas.Bool.{false_from_ne_true, lt-ltb, le-ltb}
 use Rattle.memchr.specs.Find.{NoneBefore, Nowhere, Passes, is_byte}
 use Rattle.text_buffer.specs.TextOfBytes.{line_break, most_chars, most_lines}
 use Rattle.text_buffer.specs.declared.TextError.{TextError}
-use Rattle.text_buffer.specs.TextOfBytes.{pieces_of, longer_first, without_empty_last, lines_of_pieces, byte_lines, line_fault}
+use Rattle.text_buffer.specs.TextOfBytes.{pieces_of, longer_first, without_empty_last, lines_of_pieces, byte_lines, line_fault, line_of}
 use Rattle.text_buffer.specs.Reading.{lines_after, lines_behind_break, read_on}
 
 -- no line break before place j
@@ -87,26 +87,26 @@ lines_to_end bytes at within none =
     let past : drop (length bytes + 1) bytes ≡ [] = drop_all (length bytes + 1) bytes (omega arith) in
     rw (past, rest, pieces_whole (drop at bytes) none') refl
 
--- a line that isn't UTF-8
-pub bad_line : (number : ℕ) (bytes : List ℕ) → ¬ IsUtf8 bytes → line_fault number bytes ≡ Some (BadUtf8 number)
-bad_line number bytes bad =
+-- bytes that aren't UTF-8 are no line
+pub not_utf8 : (bytes : List ℕ) → ¬ IsUtf8 bytes → line_of bytes ≡ Err NotUtf8
+not_utf8 bytes bad =
     let test : is_utf8 bytes ≡ false = false_from_ne_true (is_utf8 bytes) (λ good. bad (IsUtf8-from_is_utf8 bytes good)) in
     rw test refl
 
--- a line of too many characters
-pub long_line : (number : ℕ) (bytes : List ℕ) → IsUtf8 bytes → most_chars < length (chars bytes) → line_fault number bytes ≡ Some (LineTooLong number)
-long_line number bytes good long =
+-- nor are too many characters
+pub too_long : (bytes : List ℕ) → IsUtf8 bytes → most_chars < length (chars bytes) → line_of bytes ≡ Err TooLong
+too_long bytes good long =
     rw (is_utf8-from_IsUtf8 bytes good, lt-ltb most_chars (length (chars bytes)) long) refl
 
--- a line too many
-pub line_too_many : (number : ℕ) (bytes : List ℕ) → IsUtf8 bytes → length (chars bytes) ≤ most_chars → most_lines ≤ number → line_fault number bytes ≡ Some TooManyLines
-line_too_many number bytes good short many =
-    rw (is_utf8-from_IsUtf8 bytes good, le-ltb most_chars (length (chars bytes)) short, le-ltb number most_lines many) refl
+-- other bytes are one
+pub well_formed : (bytes : List ℕ) → IsUtf8 bytes → length (chars bytes) ≤ most_chars → line_of bytes ≡ Ok (chars bytes)
+well_formed bytes good short =
+    rw (is_utf8-from_IsUtf8 bytes good, le-ltb most_chars (length (chars bytes)) short) refl
 
 -- a line without a fault
 pub good_line : (number : ℕ) (bytes : List ℕ) → IsUtf8 bytes → length (chars bytes) ≤ most_chars → number < most_lines → line_fault number bytes ≡ None
 good_line number bytes good short few =
-    rw (is_utf8-from_IsUtf8 bytes good, le-ltb most_chars (length (chars bytes)) short, lt-ltb number most_lines few) refl
+    rw (well_formed bytes good short, lt-ltb number most_lines few) refl
 
 -- a line without a fault joins those that were read
 pub read_further : (lines : List (List ℕ)) (line : List ℕ) (coming : List (List ℕ)) → line_fault (length lines) line ≡ None → read_on lines (line ∷ coming) ≡ read_on (lines ++ chars line ∷ []) coming

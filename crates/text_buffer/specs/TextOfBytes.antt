@@ -3,6 +3,8 @@
 -- refused at its first line that isn't UTF-8, is too long, or is one line too many.
 use Rattle.std.specs.Prelude.{ℕ, suc, ◌==◌, nat_lt, not, List, [], ◌∷◌, length, map, Option, Some, None, Result, Ok, Err, if◌then◌else◌}
 use Rattle.std.specs.Str.{chars, is_utf8}
+use Rattle.text_buffer.specs.declared.LineFault.{LineFault}
+use Rattle.text_buffer.specs.declared.LineFault.TheVariants.{NotUtf8, TooLong}
 use Rattle.text_buffer.specs.declared.TextError.{TextError}
 use Rattle.text_buffer.specs.declared.TextError.TheVariants.{BadUtf8, LineTooLong, TooManyLines, Memory}
 
@@ -45,12 +47,26 @@ lines_of_pieces (piece ∷ pieces) = piece ∷ without_empty_last pieces
 abbrev pub byte_lines : List ℕ → List (List ℕ)
 byte_lines bytes = lines_of_pieces (pieces_of bytes)
 
+-- the line that bytes are, or why they are none
+abbrev pub line_of : List ℕ → Result (List ℕ) LineFault
+line_of bytes =
+    if not (is_utf8 bytes) then Err NotUtf8
+    else (if nat_lt most_chars (length (chars bytes)) then Err TooLong
+    else Ok (chars bytes))
+
+-- the fault of a text whose line `number`, from 0, has this one
+abbrev pub numbered : ℕ → LineFault → TextError
+numbered number NotUtf8 = BadUtf8 number
+numbered number TooLong = LineTooLong number
+
+-- the fault of a text whose line `number` is this one, if it is one
+abbrev pub fault_at : ℕ → Result (List ℕ) LineFault → Option TextError
+fault_at number (Err fault) = Some (numbered number fault)
+fault_at number (Ok line) = if nat_lt number most_lines then None else Some TooManyLines
+
 -- the fault of line `number`, from 0, if it has one
 abbrev pub line_fault : ℕ → List ℕ → Option TextError
-line_fault number bytes =
-    if not (is_utf8 bytes) then Some (BadUtf8 number)
-    else (if nat_lt most_chars (length (chars bytes)) then Some (LineTooLong number)
-    else (if nat_lt number most_lines then None else Some TooManyLines))
+line_fault number bytes = fault_at number (line_of bytes)
 
 -- the line that a fault names, from 0
 abbrev pub line_of_fault : TextError → ℕ

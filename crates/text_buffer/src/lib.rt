@@ -13,7 +13,7 @@ mod reading;
 mod writing;
 
 use chunk_list::ChunkList;
-pub use reading::line_end;
+pub use reading::{line_end, line_of_bytes};
 use std::alloc::{AllocFailed, Global};
 use std::marker::Model;
 use syn_base::{Lines, List, Memory};
@@ -29,6 +29,13 @@ pub const LINE_BREAK: u8 = 10;
 
 /// A line of a text: its characters, without the line break.
 pub type Line = List<char>;
+
+/// Why bytes are no line.
+#[derive(Clone, Copy, Debug, PartialEq, Eq)]
+pub enum LineFault {
+    NotUtf8,
+    TooLong,
+}
 
 /// Why bytes are no text. Lines are counted from 0.
 #[derive(Clone, Copy, Debug, PartialEq, Eq)]

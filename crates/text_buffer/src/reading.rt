@@ -2,12 +2,12 @@
 ghost use Rattle.std.specs.Prelude.{◌≡◌, ◌≢◌, ◌<◌, ◌≤◌, ◌+◌, ◌++◌, [], ◌∷◌, Ok, Err, None, Some, IfOk, IfErr, drop, length, slice_range, vec_len};
 ghost use Rattle.std.specs.Str.{chars};
 ghost use Rattle.text_buffer.specs.Reading.{lines_after, read_on};
-ghost use Rattle.text_buffer.specs.TextOfBytes.{byte_lines, line_fault, line_of_fault, most_lines, text_of};
+ghost use Rattle.text_buffer.specs.TextOfBytes.{byte_lines, line_fault, line_of, line_of_fault, most_lines, numbered, text_of};
 
-use super::{LINE_BREAK, Line, MOST_CHARS, MOST_LINES, TextError};
+use super::{LINE_BREAK, Line, LineFault, MOST_CHARS, MOST_LINES, TextError};
 use memchr::memchr;
 use std::alloc::Global;
-use syn_base::List;
+use syn_base::{List, Memory};
 
 /// The lines of the bytes.
 pub(super) fn read_lines(alloc: Global, bytes: &[u8]) -> Result<Vec<Line>, TextError>
@@ -76,17 +76,37 @@ fn read_line(alloc: Global, number: usize, bytes: &[u8]) -> Result<Line, TextErr
         → line_fault number bytes.now ≡ Some fault) }
     ensures near { IfErr result (λ fault. line_of_fault fault ≤ most_lines) }
 {
+    match line_of_bytes(alloc, bytes)? {
+        Err(fault) => Err(fault.at(number)),
+        Ok(_) if number >= MOST_LINES => Err(TextError::TooManyLines),
+        Ok(line) => Ok(line),
+    }
+}
+
+impl LineFault {
+    /// The fault of a text whose line of that number, from 0, has this one.
+    fn at(self, line: usize) -> TextError
+        ensures { result ≡ numbered line self }
+    {
+        match self {
+            LineFault::NotUtf8 => TextError::BadUtf8 { line },
+            LineFault::TooLong => TextError::LineTooLong { line },
+        }
+    }
+}
+
+/// The line that these bytes are, or why they are none. A line break among them is a character. For
+/// a line too long no memory is taken.
+pub fn line_of_bytes(alloc: Global, bytes: &[u8]) -> Result<Result<Line, LineFault>, Memory>
+    ensures { IfOk result (λ line. line ≡ line_of bytes.now) }
+{
     let Ok(text) = simdutf8::compat::from_utf8(bytes) else {
-        return Err(TextError::BadUtf8 { line: number });
+        return Ok(Err(LineFault::NotUtf8));
     };
-    let count = char_count(text);
-    if count > MOST_CHARS {
-        return Err(TextError::LineTooLong { line: number });
+    if char_count(text) > MOST_CHARS {
+        return Ok(Err(LineFault::TooLong));
     }
-    if number >= MOST_LINES {
-        return Err(TextError::TooManyLines);
-    }
-    Ok(List::from_chars(alloc, text)?)
+    Ok(Ok(List::from_chars(alloc, text)?))
 }
 
 fn char_count(text: &str) -> usize
