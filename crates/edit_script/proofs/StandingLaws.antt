@@ -8,8 +8,8 @@ use Rattle.std.proofs.lemmas.Str.{chars-nil}
 use Rattle.std.proofs.Math.Bool.{or-true}
 use Rattle.text_buffer.specs.TextOfBytes.{byte_lines}
 use Rattle.edit_script.specs.declared.commands.Entry.{Entry}
-use Rattle.edit_script.specs.declared.commands.ScriptFault.TheVariants.{BadUtf8, LongLine}
-use Rattle.edit_script.specs.CommandLine.{is_long, takes_text, with_chars}
+use Rattle.text_buffer.specs.declared.LineFault.TheVariants.{NotUtf8, TooLong}
+use Rattle.edit_script.specs.CommandLine.{in_script, is_long, takes_text, with_chars}
 use Rattle.edit_script.specs.Kept.{Kept}
 use Rattle.edit_script.specs.Entries.{Standing, Between, InText, behind, made_whole, standing_behind, standing_in, entries_from, entries_of, entries_at_end, kept_of, unfinished, begins_text, is_dot, is_empty, broken, lines_before, lines_kept, whole_lines, cut_line}
 use Rattle.edit_script.proofs.PieceLaws.{IsLine, AllLines, whole_append, cut_append, whole_behind, cut_behind, whole_are_lines, end_full, end_empty, no_whole}
@@ -25,7 +25,7 @@ entries_append s (line ∷ lines) more =
     ∙ sym (append_assoc (made_whole s line) (entries_from (behind s line) lines) (entries_from (standing_behind (behind s line) lines) more))
 
 -- an empty line begins no text
-nothing_begins : (good long : Bool) (text : List ℕ) → text ≡ [] → takes_text (with_chars (if not good then Err BadUtf8 else if long then Err LongLine else Ok text)) ≡ false
+nothing_begins : (good long : Bool) (text : List ℕ) → text ≡ [] → takes_text (with_chars (in_script (if not good then Err NotUtf8 else if long then Err TooLong else Ok text))) ≡ false
 nothing_begins false long text none = refl
 nothing_begins true true text none = refl
 nothing_begins true false text none = rw none refl

@@ -1,36 +1,26 @@
 -- Laws of a text's lines: what a line says of itself, and one line more.
-use Rattle.std.proofs.Common.{◌≡◌, ℕ, ◌≤◌, ◌<◌, List, [], ◌∷◌, ◌++◌, length, map, refl, ap, sym, ◌∙◌, Bool, true, false}
+use Rattle.std.proofs.Common.{◌≡◌, ℕ, ◌<◌, List, [], ◌∷◌, ◌++◌, length, map, refl, ap, sym, ◌∙◌, Bool, true, false}
 use Rattle.std.specs.Prelude.{not, ◌&&◌, ◌||◌, Result, Ok, Err, if◌then◌else◌}
 use Rattle.std.specs.Str.{chars, is_utf8, IsUtf8}
-use Rattle.std.proofs.lemmas.Bool.{false_from_ne_true, lt-ltb, le-ltb}
 use Rattle.std.proofs.lemmas.List.{map-append}
 use Rattle.std.proofs.Math.Bool.{or-true}
-use Rattle.std.proofs.lemmas.Str.{IsUtf8-from_is_utf8, is_utf8-from_IsUtf8}
 use Rattle.text_buffer.specs.TextOfBytes.{most_chars}
+use Rattle.text_buffer.specs.declared.LineFault.TheVariants.{NotUtf8, TooLong}
+use Rattle.text_buffer.proofs.LineLaws.{too_long}
 use Rattle.edit_script.specs.declared.commands.ScriptFault.{ScriptFault}
 use Rattle.edit_script.specs.declared.commands.ScriptFault.TheVariants.{BadCommand, BadAddress, UnfinishedText, BadUtf8, LongLine}
 use Rattle.edit_script.specs.declared.draft.Draft.{Draft}
-use Rattle.edit_script.specs.CommandLine.{is_long, line_chars}
+use Rattle.edit_script.specs.CommandLine.{in_script, is_long, line_chars}
 use Rattle.edit_script.specs.Entries.{has_bad_line, has_long_line}
 use Rattle.edit_script.specs.Reading.{IsTextOf, with_fault}
 
 -- ---- a line
 
-pub bad_line : (bytes : List ℕ) → ¬ IsUtf8 bytes → line_chars bytes ≡ Err BadUtf8
-bad_line bytes bad =
-    let test : is_utf8 bytes ≡ false = false_from_ne_true (is_utf8 bytes) (λ good. bad (IsUtf8-from_is_utf8 bytes good)) in
-    rw test refl
-
 pub long_line : (bytes : List ℕ) → IsUtf8 bytes → most_chars < length (chars bytes) → line_chars bytes ≡ Err LongLine
-long_line bytes good long =
-    rw (is_utf8-from_IsUtf8 bytes good, lt-ltb most_chars (length (chars bytes)) long) refl
-
-pub good_line : (bytes : List ℕ) → IsUtf8 bytes → length (chars bytes) ≤ most_chars → line_chars bytes ≡ Ok (chars bytes)
-good_line bytes good short =
-    rw (is_utf8-from_IsUtf8 bytes good, le-ltb most_chars (length (chars bytes)) short) refl
+long_line bytes good long = ap in_script (too_long bytes good long)
 
 abbrev told : Bool → Bool → List ℕ → Result (List ℕ) ScriptFault
-told good long text = if not good then Err BadUtf8 else if long then Err LongLine else Ok text
+told good long text = in_script (if not good then Err NotUtf8 else if long then Err TooLong else Ok text)
 
 good_tells : (good long : Bool) (text line : List ℕ) → told good long text ≡ Ok line → (good ≡ true) × (long ≡ false) × (text ≡ line)
 good_tells false long text line is = absurd (cc)

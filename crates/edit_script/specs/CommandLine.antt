@@ -3,9 +3,11 @@
 -- end too; or a range, the letter of a verb and for `m` and `t` one address more, with nothing
 -- behind. Before `a` and `i` stands one address. The form is asked for first, with addresses of any
 -- number of digits.
-use Rattle.std.specs.Prelude.{ℕ, ◌==◌, nat_lt, not, ◌&&◌, ◌||◌, Bool, true, false, List, [], ◌∷◌, length, codes, Option, Some, None, Result, Ok, Err, option_map, if◌then◌else◌}
-use Rattle.std.specs.Str.{bytes_eq, chars, is_utf8}
-use Rattle.text_buffer.specs.TextOfBytes.{most_chars}
+use Rattle.std.specs.Prelude.{ℕ, ◌==◌, nat_lt, ◌&&◌, ◌||◌, Bool, true, false, List, [], ◌∷◌, length, codes, Option, Some, None, Result, Ok, Err, option_map, if◌then◌else◌}
+use Rattle.std.specs.Str.{bytes_eq, chars}
+use Rattle.text_buffer.specs.TextOfBytes.{line_of, most_chars}
+use Rattle.text_buffer.specs.declared.LineFault.{LineFault}
+use Rattle.text_buffer.specs.declared.LineFault.TheVariants.{NotUtf8, TooLong}
 use Rattle.edit_script.specs.declared.commands.Last.{Last}
 use Rattle.edit_script.specs.declared.commands.Last.TheVariants.{End}
 use Rattle.edit_script.specs.declared.commands.Verb.{Verb}
@@ -116,12 +118,15 @@ head_or_bad (Some head) = Ok head
 abbrev pub is_long : List ℕ → Bool
 is_long bytes = nat_lt most_chars (length (chars bytes))
 
+-- a fault of a line is one of the script
+abbrev pub in_script : Result (List ℕ) LineFault → Result (List ℕ) ScriptFault
+in_script (Ok line) = Ok line
+in_script (Err NotUtf8) = Err BadUtf8
+in_script (Err TooLong) = Err LongLine
+
 -- the characters of a line, or what is wrong with it
 abbrev pub line_chars : List ℕ → Result (List ℕ) ScriptFault
-line_chars bytes =
-    if not (is_utf8 bytes) then Err BadUtf8
-    else if is_long bytes then Err LongLine
-    else Ok (chars bytes)
+line_chars bytes = in_script (line_of bytes)
 
 abbrev pub with_chars : Result (List ℕ) ScriptFault → Result Head ScriptFault
 with_chars (Err fault) = Err fault

@@ -1,5 +1,5 @@
 //! Lines of bytes, and a command with the lines of its text.
-ghost use Rattle.std.specs.Prelude.{◌≡◌, ◌++◌, ◌∷◌, [], IfOk, OnOk, OnErr, List, ℕ, Ok, length, map};
+ghost use Rattle.std.specs.Prelude.{◌≡◌, ◌++◌, ◌∷◌, [], IfOk, OnOk, OnErr, List, ℕ, Ok, map};
 ghost use Rattle.std.specs.Str.{chars};
 ghost use Rattle.edit_script.specs.CommandLine as spec;
 ghost use Rattle.edit_script.specs.CommandLine.{line_head};
@@ -11,7 +11,7 @@ use crate::{EditCommand, Entry, ScriptFault};
 use memchr::memchr;
 use std::alloc::Global;
 use syn_base::{List, Memory};
-use text_buffer::{LINE_BREAK, Line, MOST_CHARS};
+use text_buffer::{LINE_BREAK, Line, LineFault, line_of_bytes};
 
 /// A command with the lines of its text so far.
 #[derive(Drop)]
@@ -23,23 +23,15 @@ pub(crate) struct Draft {
     pub has_long_line: bool,
 }
 
-fn char_count(text: &str) -> usize
-    ensures { result ≡ length (chars text.now) }
-{
-    text.chars().count()
-}
-
 /// The characters of a line, or what is wrong with it.
 pub(crate) fn line_chars(alloc: Global, bytes: &[u8]) -> Result<Result<Line, ScriptFault>, Memory>
     ensures { IfOk result (λ line. line ≡ spec.line_chars bytes.now) }
 {
-    let Ok(text) = simdutf8::compat::from_utf8(bytes) else {
-        return Ok(Err(ScriptFault::BadUtf8));
-    };
-    if char_count(text) > MOST_CHARS {
-        return Ok(Err(ScriptFault::LongLine));
+    match line_of_bytes(alloc, bytes)? {
+        Ok(line) => Ok(Ok(line)),
+        Err(LineFault::NotUtf8) => Ok(Err(ScriptFault::BadUtf8)),
+        Err(LineFault::TooLong) => Ok(Err(ScriptFault::LongLine)),
     }
-    Ok(Ok(List::from_chars(alloc, text)?))
 }
 
 /// What the bytes of a line say.

@@ -116,6 +116,14 @@ fn alone(verb: Verb) -> Head
     }
 }
 
+/// Whether a command by pattern (`:s`, `:g`, `:v`) stands there, as in a script: its letter and a slash
+/// come first, and nothing is asked of what follows.
+pub fn is_by_pattern(text: &[char]) -> bool
+    ensures { result ≡ spec.is_by_pattern text.now }
+{
+    matches!(text, ['s' | 'g' | 'v', '/', ..])
+}
+
 /// The command by pattern with these characters.
 fn by_pattern(alloc: Global, range: Range, text: &[char]) -> Result<Option<Head>, Memory>
     ensures { IfOk result (λ head. head ≡ spec.ended range false (spec.does.Ex text.now) []) }
@@ -128,9 +136,10 @@ fn by_pattern(alloc: Global, range: Range, text: &[char]) -> Result<Option<Head>
 fn pattern_or_verb(alloc: Global, range: Range, text: &[char]) -> Result<Option<Head>, Memory>
     ensures { IfOk result (λ head. head ≡ spec.pattern_or_verb range text.now) }
 {
-    match text {
-        ['s' | 'g' | 'v', '/', ..] => by_pattern(alloc, range, text),
-        _ => Ok(verb_behind(range, text)),
+    if is_by_pattern(text) {
+        by_pattern(alloc, range, text)
+    } else {
+        Ok(verb_behind(range, text))
     }
 }
 

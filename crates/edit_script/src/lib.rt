@@ -14,5 +14,6 @@ mod resolving;
 mod script;
 
 pub use commands::{EditCommand, Entry, Last, ResolveError, Resolved, ScriptFault, Verb};
+pub use head::is_by_pattern;
 pub use resolving::resolve;
 pub use script::Script;

@@ -92,7 +92,11 @@ fn has_too_many_lines(resolved: Resolved, new: usize, count: usize) -> bool
         Resolved::Replace { a, b } => is_over(count.saturating_sub(b.saturating_sub(a)), new),
         Resolved::Move { .. } => is_over(count, 0),
         Resolved::CopyTo { a, b, .. } => is_over(count, b.saturating_sub(a)),
-        _ => false,
+        Resolved::Print { .. }
+        | Resolved::Ex { .. }
+        | Resolved::Page
+        | Resolved::Folds
+        | Resolved::Syntax => false,
     }
 }
 
