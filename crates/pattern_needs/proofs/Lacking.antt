@@ -1,0 +1,159 @@
+-- A part that needs what a line lacks has no way in that line.
+use Rattle.std.proofs.Common.{◌≡◌, ℕ, ◌≤◌, Bool, true, false, List, [], ◌∷◌, ◌++◌, length, refl, sym, ap, ◌∙◌, arith, subst, inl, inr, ◌⊎◌}
+use Rattle.std.specs.Prelude.{Option, Some, None, ◌&&◌, not, slice_get, if◌then◌else◌}
+use Rattle.std.proofs.lemmas.Bool.Decides.{nat_tests}
+use Rattle.std.proofs.lemmas.Option.{same_Some, none-some}
+use Rattle.syn_base.specs.declared.places.Place.{Place}
+use Rattle.pattern_items.specs.declared.atom.Atom.{Atom}
+use Rattle.vim_pattern.specs.Shape.{Shape, empty, one, seq, or, and, group, external, repeat, ahead, before, whole}
+use Rattle.match_rules.specs.Ways.{Context, Way, line_at, behind_character}
+use Rattle.match_rules.specs.Atoms.{character_at, lines_looked, only_if}
+use Rattle.match_rules.specs.Counts.{after_turn}
+use Rattle.match_rules.specs.Looks.{look, look_end}
+use Rattle.match_rules.specs.Marks.{Mark, Tick, Reach, first_way, followed, reach_if, ticks_first}
+use Rattle.match_rules.specs.Visits.{behind_fit, noted, noted_external, visits}
+use Rattle.match_rules.proofs.MarkLaws.{AllWays}
+use Rattle.match_rules.proofs.TurnLaws.{turns-forced}
+use Rattle.pattern_screens.specs.FirstAtoms.{is_forced}
+use Rattle.pattern_screens.specs.PlainAtoms.{is_plain, plain_fits, plain_takes}
+use Rattle.pattern_screens.proofs.FirstScreens.{any-append, cond-some, fits-told, forced-parts, lists-are}
+use Rattle.pattern_screens.proofs.Stands.{both_false, followed-none, followed-ways, ways-append, ways_of}
+use Rattle.pattern_screens.proofs.StillParts.{first-ways}
+use Rattle.pattern_needs.specs.LineRooms.{look_then, or_room, room_of, then_room}
+use Rattle.pattern_needs.specs.Needs.{are_characters, needed, rather, some_takes}
+use Rattle.pattern_needs.specs.declared.room.Room.{Room}
+use Rattle.pattern_needs.proofs.Forwards.{goes-forwards}
+use Rattle.pattern_needs.proofs.LineParts.{IsFrom, both-are, counted-is, first-is, from-later, in-line, room-lined}
+
+-- ---- marks without a way
+
+abbrev pub HasNone : List Mark → Type 0
+HasNone marks = ways_of marks ≡ 0
+
+none-followed : (a : List Mark) (f : Way → List Mark) → HasNone a → HasNone (followed a f)
+none-followed a f h = ap ways_of (followed-none a f h) ∙ h
+
+none-after : (P : Way → Type 0) (a : List Mark) (f : Way → List Mark) → AllWays P a → ((v : Way) → P v → HasNone (f v)) → HasNone (followed a f)
+none-after P a f h k = omega (arith, followed-ways P 0 a f h (λ v p. omega (arith, k v p)))
+
+none-first : (marks : List Mark) → HasNone marks → first_way marks ≡ None
+none-first [] h = refl
+none-first (Tick l ∷ marks) h = none-first marks h
+none-first (Reach w ∷ marks) h = absurd (omega arith)
+
+none-looked : (w : Way) (marks : List Mark) → HasNone marks → HasNone (look false w marks)
+none-looked w marks h =
+    ap (λ o. ways_of (ticks_first marks ++ look_end false w o)) (none-first marks h)
+    ∙ ways-append (ticks_first marks) [] ∙ omega (arith, first-ways marks)
+
+none-whole : (marks : List Mark) → HasNone marks → HasNone (ticks_first marks ++ reach_if (first_way marks))
+none-whole marks h =
+    ap (λ o. ways_of (ticks_first marks ++ reach_if o)) (none-first marks h)
+    ∙ ways-append (ticks_first marks) [] ∙ omega (arith, first-ways marks)
+
+-- the ways behind a look are where it stands
+looked-at : (P : Place → Type 0) (w : Way) (o : Option Way) → P w.at → AllWays (λ v. P v.at) (look_end false w o)
+looked-at P w None h = tt
+looked-at P w (Some v) h = (h, tt)
+
+ticks-then : (P : Way → Type 0) (a b : List Mark) → AllWays P b → AllWays P (ticks_first a ++ b)
+ticks-then P [] b h = h
+ticks-then P (Tick l ∷ a) b h = ticks-then P a b h
+ticks-then P (Reach w ∷ a) b h = h
+
+-- ---- which list is needed
+
+rather-is : (o r : Option (List Atom)) (atoms : List Atom) → rather o r ≡ Some atoms → (o ≡ Some atoms) ⊎ (r ≡ Some atoms)
+rather-is None r atoms e = inr e
+rather-is (Some a) None atoms e = inl e
+rather-is (Some a) (Some b) atoms e =
+    elim (are_characters a && not (are_characters b)) as (λ t. Some (if t then a else b) ≡ Some atoms → (Some a ≡ Some atoms) ⊎ (Some b ≡ Some atoms)) [
+      | true ↦ λ k. inl k
+      | false ↦ λ k. inr k
+    ] e
+
+not-if : (negative : Bool) (o : Option (List Atom)) (atoms : List Atom) → (if negative then None else o) ≡ Some atoms → (negative ≡ false) × (o ≡ Some atoms)
+not-if true o atoms e = absurd (none-some atoms e)
+not-if false o atoms e = (refl, e)
+
+-- ---- one atom
+
+module _ (x : Context) (line from : ℕ) where
+  -- no character from the column on is taken by one of these
+  abbrev pub Lacks : List Atom → Type 0
+  Lacks atoms = (i c : ℕ) → from ≤ i → slice_get (line_at x.text line) i ≡ Some c → some_takes x.sets x.ignore atoms c ≡ false
+
+  lacks-one : (a : Atom) → Lacks (a ∷ []) → (col : ℕ) → from ≤ col → (o : Option ℕ) → slice_get (line_at x.text line) col ≡ o → plain_fits x.sets x.ignore o a ≡ false
+  lacks-one a h col later None e = refl
+  lacks-one a h col later (Some c) e = (both_false (plain_takes x.sets x.ignore a c) false (h col c later e)).0
+
+  one-none : (a : Atom) → is_plain a ≡ true → Lacks (a ∷ []) → (w : Way) → IsFrom x line from w.at → HasNone (visits x (one a) w)
+  one-none a plain h w at =
+      let here : slice_get (line_at x.text line) w.at.col ≡ character_at x.text w.at = ap (λ (l : ℕ). slice_get (line_at x.text l) w.at.col) (sym at.on) in
+      let fails : plain_fits x.sets x.ignore (character_at x.text w.at) a ≡ false = lacks-one a h w.at.col at.from (character_at x.text w.at) here in
+      ap (λ o. ways_of (Tick (lines_looked x w a) ∷ behind_fit w a o)) (fits-told x w a plain ∙ ap (λ b. only_if b (behind_character w.at)) fails)
+
+  -- ---- parts
+
+  module _ (most : ℕ) (few : length (line_at x.text line) ≤ most) where
+    -- the ways of a part from the column on are in the line, from the column on
+    ways-from : (node : Shape) (room : Room) → room_of most node ≡ Some room → (w : Way) → IsFrom x line from w.at → AllWays (λ v. IsFrom x line from v.at) (visits x node w)
+    ways-from node room e w at =
+        from-later x line from w (visits x node w) at (room-lined x line most few node room e w (in-line x line from w.at at)).here (goes-forwards x node w)
+
+    abbrev Needing : Shape → Type 0
+    Needing node =
+        (room : Room) → room_of most node ≡ Some room → (atoms : List Atom) → needed node ≡ Some atoms → Lacks atoms → (w : Way) → IsFrom x line from w.at → HasNone (visits x node w)
+
+    seq-none : (a b : Shape) → Needing a → Needing b → Needing (seq a b)
+    seq-none a b h k room e atoms n lack w at =
+        let t = both-are then_room (room_of most a) (room_of most b) room e in
+        elim (rather-is (needed a) (needed b) atoms n) [
+          | inl first ↦ none-followed (visits x a w) (visits x b) (h t.0 t.1.1.0 atoms first lack w at)
+          | inr second ↦ none-after (λ v. IsFrom x line from v.at) (visits x a w) (visits x b) (ways-from a t.0 t.1.1.0 w at) (λ v i. k t.1.0 t.1.1.1.0 atoms second lack v i)
+        ]
+
+    or-none : (a b : Shape) → Needing a → Needing b → Needing (or a b)
+    or-none a b h k room e atoms n lack w at =
+        let t = both-are or_room (room_of most a) (room_of most b) room e in
+        let l = lists-are (needed a) (needed b) atoms n in
+        let both : (i c : ℕ) → from ≤ i → slice_get (line_at x.text line) i ≡ Some c → (some_takes x.sets x.ignore l.0 c ≡ false) × (some_takes x.sets x.ignore l.1.0 c ≡ false) = λ i c later is.
+        any-append (λ a. plain_takes x.sets x.ignore a c) l.0 l.1.0 (subst (λ r. some_takes x.sets x.ignore r c ≡ false) (sym l.1.1.2) (lack i c later is)) in
+        let one : HasNone (visits x a w) = h t.0 t.1.1.0 l.0 l.1.1.0 (λ i c later is. (both i c later is).0) w at in
+        let other : HasNone (visits x b w) = k t.1.0 t.1.1.1.0 l.1.0 l.1.1.1 (λ i c later is. (both i c later is).1) w at in
+        ways-append (visits x a w) (visits x b w) ∙ omega (arith, one, other)
+
+    and-none : (a b : Shape) → Needing a → Needing b → Needing (and a b)
+    and-none a b h k room e atoms n lack w at =
+        let t = both-are look_then (room_of most a) (room_of most b) room e in
+        elim (rather-is (needed a) (needed b) atoms n) [
+          | inl first ↦ none-followed (look false w (visits x a w)) (visits x b) (none-looked w (visits x a w) (h t.0 t.1.1.0 atoms first lack w at))
+          | inr second ↦ none-after (λ v. IsFrom x line from v.at) (look false w (visits x a w)) (visits x b)
+              (ticks-then (λ v. IsFrom x line from v.at) (visits x a w) (look_end false w (first_way (visits x a w))) (looked-at (IsFrom x line from) w (first_way (visits x a w)) at))
+              (λ v i. k t.1.0 t.1.1.1.0 atoms second lack v i)
+        ]
+
+    pub none-lacking : (node : Shape) → Needing node
+    none-lacking empty room e atoms n lack w at = absurd (none-some atoms n)
+    none-lacking (one a) room e atoms n lack w at =
+        let t = cond-some (is_plain a) (Some (a ∷ [])) atoms n in
+        one-none a t.0 (subst Lacks (sym (same_Some (a ∷ []) atoms t.1)) lack) w at
+    none-lacking (seq a b) room e atoms n lack w at = seq-none a b (none-lacking a) (none-lacking b) room e atoms n lack w at
+    none-lacking (or a b) room e atoms n lack w at = or-none a b (none-lacking a) (none-lacking b) room e atoms n lack w at
+    none-lacking (and a b) room e atoms n lack w at = and-none a b (none-lacking a) (none-lacking b) room e atoms n lack w at
+    none-lacking (group part number) room e atoms n lack w at = none-followed (visits x part w) (noted number w.at) (none-lacking part room e atoms n lack w at)
+    none-lacking (external part number) room e atoms n lack w at = none-followed (visits x part w) (noted_external number w.at) (none-lacking part room e atoms n lack w at)
+    none-lacking (repeat part least count lazy) room e atoms n lack w at =
+        let t = counted-is most (room_of most part) least count room e in
+        let c = cond-some (is_forced least count) (needed part) atoms n in
+        let forced = forced-parts least count c.0 in
+        ap ways_of (turns-forced x.text (visits x part) lazy least count w forced.1 (grind (arith, nat_tests, forced.0)))
+        ∙ none-followed (visits x part w) (after_turn x.text (visits x part) lazy least count w.at) (none-lacking part t.0 t.1.0 atoms c.1 lack w at)
+    none-lacking (ahead part negative) room e atoms n lack w at =
+        let t = first-is (room_of most part) room e in
+        let c = not-if negative (needed part) atoms n in
+        subst (λ (b : Bool). HasNone (look b w (visits x part w))) (sym c.0) (none-looked w (visits x part w) (none-lacking part t.0 t.1.0 atoms c.1 lack w at))
+    none-lacking (before part negative limit) room e atoms n lack w at = absurd (none-some atoms n)
+    none-lacking (whole part) room e atoms n lack w at =
+        let t = first-is (room_of most part) room e in
+        none-whole (visits x part w) (none-lacking part t.0 t.1.0 atoms n lack w at)

@@ -1,0 +1,7 @@
+pub mod Forwards
+pub mod LineParts
+pub mod Lacking
+pub mod NeedsLaws
+pub mod AskingLaws
+pub mod RoomLaws
+mod Rows

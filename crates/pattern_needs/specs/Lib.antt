@@ -1,0 +1,7 @@
+-- what a reader must believe: what a pattern needs, what its attempts cost in a line, and what that means
+pub mod Needs
+pub mod LineRooms
+pub mod Lacking
+pub mod NeedsLaw
+-- what only code and proofs cite
+pub mod Asking
