@@ -2,6 +2,7 @@ pub mod Rows
 pub mod ApplyRows
 pub mod AnswerLaws
 pub mod TryLaws
+pub mod CandidateLaws
 pub mod DeleteLaws
 pub mod SearchLaws
 pub mod OrderLaws

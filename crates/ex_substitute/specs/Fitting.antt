@@ -1,11 +1,12 @@
 -- What a change leaves of a text.
-use Rattle.std.specs.Prelude.{◌≡◌, ◌<◌, ◌≤◌, Bool, false, ◌++◌, take, drop, length}
+use Rattle.std.specs.Prelude.{◌≡◌, ◌<◌, ◌≤◌, Bool, false, length}
+use Rattle.chunk_list.specs.Replaced.{replaced}
 use Rattle.match_rules.specs.Ways.{Text}
 use Rattle.ex_substitute.specs.declared.change.Change.{Change}
 
 -- the text with the new lines in place of the others
 abbrev pub text_after : Text → Change → Text
-text_after text c = take c.a text ++ c.new ++ drop c.b text
+text_after text c = replaced text c.a c.b c.new
 
 -- It is a change of lines of the text and leaves a line; unless matches are counted alone, it leaves no more than a text has.
 pub record FitsText (text : Text) (counted : Bool) (change : Change) : Type 0 where

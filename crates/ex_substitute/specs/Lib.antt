@@ -20,6 +20,7 @@ pub mod Laws
 pub mod CommandCode
 pub mod CommandsRead
 pub mod StringsRead
+pub mod Begins
 pub mod Trials
 pub mod Pens
 pub mod Ruling

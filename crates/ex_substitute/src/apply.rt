@@ -15,6 +15,7 @@ use crate::searching::Scope;
 use crate::trying::Trying;
 use crate::{ExCommand, ExError};
 use char_class::Sets;
+use pattern_match::Context;
 use std::alloc::Global;
 use syn_base::{Externals, Lines};
 
@@ -68,26 +69,30 @@ fn change_of<T: Lines>(
 {
     let sets = usual_sets();
     let externals = Externals::none(alloc)?;
-    let trying = Trying {
-        alloc,
-        command,
+    let context = Context {
+        ignore: command.ignore,
         sets: &sets,
         externals: &externals,
-        budget,
     };
-    trying.done(lines, a, b)
+    let trying = Trying::new(alloc, command, context, budget);
+    trying.done(&command.action, lines, a, b)
 }
 
 impl Trying<'_> {
-    /// What the command makes of the lines from `a` up to, and without, `b`.
-    fn done<T: Lines>(&self, lines: &T, a: usize, b: usize) -> Result<Change, Refusal>
+    /// What the command of this pattern makes of the lines from `a` up to, and without, `b`.
+    fn done<T: Lines>(
+        &self,
+        action: &Action,
+        lines: &T,
+        a: usize,
+        b: usize,
+    ) -> Result<Change, Refusal>
         requires within { b ≤ length (T.lines lines.now) }
         requires budget { 1 ≤ self.now.budget }
-        ensures { Gives result (done_by self.now.command.now.action
-            (trial_in (T.lines lines.now) self.now) a b) }
+        ensures { Gives result
+            (done_by action.now (trial_in (T.lines lines.now) self.now) a b) }
     {
-        let command = self.command;
-        match &command.action {
+        match action {
             Action::Substitute {
                 string,
                 all,

@@ -1,11 +1,11 @@
 //! Attempts of a command's pattern.
-ghost use Rattle.std.specs.Prelude.{◌≡◌, ◌<◌, ◌≤◌, length, true, IfOk};
+ghost use Rattle.std.specs.Prelude.{◌≡◌, ◌<◌, ◌≤◌, length, IfOk};
 ghost use Rattle.match_rules.specs.Ways.{IsPlaceOf};
 ghost use Rattle.match_rules.specs.Attempt.{attempt};
 ghost use Rattle.pattern_match.specs.Answers.{answered};
 ghost use Rattle.pattern_match.specs.Contexts.{context_in};
 ghost use Rattle.pattern_match.specs.OnText.{IsToldOn};
-ghost use Rattle.ex_substitute.specs.Trials.{IsVainWithin};
+ghost use Rattle.ex_substitute.specs.Begins.{is_screened, screen_passes};
 
 use crate::ExCommand;
 use pattern_match::{Attempt, Context, Scratch, answers_stay_on_the_text};
@@ -37,14 +37,23 @@ impl ExCommand {
             .attempt_in(scratch, alloc, first, lines, context, p, budget)
     }
 
-    /// Whether an attempt at a column of a line is sure to be in vain within the budget: the pattern's
-    /// screen doesn't let it through. It takes no memory.
-    pub(crate) fn is_vain(&self, line: &[char], col: usize, context: &Context, budget: u64) -> bool
-        requires { col ≤ length line.now }
-        ensures { result ≡ true → IsVainWithin budget self.now.tree context.now line.now col }
+    /// Whether the budget allows for the pattern's screen: an attempt that it doesn't let through costs
+    /// no more.
+    pub(crate) fn is_screened(&self, budget: u64) -> bool
+        ensures { result ≡ is_screened self.now.tree budget }
+    {
+        self.programs.screen_cost(PatternId(0)) <= budget
+    }
+
+    /// Whether the pattern's screen lets an attempt through, by what stands at its column. It takes no
+    /// memory.
+    pub(crate) fn screen_passes(&self, next: Option<char>, context: &Context) -> bool
+        ensures { result ≡ screen_passes self.now.tree context.now next }
     {
         let first = PatternId(0);
-        self.programs.screen_cost(first) <= budget
-            && !self.programs.screen_passes(first, line, col, context)
+        match next {
+            Some(c) => self.programs.screen_passes(first, &[c], 0, context),
+            None => self.programs.screen_passes(first, &[], 0, context),
+        }
     }
 }

@@ -7,6 +7,7 @@
 
 mod apply;
 mod attempt;
+mod begins;
 mod casing;
 mod change;
 mod command;

@@ -2,7 +2,6 @@
 ghost use Rattle.std.specs.Prelude.{◌≡◌};
 
 use crate::ExError;
-use std::alloc::{AllocError, AllocFailed};
 use syn_base::Memory;
 
 /// A cause against the command, or want of memory.
@@ -28,26 +27,6 @@ impl From<Memory> for Refusal {
     ghost from_gives = { λ _ e. e ≡ refusal.Memory };
 
     fn from(_: Memory) -> Refusal {
-        Refusal::Memory
-    }
-}
-
-impl From<AllocError> for Refusal {
-    ghost use Rattle.ex_substitute.specs.declared.refusal.Refusal.TheVariants as refusal;
-
-    ghost from_gives = { λ _ e. e ≡ refusal.Memory };
-
-    fn from(_: AllocError) -> Refusal {
-        Refusal::Memory
-    }
-}
-
-impl<T: Drop> From<AllocFailed<T>> for Refusal {
-    ghost use Rattle.ex_substitute.specs.declared.refusal.Refusal.TheVariants as refusal;
-
-    ghost from_gives = { λ _ e. e ≡ refusal.Memory };
-
-    fn from(_: AllocFailed<T>) -> Refusal {
         Refusal::Memory
     }
 }

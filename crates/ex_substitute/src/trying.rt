@@ -1,18 +1,23 @@
 //! A command's pattern, tried at the places of a line.
-ghost use Rattle.std.specs.Prelude.{◌≡◌, ◌<◌, ◌≤◌, ◌-◌, length, IfOk, IfSome};
-ghost use Rattle.match_rules.specs.Ways.{IsPlaceOf, line_at, is_after, is_same_place};
+ghost use Rattle.std.specs.Prelude.{◌≡◌, ◌<◌, ◌≤◌, ◌+◌, ◌-◌, length, slice_get, true, IfOk, IfSome};
+ghost use Rattle.match_rules.specs.Ways.{IsPlaceOf, is_after, is_same_place};
 ghost use Rattle.pattern_match.specs.OnText.{IsFoundOn};
 ghost use Rattle.ex_substitute.specs.Answers.{Gives};
+ghost use Rattle.ex_substitute.specs.Begins.{AreCodes, may_begin};
 ghost use Rattle.ex_substitute.specs.Searching as searching;
-ghost use Rattle.ex_substitute.specs.Trials.{counts_of, trial_in};
+ghost use Rattle.ex_substitute.specs.Trials.{AreVain, counts_of, trial_in};
 ghost use Rattle.ex_substitute.specs.Trying as spec;
 
+use crate::begins::Begins;
 use crate::refusal::Refusal;
 use crate::{ExCommand, ExError};
-use char_class::Sets;
+use char_class::Codes;
 use pattern_match::{Attempt, Context, Match, Scratch};
+use pattern_needs::{Needs, needs_are_sound};
+use pattern_screens::first_screens_are_sound;
 use std::alloc::Global;
-use syn_base::{Externals, Lines, Place};
+use std::marker::Model;
+use syn_base::{Lines, Place};
 
 /// Which matches count.
 #[derive(Clone, Copy)]
@@ -78,31 +83,128 @@ fn told_at(p: Place, told: Attempt) -> Result<Option<Match>, ExError>
     }
 }
 
-/// A command, and what its pattern is tried with.
-#[derive(Clone, Copy)]
+/// A command's pattern, what it is tried with, and what a match may begin with.
+#[derive(Drop)]
 pub(crate) struct Trying<'a> {
     pub alloc: Global,
-    pub command: &'a ExCommand,
-    /// The sets that classes go by.
-    pub sets: &'a Sets,
-    /// Nine empty texts.
-    pub externals: &'a Externals,
+    command: &'a ExCommand,
+    context: Context<'a>,
     /// The most that one attempt may cost.
-    pub budget: u64,
+    budget: u64,
+    begins: Begins,
+    /// What a line must hold; none where that isn't known.
+    needs: Option<Needs<'a>>,
+}
+
+impl<'a> Model for Trying<'a> {
+    ghost use Rattle.std.specs.Coded.{codes};
+    ghost use Rattle.vim_pattern.specs.ShapeCode.{coded_tree};
+    ghost use Rattle.ex_substitute.specs.Begins.{AreBegins, AreNeeds, Setting};
+
+    ghost Value = { Setting };
+
+    ghost coded = { Prim.hlevel (codes, coded_tree) };
+
+    ghost view = { λ t. record { tree = t.command.now.tree; context = t.context; budget = t.budget } };
+
+    ghost invariant = { λ t. let s : Setting = record { tree = t.command.now.tree; context = t.context; budget = t.budget } in
+        AreBegins s t.begins × AreNeeds s t.needs };
 }
 
 impl<'a> Trying<'a> {
-    /// Tries the pattern at a place, whose line this is. An attempt that is sure to be in vain is
-    /// passed over.
+    /// A command's pattern, to be tried with this.
+    pub fn new(
+        alloc: Global,
+        command: &'a ExCommand,
+        context: Context<'a>,
+        budget: u64,
+    ) -> Trying<'a>
+        ensures { result
+            ≡ record { tree = command.now.tree; context = context.entry; budget = budget } }
+    {
+        let begins = Begins::of(command, &context, budget);
+        let needs = Needs::of(&command.tree, context.sets, context.ignore, budget);
+        Trying {
+            alloc,
+            command,
+            context,
+            budget,
+            begins,
+            needs,
+        }
+    }
+
+    /// The characters below 256 with which a match may begin.
+    fn codes(&self) -> Codes
+        ensures { AreCodes self.now result }
+    {
+        self.begins.codes
+    }
+
+    /// Whether a match may begin where this stands, by the characters below 256 with which it may.
+    fn may_begin(&self, codes: &Codes, next: Option<char>) -> bool
+        requires { AreCodes self.now codes.now }
+        ensures { result ≡ may_begin self.now next }
+    {
+        match next {
+            Some(c) => match u8::try_from(c) {
+                Ok(code) => codes.have(code),
+                Err(_) => {
+                    !self.begins.is_screened || self.command.screen_passes(next, &self.context)
+                }
+            },
+            None => self.begins.at_end,
+        }
+    }
+
+    /// The same of a column of a line, that of its end too.
+    fn may_begin_at(&self, codes: &Codes, line: &[char], col: usize) -> bool
+        requires { AreCodes self.now codes.now }
+        ensures { result ≡ may_begin self.now (slice_get line.now col) }
+    {
+        self.may_begin(codes, line.get(col).copied())
+    }
+
+    /// The first column from one on at which the pattern has to be tried; a column behind the line's end,
+    /// if there is none.
+    fn next_column(&self, line: &[char], from: usize) -> usize
+        ensures from { from ≤ result }
+        ensures passed { AreVain self.now line.now from result }
+    {
+        // The proof needs the law that this call tells.
+        first_screens_are_sound();
+        // A copy at hand, in which a column is looked up fast.
+        let codes = self.codes();
+        let mut col = from;
+        'columns: while col <= line.len() {
+            if self.may_begin_at(&codes, line, col) {
+                return col;
+            }
+            col += 1;
+        }
+        col
+    }
+
+    /// Whether a line lacks what the pattern needs from a column on.
+    fn is_lacking(&self, line: &[char], col: usize) -> bool
+        ensures { result ≡ true → AreVain self.now line.now col (length line.now + 1) }
+    {
+        // The proof needs the law that this call tells.
+        needs_are_sound();
+        match &self.needs {
+            Some(needs) => needs.are_lacked(line, col),
+            None => false,
+        }
+    }
+
+    /// Tries the pattern at a place.
     fn tried<T: Lines>(
         &self,
         scratch: &mut Scratch<'a>,
         lines: &T,
-        line: &[char],
         p: Place,
     ) -> Result<Option<Match>, Refusal>
         requires present { p.line < length (T.lines lines.now) }
-        requires line { line.now ≡ line_at (T.lines lines.now) p.line }
         requires place { IsPlaceOf (T.lines lines.now) p }
         requires budget { 1 ≤ self.now.budget }
         ensures found { Gives result (spec.tried (trial_in (T.lines lines.now) self.now) p) }
@@ -110,15 +212,7 @@ impl<'a> Trying<'a> {
             IfSome found (IsFoundOn (T.lines lines.now))) }
     {
         let command = self.command;
-        let context = Context {
-            ignore: command.ignore,
-            sets: self.sets,
-            externals: self.externals,
-        };
-        if command.is_vain(line, p.col, &context, self.budget) {
-            return Ok(None);
-        }
-        let told = command.attempt(scratch, self.alloc, lines, &context, p, self.budget)?;
+        let told = command.attempt(scratch, self.alloc, lines, &self.context, p, self.budget)?;
         let found = told_at(p, told)?;
         Ok(found)
     }
@@ -140,13 +234,18 @@ impl<'a> Trying<'a> {
             IfSome found (IsFoundOn (T.lines lines.now))) }
     {
         let chars = lines.line(line);
-        let end = chars.len() + 1;
-        for at in col..end {
+        let mut at = self.next_column(chars, col);
+        if self.is_lacking(chars, at) {
+            return Ok(None);
+        }
+        'columns: while at <= chars.len() {
             let p = Place { line, col: at };
-            let found = self.tried(scratch, lines, chars, p)?;
+            let found = self.tried(scratch, lines, p)?;
             if wanted.counts(p, &found) {
                 return Ok(found);
             }
+            let next = self.next_column(chars, at + 1);
+            at = next;
         }
         Ok(None)
     }
