@@ -11,11 +11,21 @@ use Rattle.edit_session.specs.declared.reading.End.TheVariants.{Done, Refused, T
 use Rattle.edit_session.specs.Ends.{CountsLongs, FilesChange, LongsRise, MeetsLongs, SinkChange, SourceChange, Takes, sink_change, source_change}
 use Rattle.edit_session.specs.Painter.{Library}
 use Rattle.edit_session.specs.Session.{Answer, Standing, most_bytes, script_session, session}
-use Rattle.edit_session.specs.Steps.{Answers, AreCaused, HasRead, MeetsAsTold, ReachesEnd, StandsAt, TakesScript, end_of, steps_change}
+use Rattle.edit_session.specs.Steps.{Answers, AreCaused, HasRead, MeetsAsTold, ReachesEnd, StandsAt, TakesPieces, TakesScript, end_of, steps_change}
 use Rattle.edit_session.proofs.EndLaws.{entries_over, entries_whole}
 use Rattle.edit_session.proofs.ReadingLaws.{joined_at_end, takes_more}
 
 -- ---- whether a command met one
+
+-- where reading stopped in the pieces nothing is said of it
+pub stopped_unmet : (U : Type 0) (library : Library) (s : Standing) (script : Option (List ℕ)) (met : Bool) (before after : Harm) (source : SourceChange) (files : FilesChange) (sink : SinkChange) (end : End) → TakesPieces before after source files sink (Err end) → MeetsAsTold {U = U} library s script met (Err end)
+stopped_unmet U library s script met before after source files sink Done caused = tt
+stopped_unmet U library s script met before after source files sink Refused caused = tt
+stopped_unmet U library s script met before after source files sink TooLong caused = absurd caused.2
+stopped_unmet U library s script met before after source files sink Unread caused = tt
+stopped_unmet U library s script met before after source files sink (Unfetched line) caused = tt
+stopped_unmet U library s script met before after source files sink Unwritten caused = tt
+stopped_unmet U library s script met before after source files sink Memory caused = tt
 
 -- behind the most bytes of a script
 over_known : (library : Library) (s now : Standing) (bytes more : List ℕ) (left after : Option (List ℕ)) → Takes (bytes ++ more) left after → length bytes ≡ most_bytes → length more ≡ 1 → now ≡ (session library s (entries_of 0 bytes)).stands → IfSome left (λ all. (script_session library s all).stands.met_long ≡ now.met_long)

@@ -1,5 +1,5 @@
 //! The commands of a session, one after the other.
-ghost use Rattle.std.specs.Prelude.{◌≡◌, ◌≤◌, ◌<◌, ◌+◌, ◌-◌, ◌++◌, All, None, Ok, false, length, true, IfOk, OnOk};
+ghost use Rattle.std.specs.Prelude.{◌≡◌, ◌≤◌, ◌<◌, ◌+◌, ◌-◌, ◌++◌, All, None, false, length, true, IfOk, OnOk};
 ghost use Rattle.std.specs.List.{range_with_len};
 ghost use Rattle.command_print.specs.CommandText.{head_text};
 ghost use Rattle.text_buffer.specs.TextOfBytes.{most_lines};
@@ -115,34 +115,14 @@ impl<D: Document + Drop> Commands<D> {
     {
         let Entry { line, what } = entry;
         match what {
-            Ok(command) => self.act(alloc, line, command, files, steps),
+            Ok(command) => {
+                if let Verb::Syntax(name) = &command.verb {
+                    return self.take_syntax(alloc, line, name.as_slice(), files, steps);
+                }
+                Ok(self.obey(alloc, line, command, steps)?)
+            }
             Err(fault) => Ok(self.refuse(alloc, line, fault_label(fault).as_bytes())?),
         }
-    }
-
-    /// What a command prints that is none of the faults of a script.
-    fn act<F: Files, L: Ledger>(
-        &mut self,
-        alloc: Global,
-        line: usize,
-        command: EditCommand,
-        files: &mut F,
-        steps: &mut Steps<L>,
-    ) -> Result<List<u8>, End>
-        ensures kept { F.told files.new ≡ F.told files.old }
-        ensures library { D.library self.new.document ≡ D.library self.old.document }
-        ensures answer { IfKnown (F.told files.old) (λ known.
-            GivesOrStops (D.library self.old.document known) result (standing D.lines D.shown D.painter self.new)
-            (answers (D.library self.old.document known) (standing D.lines D.shown D.painter self.old) line (Ok command))) }
-        ensures steps { IfKnown (F.told files.old) (λ known. steps.new ≤ steps.old
-            + what_costs (D.library self.old.document known) (standing D.lines D.shown D.painter self.old) (Ok command)) }
-        ensures causes { IsAnswerCaused self.old.harm self.new.harm
-            (files_between F.told F.faults F.misses F.longs files.old files.new) result }
-    {
-        if let Verb::Syntax(name) = &command.verb {
-            return self.take_syntax(alloc, line, name.as_slice(), files, steps);
-        }
-        Ok(self.obey(alloc, line, command, steps)?)
     }
 
     /// Puts the syntax of this name in force, and tells the lines that show otherwise by it.

@@ -137,50 +137,16 @@ fn read_script<D: Document + Drop, F: Files, I: Source, O: Sink, L: Ledger>(
         (source_between I.left I.faults script.old script.new) }
 {
     let mut buffer = vec![in alloc; 0u8; PIECE]?;
-    read_with(
+    let mut kept = Script::new(alloc);
+    match read_pieces(
         alloc,
         commands,
+        &mut kept,
         buffer.as_mut_slice(),
         files,
         script,
         out,
         steps,
-    )
-}
-
-/// The same, with a buffer for the bytes that are taken at a time.
-fn read_with<D: Document + Drop, F: Files, I: Source, O: Sink, L: Ledger>(
-    alloc: Global,
-    commands: &mut Commands<D>,
-    buffer: &mut [u8],
-    files: &mut F,
-    script: &mut I,
-    out: &mut O,
-    steps: &mut Steps<L>,
-) -> Result<(), End>
-    requires { length buffer.old ≡ 65536 }
-    ensures kept { F.told files.new ≡ F.told files.old }
-    ensures ends { IfKnown (F.told files.old) (λ known. EndsReading (D.library commands.old.document known)
-        (standing D.lines D.shown D.painter commands.old) commands.new.harm.refused
-        (source_between I.left I.faults script.old script.new)
-        (sink_between O.written O.faults out.old out.new) result) }
-    ensures within { IfKnown (F.told files.old) (λ known. StaysWithin (D.library commands.old.document known)
-        (standing D.lines D.shown D.painter commands.old)
-        (source_between I.left I.faults script.old script.new)
-        (sink_between O.written O.faults out.old out.new) (steps_change steps.old steps.new)) }
-    ensures causes { TakesScript commands.old.harm commands.new.harm
-        (source_between I.left I.faults script.old script.new)
-        (files_between F.told F.faults F.misses F.longs files.old files.new)
-        (sink_between O.written O.faults out.old out.new) result }
-    ensures longs { IfKnown (F.told files.old) (λ known. MeetsAsTold (D.library commands.old.document known)
-        (standing D.lines D.shown D.painter commands.old) (I.left script.old)
-        commands.new.harm.met_long result) }
-    ensures taken { TakesFew
-        (source_between I.left I.faults script.old script.new) }
-{
-    let mut kept = Script::new(alloc);
-    match read_pieces(
-        alloc, commands, &mut kept, buffer, files, script, out, steps,
     ) {
         Err(end) => Err(end),
         Ok(ended) => match reach_end(ended, script) {

@@ -5,8 +5,7 @@ use Rattle.edit_session.specs.Ends.{SinkChange, SourceChange}
 use Rattle.large_session.specs.declared.session.Outcome.{Outcome}
 use Rattle.large_session.specs.Laws.{ArePainted}
 use Rattle.large_session.proofs.CountLaws.{all_carried_out}
-use Rattle.large_session.specs.LargeSession.{edit_count, edited_often, five_lines, has_refused, large_text, lines_of_edits, number_behind, start}
-use Rattle.large_session.specs.Steps.{Tells}
+use Rattle.large_session.specs.LargeSession.{edit_count, five_lines, has_refused, large_text, number_behind, start}
 use Rattle.large_session.proofs.TextLaws.{text_bytes_few, text_count, text_read_back}
 use Rattle.program_words.specs.declared.words.Asked.TheVariants.{Large}
 use Rattle.program_words.specs.Given.{LargeWords, PageWords, PaintWords}
@@ -31,8 +30,8 @@ use Rattle.vimsyn_cli.specs.declared.status.Status.{Status}
 use Rattle.vimsyn_cli.specs.declared.status.Status.TheVariants.{Done, Refused, Usage, ReadFault, WriteFault, Memory}
 use Rattle.vimsyn_cli.specs.Answers.{Delivers, GivesSession, IsUntaken, IsUntouched, TellsFault, Writes}
 use Rattle.vimsyn_cli.specs.Changes.{FilesChange}
-use Rattle.vimsyn_cli.specs.Editing.{painter_of, script_status, shown_of}
-use Rattle.vimsyn_cli.specs.Large.{RefusesEdit, large_files, large_lines, large_painter, large_painting, large_run, large_standing, large_told, lines_edited}
+use Rattle.vimsyn_cli.specs.Editing.{script_status, shown_of}
+use Rattle.vimsyn_cli.specs.Large.{RefusesEdit, large_files, large_painter, large_painting, large_run, large_standing, large_told}
 use Rattle.vimsyn_cli.specs.LargeRun.{DeliversLarge, IsLarge, IsOutcome, RunsLarge, TellsRefusal}
 use Rattle.vimsyn_cli.specs.Painting.{IsRefusedPainting, IsUnreadPaint, lines_told, painted_told, painting_told, text_limit, text_told, with_spans}
 use Rattle.vimsyn_cli.specs.Plans.{FollowsFiles, IsExpected, OrUnread, RaisesItsCount, and_then, is_unread}
@@ -297,36 +296,3 @@ kept_steps words page painting files before after own large kept some few steps 
     let bound : after ≤ before + lines_in (text_told (codes "large") (large_files words)) = subst Q kept (subst P same steps) in
     let count : lines_in (text_told (codes "large") (large_files words)) ≡ words.lines = ap lines_in (text_kept words some few) ∙ text_count words.seed words.lines in
     omega arith
-
--- the edits, by the words and draws that they were asked by
-pub outcome_is : (words : LargeWords) (page : PageWords) (painted : PaintedText) (x : ℕ) (outcome : Outcome) → page ≡ large_page words → x ≡ number_behind words.seed words.lines → large_painting words ≡ Ok painted → Tells (edited_often (painter_of page painted.syntax painted.budget) (edit_count words.lines) (start (shown_of painted)) x) outcome → IsOutcome words outcome
-outcome_is words page painted x outcome large drawn is tells =
-    let P : PageWords → Type 0 = λ p. Tells (edited_often (painter_of p painted.syntax painted.budget) (edit_count words.lines) (start (shown_of painted)) x) outcome in
-    let Q : ℕ → Type 0 = λ y. Tells (edited_often (large_painter words painted) (edit_count words.lines) (start (shown_of painted)) y) outcome in
-    let own = subst Q drawn (subst P large tells) in
-    record { painted = painted; accepted = is; text = own.0; refused = own.1 }
-
-pub edited_steps : (words : LargeWords) (page : PageWords) (painted : PaintedText) (x before after : ℕ) → page ≡ large_page words → x ≡ number_behind words.seed words.lines → after ≤ before + lines_of_edits (painter_of page painted.syntax painted.budget) (edit_count words.lines) (start (shown_of painted)) x → after ≤ before + lines_edited words (Ok painted)
-edited_steps words page painted x before after large drawn steps =
-    let P : PageWords → Type 0 = λ p. after ≤ before + lines_of_edits (painter_of p painted.syntax painted.budget) (edit_count words.lines) (start (shown_of painted)) x in
-    let Q : ℕ → Type 0 = λ y. after ≤ before + lines_of_edits (large_painter words painted) (edit_count words.lines) (start (shown_of painted)) y in
-    subst Q drawn (subst P large steps)
-
--- both paintings together
-pub all_lines : (words : LargeWords) (painted : PaintedText) (before between after : ℕ) → large_painting words ≡ Ok painted → between ≤ before + words.lines → after ≤ between + lines_edited words (Ok painted) → after ≤ before + large_lines words
-all_lines words painted before between after is first then =
-    let same : lines_edited words (large_painting words) ≡ lines_edited words (Ok painted) = ap (lines_edited words) is in
-    omega arith
-
-pub text_lines : (words : LargeWords) (before after : ℕ) → after ≤ before + words.lines → after ≤ before + large_lines words
-text_lines words before after first = omega arith
-
-pub stop_is : (words : LargeWords) (why : Stop) → IsExpected (large_painting words) (λ line. ⊥) (Err why) → IsLarge words (Err why)
-stop_is words stop.Memory is = tt
-stop_is words (stop.Fault fault) is = by_cause fault.cause is
-  where
-    by_cause : (why : FaultKind) → OrUnread why ⊥ (large_painting words ≡ Err fault) → large_painting words ≡ Err fault
-    by_cause cause.Missing at = at
-    by_cause cause.Unread at = absurd at
-    by_cause cause.TooLong at = at
-    by_cause cause.Content at = at

@@ -7,7 +7,6 @@ mod LargeLaws
 mod LongLaws
 mod MarkLaws
 mod PaintLaws
-mod PictureLaws
 mod PlanLaws
 mod PrintLaws
 mod ReadingLaws

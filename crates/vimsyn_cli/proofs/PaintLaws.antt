@@ -1,18 +1,17 @@
 -- The painting of a file, step by step.
-use Rattle.std.proofs.Common.{◌≡◌, ℕ, ◌+◌, ◌≤◌, Bool, List, length, refl, subst, sym, inl, inr}
+use Rattle.std.proofs.Common.{◌≡◌, ℕ, ◌+◌, ◌≤◌, List, length, refl, subst, sym, inl, inr}
 use Rattle.std.specs.Prelude.{Option, Some, None, IfSome, Result, Ok, Err}
 use Rattle.program_words.specs.Given.{CheckWords, PaintWords}
 use Rattle.state_cache.specs.PaintedText.{PaintedText}
 use Rattle.syn_base.specs.Outside.{FileMap}
 use Rattle.syn_reader.specs.declared.syntax.Syntax.{Syntax}
 use Rattle.vimsyn_cli.specs.declared.fault.Fault.{Fault as FaultOf}
-use Rattle.vimsyn_cli.specs.declared.fault.FaultKind.{FaultKind}
 use Rattle.vimsyn_cli.specs.declared.fault.Stop.{Stop}
 use Rattle.vimsyn_cli.specs.declared.fault.Stop.TheVariants as stop
 use Rattle.vimsyn_cli.specs.declared.file_fault.NamedFault.TheVariants.{Unread}
 use Rattle.vimsyn_cli.specs.FileStop.{IsUnreadNamed}
 use Rattle.vimsyn_cli.specs.Painting.{IsPaintFault, IsUnreadPaint, painted_told, painting_told, text_told}
-use Rattle.vimsyn_cli.specs.Plans.{FollowsFiles, IfFault, IsExpected, RaisesItsCount, and_then}
+use Rattle.vimsyn_cli.specs.Plans.{FollowsFiles, IfFault, IsExpected, and_then}
 use Rattle.vimsyn_cli.specs.Reading.{IsUnreadAsked, syntax_told}
 use Rattle.vimsyn_cli.specs.Report.{IsFaultOf, fault_line}
 use Rattle.vimsyn_cli.specs.Session.{lines_in}
@@ -24,13 +23,6 @@ text_fault_told A words name stop.Memory result named is same = rw same tt
 text_fault_told A words name (stop.Fault fault) result named is same =
     let P : List ℕ → Type 0 = λ n. IsFaultOf n fault in
     rw same (inr (inl (subst P named is)))
-
--- want of memory tells nothing
-pub memory_untold : {A : Type 0} (result : Result A Stop) (P : FaultOf → Type 0) → result ≡ Err stop.Memory → IfFault result P
-memory_untold result P is = rw is tt
-
-pub memory_uncounted : {A : Type 0} (test : FaultKind → Bool) (result : Result A Stop) (before now : ℕ) → result ≡ Err stop.Memory → RaisesItsCount test result before now
-memory_uncounted test result before now is = rw is tt
 
 -- ---- the painting step by step
 

@@ -36,7 +36,6 @@ use Rattle.vimsyn_cli.specs.Plans.{and_then}
 use Rattle.vimsyn_cli.specs.Printing.{picture_at, picture_bytes, picture_page, picture_told, seen_bytes, seen_page}
 use Rattle.vimsyn_cli.specs.Reading.{options_of, syntax_told, with_told}
 use Rattle.vimsyn_cli.specs.Session.{session, session_told, with_asked}
-use Rattle.vimsyn_cli.proofs.PictureLaws.{some_level}
 use Rattle.vimsyn_cli.proofs.SessionLaws.{text_is}
 
 -- ---- the marked painting
@@ -107,6 +106,9 @@ concealed_is words files painted spans is may marked =
     ap (λ (e : Result Syntax Fault). and_then e more) room
     ∙ ap (λ (e : Result (List (List ℕ)) Fault). and_then e (marked_told words covered)) (text_is words files painted is)
     ∙ ap (with_marks words covered painted.text) marked
+
+some_level : (level : ℕ) → 1 ≤ level → nat_eq level 0 ≡ false
+some_level level some = grind (arith, nat_tests)
 
 picture_is : (words : PaintWords) (files : FileMap) (painted : PaintedText) (spans : List (List Span)) → 1 ≤ words.conceal → IsAccepted words files painted → HasRoomForCover painted.syntax → text_spans (marked_syntax painted.syntax) words.budget painted.text ≡ Ok spans → picture_told words files ≡ Ok (picture.Concealed (concealed_of words painted spans))
 picture_is words files painted spans some is may marked =

@@ -22,7 +22,7 @@ use Rattle.vimsyn_cli.specs.declared.fault.FaultKind.TheVariants.{Content}
 use Rattle.vimsyn_cli.specs.declared.file_fault.NamedFault.TheVariants.{Unread}
 use Rattle.vimsyn_cli.specs.Painting.{IsPaintFault, refused_fault, text_told}
 use Rattle.vimsyn_cli.specs.Plans.{and_then}
-use Rattle.vimsyn_cli.specs.Reading.{IsUnreadAsked, syntax_told}
+use Rattle.vimsyn_cli.specs.Reading.{IsReadFault, IsUnreadAsked, syntax_told}
 use Rattle.vimsyn_cli.specs.Report.{fault_line}
 
 -- ---- the group of the characters that are put
@@ -89,6 +89,10 @@ abbrev pub seen_of : ConcealedText → List SeenLine
 seen_of c = view_of c.items (marks_of c.items) (cover_in c.names) c.level c.text c.spans
 
 -- ---- faults, whatever the files say
+
+-- a fault that reading a syntax with that group can have
+abbrev pub IsCoverFault : CheckWords → Fault → Type 0
+IsCoverFault words fault = IsReadFault fault ⊎ (fault ≡ crowded_fault words.syntax)
 
 -- a fault that such a run can have: of the painting, or, where something is to be concealed, that the group
 -- of the characters that are put finds no room

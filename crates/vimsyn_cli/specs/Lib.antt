@@ -24,4 +24,5 @@ pub mod Written
 -- what only code and proofs cite
 pub mod FileStop
 pub mod FoldRows
+pub mod Reads
 pub mod Refusal

@@ -1,7 +1,7 @@
 -- The session: what a run writes on `out` and on `err`, and its status, as a function of the words, the
 -- files and the script.
 use Rattle.std.specs.Prelude.{ℕ, ◌+◌, List, [], length, Option, Some, None, Result, Ok, Err}
-use Rattle.program_words.specs.Given.{PageWords}
+use Rattle.program_words.specs.Given.{PageWords, PaintWords}
 use Rattle.program_words.specs.declared.words.Asked.{Asked}
 use Rattle.program_words.specs.declared.words.Asked.TheVariants.{Edit, Large, Print}
 use Rattle.program_words.specs.declared.words.Printing.{Printing}
@@ -57,11 +57,14 @@ abbrev pub lines_in : Result (List (List ℕ)) Fault → ℕ
 lines_in (Ok lines) = length lines
 lines_in (Err fault) = 0
 
+abbrev pub text_lines : PaintWords → FileMap → ℕ
+text_lines words files = lines_in (text_told words.text files)
+
 abbrev pub print_lines : Printing → FileMap → ℕ
 print_lines (Check words) files = 0
-print_lines (Spans words) files = lines_in (text_told words.text files)
-print_lines (Html words) files = lines_in (text_told (words.painting).text files)
-print_lines (Folds words) files = lines_in (text_told (words.painting).text files)
+print_lines (Spans words) files = text_lines words files
+print_lines (Html words) files = text_lines words.painting files
+print_lines (Folds words) files = text_lines words.painting files
 
 -- and how many for the commands of a script: those of each change and of each syntax that they come to
 abbrev pub told_lines : PageWords → FileMap → List ℕ → Result PaintedText Fault → ℕ
@@ -70,5 +73,4 @@ told_lines words files script (Err fault) = 0
 
 abbrev pub edit_lines : PageWords → FileMap → List ℕ → ℕ
 edit_lines words files script =
-    lines_in (text_told (words.painting).text files)
-    + told_lines words files script (painting_told words.painting files)
+    text_lines words.painting files + told_lines words files script (painting_told words.painting files)

@@ -1,6 +1,7 @@
 -- What a command by pattern comes to on a text: it is read, and applied with the budget of the session.
-use Rattle.std.specs.Prelude.{◌≢◌, ◌≡◌, ℕ, nat_eq, ◌&&◌, ◌||◌, Bool, true, false, List, ◌∷◌, Result, Ok, Err, if◌then◌else◌, ⊤}
+use Rattle.std.specs.Prelude.{◌≢◌, ◌≡◌, ℕ, Bool, true, false, List, Result, Ok, Err, if◌then◌else◌, ⊤}
 use Rattle.cause_print.specs.ExCauseText.{ex_cause_text}
+use Rattle.edit_script.specs.CommandLine.{is_by_pattern}
 use Rattle.edit_session.specs.declared.changes.Substituted.{Substituted}
 use Rattle.edit_session.specs.declared.changes.Substituted.TheVariants.{Becomes, Counted}
 use Rattle.edit_session.specs.declared.document.Unedited.{Unedited}
@@ -12,15 +13,9 @@ use Rattle.ex_substitute.specs.Applying.{applied}
 use Rattle.ex_substitute.specs.Commands.{Command, command_of}
 use Rattle.ex_substitute.specs.Counting.{is_counted}
 
--- it begins with `s/`, `g/` or `v/`
-abbrev pub begins_command : List ℕ → Bool
-begins_command (letter ∷ (slash ∷ rest)) =
-    (nat_eq letter 115 || (nat_eq letter 103 || nat_eq letter 118)) && nat_eq slash 47
-begins_command other = false
-
--- characters that begin otherwise, which no command of a script has, are told as bad flags
+-- characters that begin otherwise than with `s/`, `g/` or `v/`, which no command of a script has, are told as bad flags
 abbrev pub command_in : List ℕ → Result Command ExError
-command_in characters = if begins_command characters then command_of characters else Err error.BadFlags
+command_in characters = if is_by_pattern characters then command_of characters else Err error.BadFlags
 
 -- a command that counts alone comes to its count, any other one to its change
 abbrev pub change_or_count : Bool → Change → Substituted

@@ -1,8 +1,9 @@
 //! What `check` prints: how much a syntax file defines (this profile).
 ghost use Rattle.std.specs.Prelude.{◌≡◌, IfOk};
+ghost use Rattle.vimsyn_cli.specs.Changes.{files_between};
 ghost use Rattle.vimsyn_cli.specs.Check.{check_told, syntax_counts};
-ghost use Rattle.vimsyn_cli.specs.Plans.{FollowsFiles, IfFault, RaisesItsCount, is_missing, is_too_long, is_unread};
 ghost use Rattle.vimsyn_cli.specs.Reading.{IsReadFault, IsUnreadAsked};
+ghost use Rattle.vimsyn_cli.specs.Reads.{Reads};
 
 use crate::fault::Stop;
 use crate::reading::read;
@@ -18,13 +19,8 @@ pub(crate) fn check<F: Files>(
     files: &mut F,
     words: &CheckWords<'_>,
 ) -> Result<List<u8>, Stop>
-    ensures kept { F.told files.new ≡ F.told files.old }
-    ensures planned { FollowsFiles (F.told files.old)
-        (check_told words.now) (IsUnreadAsked words.now) result }
-    ensures told { IfFault result IsReadFault }
-    ensures faults { RaisesItsCount is_unread result (F.faults files.old) (F.faults files.new) }
-    ensures misses { RaisesItsCount is_missing result (F.misses files.old) (F.misses files.new) }
-    ensures longs { RaisesItsCount is_too_long result (F.longs files.old) (F.longs files.new) }
+    ensures { Reads (check_told words.now) (IsUnreadAsked words.now) IsReadFault
+        (files_between F.told F.faults F.misses F.longs files.old files.new) result }
 {
     let syntax = read(alloc, files, words)?;
     Ok(print_counts(alloc, syntax)?)

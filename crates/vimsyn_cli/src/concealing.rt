@@ -1,18 +1,20 @@
 //! A text painted so that what is concealed shows marks, and its view (`'conceallevel'`,
 //! `:syn-conceal`).
-ghost use Rattle.std.specs.Prelude.{◌≡◌, ◌⊎◌, ◌≤◌, ◌<◌, ◌+◌, All, false, true, length, IfOk, IfSome, OnOk};
+ghost use Rattle.std.specs.Prelude.{◌≡◌, ◌≤◌, ◌<◌, ◌+◌, All, false, true, length, IfOk, OnOk};
 ghost use Rattle.conceal_view.specs.Marking.{marked_clusters, marked_items};
 ghost use Rattle.conceal_view.specs.Marks.{marks_of};
 ghost use Rattle.conceal_view.specs.View.{AreNumbered, lines_in as seen_lines, spans_in};
 ghost use Rattle.syn_base.specs.SpansFit.{FitLines};
 ghost use Rattle.syn_reader.specs.Names.{is_full};
 ghost use Rattle.syntax_set.specs.Groups.{with_group};
-ghost use Rattle.vimsyn_cli.specs.Concealing.{IsUnreadView, IsViewFault, concealed_told, cover_name, covered_told, crowded_fault, marked_syntax, marked_told, seen_of, with_cover};
+ghost use Rattle.vimsyn_cli.specs.Changes.{files_between, steps_change};
+ghost use Rattle.vimsyn_cli.specs.Concealing.{IsCoverFault, IsUnreadView, IsViewFault, concealed_told, cover_name, covered_told, crowded_fault, marked_syntax, marked_told, seen_of, with_cover};
 ghost use Rattle.vimsyn_cli.specs.FileStop.{IsStop};
-ghost use Rattle.vimsyn_cli.specs.Painting.{IsRefusedPainting, text_told};
-ghost use Rattle.vimsyn_cli.specs.Plans.{FollowsFiles, IfFault, IsExpected, IsOfContent, RaisesItsCount, is_missing, is_too_long, is_unread};
-ghost use Rattle.vimsyn_cli.specs.Reading.{IsReadFault, IsUnreadAsked};
-ghost use Rattle.vimsyn_cli.specs.Session.{lines_in};
+ghost use Rattle.vimsyn_cli.specs.Painting.{IsRefusedPainting};
+ghost use Rattle.vimsyn_cli.specs.Plans.{IfFault, IsExpected, IsOfContent};
+ghost use Rattle.vimsyn_cli.specs.Reading.{IsUnreadAsked};
+ghost use Rattle.vimsyn_cli.specs.Reads.{Paints, Reads};
+ghost use Rattle.vimsyn_cli.specs.Session.{text_lines};
 
 use crate::fault::{Fault, FaultKind, Stop};
 use crate::reading::read;
@@ -112,15 +114,9 @@ pub(crate) fn conceal_text<F: Files, L: Ledger>(
     steps: &mut Steps<L>,
 ) -> Result<Concealed, Stop>
     requires level { 1 ≤ words.now.conceal }
-    ensures kept { F.told files.new ≡ F.told files.old }
-    ensures planned { FollowsFiles (F.told files.old)
-        (concealed_told words.now) (IsUnreadView words.now) result }
-    ensures told { IfFault result (IsViewFault words.now) }
-    ensures faults { RaisesItsCount is_unread result (F.faults files.old) (F.faults files.new) }
-    ensures misses { RaisesItsCount is_missing result (F.misses files.old) (F.misses files.new) }
-    ensures longs { RaisesItsCount is_too_long result (F.longs files.old) (F.longs files.new) }
-    ensures steps { IfSome (F.told files.old) (λ known.
-        steps.new ≤ steps.old + lines_in (text_told words.now.text known)) }
+    ensures { Paints (concealed_told words.now) (IsUnreadView words.now) (IsViewFault words.now) (text_lines words.now)
+        (files_between F.told F.faults F.misses F.longs files.old files.new)
+        (steps_change steps.old steps.new) result }
 {
     let syntax = read_covered(alloc, files, words.syntax())?;
     let text = read_text(alloc, files, words.text())?;
@@ -134,14 +130,8 @@ fn read_covered<F: Files>(
     files: &mut F,
     words: &CheckWords<'_>,
 ) -> Result<Syntax, Stop>
-    ensures kept { F.told files.new ≡ F.told files.old }
-    ensures planned { FollowsFiles (F.told files.old)
-        (covered_told words.now) (IsUnreadAsked words.now) result }
-    ensures told { IfFault result (λ fault.
-        IsReadFault fault ⊎ (fault ≡ crowded_fault words.now.syntax)) }
-    ensures faults { RaisesItsCount is_unread result (F.faults files.old) (F.faults files.new) }
-    ensures misses { RaisesItsCount is_missing result (F.misses files.old) (F.misses files.new) }
-    ensures longs { RaisesItsCount is_too_long result (F.longs files.old) (F.longs files.new) }
+    ensures { Reads (covered_told words.now) (IsUnreadAsked words.now) (IsCoverFault words.now)
+        (files_between F.told F.faults F.misses F.longs files.old files.new) result }
 {
     let syntax = read(alloc, files, words)?;
     covered(alloc, words.syntax(), syntax)

@@ -1,11 +1,12 @@
 //! What `folds` prints: the folds of the text, or its lines with folds closed (`:syn-fold`).
-ghost use Rattle.std.specs.Prelude.{◌≡◌, ◌≤◌, ◌+◌, ◌++◌, All, IfOk, IfSome, OnOk, length, replicate};
+ghost use Rattle.std.specs.Prelude.{◌≡◌, ◌≤◌, ◌++◌, All, IfOk, OnOk, length, replicate};
 ghost use Rattle.std.specs.List.{flat_map};
+ghost use Rattle.vimsyn_cli.specs.Changes.{files_between, steps_change};
 ghost use Rattle.vimsyn_cli.specs.FoldRows.{RowStands};
 ghost use Rattle.vimsyn_cli.specs.Folds.{closed_line, fold_line, folds_shown, folds_text, folds_told, plain_line, row_line, text_levels, view_text};
-ghost use Rattle.vimsyn_cli.specs.Painting.{IsPaintFault, IsUnreadPaint, text_told};
-ghost use Rattle.vimsyn_cli.specs.Plans.{FollowsFiles, IfFault, RaisesItsCount, is_missing, is_too_long, is_unread};
-ghost use Rattle.vimsyn_cli.specs.Session.{lines_in};
+ghost use Rattle.vimsyn_cli.specs.Painting.{IsPaintFault, IsUnreadPaint};
+ghost use Rattle.vimsyn_cli.specs.Reads.{Paints};
+ghost use Rattle.vimsyn_cli.specs.Session.{text_lines};
 
 use crate::fault::Stop;
 use crate::painting::paint;
@@ -24,15 +25,9 @@ pub(crate) fn print_folds<F: Files, L: Ledger>(
     words: &FoldWords<'_>,
     steps: &mut Steps<L>,
 ) -> Result<List<u8>, Stop>
-    ensures kept { F.told files.new ≡ F.told files.old }
-    ensures planned { FollowsFiles (F.told files.old)
-        (folds_told words.now) (IsUnreadPaint words.now.painting) result }
-    ensures told { IfFault result (IsPaintFault words.now.painting) }
-    ensures faults { RaisesItsCount is_unread result (F.faults files.old) (F.faults files.new) }
-    ensures misses { RaisesItsCount is_missing result (F.misses files.old) (F.misses files.new) }
-    ensures longs { RaisesItsCount is_too_long result (F.longs files.old) (F.longs files.new) }
-    ensures steps { IfSome (F.told files.old) (λ known.
-        steps.new ≤ steps.old + lines_in (text_told words.now.painting.text known)) }
+    ensures { Paints (folds_told words.now) (IsUnreadPaint words.now.painting) (IsPaintFault words.now.painting) (text_lines words.now.painting)
+        (files_between F.told F.faults F.misses F.longs files.old files.new)
+        (steps_change steps.old steps.new) result }
 {
     let painted = paint(alloc, files, words.painting(), steps)?;
     Ok(print_painted(alloc, words, painted)?)

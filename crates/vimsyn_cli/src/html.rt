@@ -1,10 +1,10 @@
 //! What `html` prints: the text as a page (`:TOhtml`).
-ghost use Rattle.std.specs.Prelude.{◌≡◌, ◌≤◌, ◌+◌, IfOk, IfSome};
+ghost use Rattle.std.specs.Prelude.{◌≡◌, IfOk};
+ghost use Rattle.vimsyn_cli.specs.Changes.{files_between, steps_change};
 ghost use Rattle.vimsyn_cli.specs.Concealing.{IsUnreadView, IsViewFault};
-ghost use Rattle.vimsyn_cli.specs.Painting.{text_told};
-ghost use Rattle.vimsyn_cli.specs.Plans.{FollowsFiles, IfFault, RaisesItsCount, is_missing, is_too_long, is_unread};
 ghost use Rattle.vimsyn_cli.specs.Printing.{html_told, page_bytes, page_options, picture_page, seen_page};
-ghost use Rattle.vimsyn_cli.specs.Session.{lines_in};
+ghost use Rattle.vimsyn_cli.specs.Reads.{Paints};
+ghost use Rattle.vimsyn_cli.specs.Session.{text_lines};
 
 use crate::concealing::Concealed;
 use crate::fault::Stop;
@@ -22,15 +22,9 @@ pub(crate) fn print_page<F: Files, L: Ledger>(
     words: &PageWords<'_>,
     steps: &mut Steps<L>,
 ) -> Result<List<u8>, Stop>
-    ensures kept { F.told files.new ≡ F.told files.old }
-    ensures planned { FollowsFiles (F.told files.old)
-        (html_told words.now) (IsUnreadView words.now.painting) result }
-    ensures told { IfFault result (IsViewFault words.now.painting) }
-    ensures faults { RaisesItsCount is_unread result (F.faults files.old) (F.faults files.new) }
-    ensures misses { RaisesItsCount is_missing result (F.misses files.old) (F.misses files.new) }
-    ensures longs { RaisesItsCount is_too_long result (F.longs files.old) (F.longs files.new) }
-    ensures steps { IfSome (F.told files.old) (λ known.
-        steps.new ≤ steps.old + lines_in (text_told words.now.painting.text known)) }
+    ensures { Paints (html_told words.now) (IsUnreadView words.now.painting) (IsViewFault words.now.painting) (text_lines words.now.painting)
+        (files_between F.told F.faults F.misses F.longs files.old files.new)
+        (steps_change steps.old steps.new) result }
 {
     let picture = read_picture(alloc, files, words.painting(), steps)?;
     Ok(print_picture(alloc, words, picture)?)

@@ -1,8 +1,10 @@
 //! A painted text, from the names of its files on, or the fault that tells why there is none.
-ghost use Rattle.std.specs.Prelude.{◌≡◌, ◌≤◌, ◌+◌, length, IfSome};
-ghost use Rattle.vimsyn_cli.specs.Painting.{IsPaintFault, IsRefusedPainting, IsUnreadPaint, painted_told, painting_told, text_told};
-ghost use Rattle.vimsyn_cli.specs.Plans.{FollowsFiles, IfFault, IsExpected, IsOfContent, RaisesItsCount, is_missing, is_too_long, is_unread};
-ghost use Rattle.vimsyn_cli.specs.Session.{lines_in};
+ghost use Rattle.std.specs.Prelude.{◌≤◌, ◌+◌, length};
+ghost use Rattle.vimsyn_cli.specs.Changes.{files_between, steps_change};
+ghost use Rattle.vimsyn_cli.specs.Painting.{IsPaintFault, IsRefusedPainting, IsUnreadPaint, painted_told, painting_told};
+ghost use Rattle.vimsyn_cli.specs.Plans.{IfFault, IsExpected, IsOfContent};
+ghost use Rattle.vimsyn_cli.specs.Reads.{Paints};
+ghost use Rattle.vimsyn_cli.specs.Session.{text_lines};
 
 use crate::fault::Stop;
 use crate::reading::read;
@@ -22,15 +24,9 @@ pub(crate) fn paint<F: Files, L: Ledger>(
     words: &PaintWords<'_>,
     steps: &mut Steps<L>,
 ) -> Result<Painted, Stop>
-    ensures kept { F.told files.new ≡ F.told files.old }
-    ensures planned { FollowsFiles (F.told files.old)
-        (painting_told words.now) (IsUnreadPaint words.now) result }
-    ensures told { IfFault result (IsPaintFault words.now) }
-    ensures faults { RaisesItsCount is_unread result (F.faults files.old) (F.faults files.new) }
-    ensures misses { RaisesItsCount is_missing result (F.misses files.old) (F.misses files.new) }
-    ensures longs { RaisesItsCount is_too_long result (F.longs files.old) (F.longs files.new) }
-    ensures steps { IfSome (F.told files.old) (λ known.
-        steps.new ≤ steps.old + lines_in (text_told words.now.text known)) }
+    ensures { Paints (painting_told words.now) (IsUnreadPaint words.now) (IsPaintFault words.now) (text_lines words.now)
+        (files_between F.told F.faults F.misses F.longs files.old files.new)
+        (steps_change steps.old steps.new) result }
 {
     let syntax = read(alloc, files, words.syntax())?;
     let text = read_text(alloc, files, words.text())?;

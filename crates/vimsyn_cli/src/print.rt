@@ -1,7 +1,7 @@
 //! The commands that print at once what they read.
-ghost use Rattle.std.specs.Prelude.{◌≡◌, ◌≤◌, ◌+◌, IfSome};
 ghost use Rattle.vimsyn_cli.specs.Answers.{IsFaultOfPrint, IsUnreadPrint};
-ghost use Rattle.vimsyn_cli.specs.Plans.{FollowsFiles, IfFault, RaisesItsCount, is_missing, is_too_long, is_unread};
+ghost use Rattle.vimsyn_cli.specs.Changes.{files_between, steps_change};
+ghost use Rattle.vimsyn_cli.specs.Reads.{Paints};
 ghost use Rattle.vimsyn_cli.specs.Session.{print_lines, print_told};
 
 use crate::check::check;
@@ -20,15 +20,9 @@ pub(crate) fn print<F: Files, L: Ledger>(
     printing: &Printing<'_>,
     steps: &mut Steps<L>,
 ) -> Result<List<u8>, Stop>
-    ensures kept { F.told files.new ≡ F.told files.old }
-    ensures planned { FollowsFiles (F.told files.old)
-        (print_told printing.now) (IsUnreadPrint printing.now) result }
-    ensures told { IfFault result (IsFaultOfPrint printing.now) }
-    ensures faults { RaisesItsCount is_unread result (F.faults files.old) (F.faults files.new) }
-    ensures misses { RaisesItsCount is_missing result (F.misses files.old) (F.misses files.new) }
-    ensures longs { RaisesItsCount is_too_long result (F.longs files.old) (F.longs files.new) }
-    ensures steps { IfSome (F.told files.old) (λ known.
-        steps.new ≤ steps.old + print_lines printing.now known) }
+    ensures { Paints (print_told printing.now) (IsUnreadPrint printing.now) (IsFaultOfPrint printing.now) (print_lines printing.now)
+        (files_between F.told F.faults F.misses F.longs files.old files.new)
+        (steps_change steps.old steps.new) result }
 {
     match printing {
         Printing::Check(words) => check(alloc, files, words),

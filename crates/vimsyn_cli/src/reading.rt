@@ -1,8 +1,9 @@
 //! The syntax that a run reads (`:syn-include` and all that it asks for), or the fault that tells why
 //! there is none.
 ghost use Rattle.std.specs.Prelude.{◌≡◌, IfOk, Some};
-ghost use Rattle.vimsyn_cli.specs.Plans.{FollowsFiles, IfFault, RaisesItsCount, is_missing, is_too_long, is_unread};
+ghost use Rattle.vimsyn_cli.specs.Changes.{files_between};
 ghost use Rattle.vimsyn_cli.specs.Reading.{IsErrorStop, IsReadFault, IsUnreadAsked, options_of, refused_cause, syntax_told, told_of};
+ghost use Rattle.vimsyn_cli.specs.Reads.{Reads};
 
 use crate::fault::{Fault, FaultKind, Stop};
 use cause_print::{FileFault, file_fault_text, refused_text};
@@ -18,13 +19,8 @@ pub(crate) fn read<F: Files>(
     files: &mut F,
     words: &CheckWords<'_>,
 ) -> Result<Syntax, Stop>
-    ensures kept { F.told files.new ≡ F.told files.old }
-    ensures planned { FollowsFiles (F.told files.old)
-        (syntax_told words.now) (IsUnreadAsked words.now) result }
-    ensures told { IfFault result IsReadFault }
-    ensures faults { RaisesItsCount is_unread result (F.faults files.old) (F.faults files.new) }
-    ensures misses { RaisesItsCount is_missing result (F.misses files.old) (F.misses files.new) }
-    ensures longs { RaisesItsCount is_too_long result (F.longs files.old) (F.longs files.new) }
+    ensures { Reads (syntax_told words.now) (IsUnreadAsked words.now) IsReadFault
+        (files_between F.told F.faults F.misses F.longs files.old files.new) result }
 {
     let options = read_options(alloc, words)?;
     match read_syntax(alloc, files, words.syntax(), &options) {

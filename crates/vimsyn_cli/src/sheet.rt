@@ -51,7 +51,15 @@ impl<'a> Document for Sheet<'a> {
     fn print_line(&self, alloc: Global, out: &mut Vec<u8>, number: usize) -> Result<(), Memory> {
         let syntax = self.painted.syntax();
         let spans = spans_at(&self.painted, number);
-        push_line(alloc, out, syntax, number, spans, true)
+        push_line(
+            alloc,
+            out,
+            &syntax.groups,
+            &syntax.links,
+            number,
+            spans,
+            true,
+        )
     }
 
     fn page(&self, alloc: Global) -> Result<List<u8>, Memory> {

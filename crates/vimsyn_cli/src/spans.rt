@@ -1,12 +1,12 @@
 //! What `spans` prints: a line for each span of the text (this profile).
-ghost use Rattle.std.specs.Prelude.{◌≡◌, ◌≤◌, ◌<◌, ◌+◌, ◌++◌, All, false, get_or, length, IfOk, IfSome, OnOk, []};
+ghost use Rattle.std.specs.Prelude.{◌≡◌, ◌<◌, ◌++◌, All, get_or, length, IfOk, OnOk, []};
 ghost use Rattle.span_print.specs.SpanText.{line_text};
 ghost use Rattle.syn_base.specs.SpansFit.{FitLines};
+ghost use Rattle.vimsyn_cli.specs.Changes.{files_between, steps_change};
 ghost use Rattle.vimsyn_cli.specs.Concealing.{IsUnreadView, IsViewFault};
-ghost use Rattle.vimsyn_cli.specs.Painting.{text_told};
-ghost use Rattle.vimsyn_cli.specs.Plans.{FollowsFiles, IfFault, RaisesItsCount, is_missing, is_too_long, is_unread};
 ghost use Rattle.vimsyn_cli.specs.Printing.{picture_bytes, seen_bytes, spans_bytes, spans_from, spans_told};
-ghost use Rattle.vimsyn_cli.specs.Session.{lines_in};
+ghost use Rattle.vimsyn_cli.specs.Reads.{Paints};
+ghost use Rattle.vimsyn_cli.specs.Session.{text_lines};
 
 use crate::concealing::Concealed;
 use crate::fault::Stop;
@@ -18,7 +18,6 @@ use span_print::span_text;
 use state_cache::Painted;
 use std::alloc::Global;
 use syn_base::{Colours, Files, Ledger, Lines, List, Memory, Span, Steps};
-use syn_reader::Syntax;
 use syntax_set::Groups;
 
 /// The span lines of the text.
@@ -28,15 +27,9 @@ pub(crate) fn print_spans<F: Files, L: Ledger>(
     words: &PaintWords<'_>,
     steps: &mut Steps<L>,
 ) -> Result<List<u8>, Stop>
-    ensures kept { F.told files.new ≡ F.told files.old }
-    ensures planned { FollowsFiles (F.told files.old)
-        (spans_told words.now) (IsUnreadView words.now) result }
-    ensures told { IfFault result (IsViewFault words.now) }
-    ensures faults { RaisesItsCount is_unread result (F.faults files.old) (F.faults files.new) }
-    ensures misses { RaisesItsCount is_missing result (F.misses files.old) (F.misses files.new) }
-    ensures longs { RaisesItsCount is_too_long result (F.longs files.old) (F.longs files.new) }
-    ensures steps { IfSome (F.told files.old) (λ known.
-        steps.new ≤ steps.old + lines_in (text_told words.now.text known)) }
+    ensures { Paints (spans_told words.now) (IsUnreadView words.now) (IsViewFault words.now) (text_lines words.now)
+        (files_between F.told F.faults F.misses F.longs files.old files.new)
+        (steps_change steps.old steps.new) result }
 {
     let picture = read_picture(alloc, files, words, steps)?;
     Ok(print_picture(alloc, picture)?)
@@ -84,8 +77,7 @@ fn spans_bytes<P: Lines + Colours>(
     let mut out = Vec::new(alloc);
     for number in 0..painting.len() {
         let spans = spans_at(painting, number);
-        let bytes = span_text(alloc, number, spans, groups, links, false)?;
-        push_bytes(&mut out, bytes.as_slice())?;
+        push_line(alloc, &mut out, groups, links, number, spans, false)?;
     }
     Ok(List::from_vec(out))
 }
@@ -117,7 +109,8 @@ fn columns_of(line: &[char]) -> usize
 pub(crate) fn push_line(
     alloc: Global,
     out: &mut Vec<u8>,
-    syntax: &Syntax,
+    groups: &Groups,
+    links: &Links,
     number: usize,
     spans: &[Span],
     dash: bool,
@@ -125,9 +118,9 @@ pub(crate) fn push_line(
     requires number { number < usize.MAX }
     requires columns { All (λ span. (span.first < usize.MAX) × (span.last < usize.MAX)) spans.now }
     ensures { OnOk result (out.new.items ≡ out.old.items
-        ++ line_text syntax.now.groups syntax.now.links number spans.now dash) }
+        ++ line_text groups.now links.now number spans.now dash) }
 {
-    let bytes = span_text(alloc, number, spans, &syntax.groups, &syntax.links, dash)?;
+    let bytes = span_text(alloc, number, spans, groups, links, dash)?;
     push_bytes(out, bytes.as_slice())?;
     Ok(())
 }

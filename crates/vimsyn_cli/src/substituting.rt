@@ -7,6 +7,7 @@ ghost use Rattle.ex_substitute.specs.Counting.{is_counted};
 ghost use Rattle.vimsyn_cli.specs.Substitutions as spec;
 
 use cause_print::ex_cause_text;
+use edit_script::is_by_pattern;
 use edit_session::{Replacement, Substituted, Unedited};
 use ex_substitute::{Change, ExCommand, ExError};
 use std::alloc::Global;
@@ -39,22 +40,10 @@ pub(crate) fn substituted<T: Lines>(
 fn read_command(alloc: Global, characters: &[char]) -> Result<ExCommand, ExError>
     ensures { Answers result (spec.command_in characters.now) }
 {
-    if begins_command(characters) {
+    if is_by_pattern(characters) {
         ExCommand::read(alloc, characters)
     } else {
         Err(ExError::BadFlags)
-    }
-}
-
-/// Whether characters begin as a command does.
-fn begins_command(characters: &[char]) -> bool
-    ensures { result ≡ spec.begins_command characters.now }
-{
-    match characters {
-        [letter, slash, ..] => {
-            (*letter == 's' || *letter == 'g' || *letter == 'v') && *slash == '/'
-        }
-        _ => false,
     }
 }
 

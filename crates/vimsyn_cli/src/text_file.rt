@@ -1,9 +1,11 @@
 //! The text of a file that the words name, or the fault that tells why there is none.
-ghost use Rattle.std.specs.Prelude.{◌≡◌, ◌≤◌};
+ghost use Rattle.std.specs.Prelude.{◌≤◌};
 ghost use Rattle.text_buffer.specs.TextOfBytes.{line_of_fault};
+ghost use Rattle.vimsyn_cli.specs.Changes.{files_between};
 ghost use Rattle.vimsyn_cli.specs.FileStop.{IsLinesOf, IsStop, IsUnreadNamed, StopsForText, lines_of};
 ghost use Rattle.vimsyn_cli.specs.Painting.{bytes_told, text_told};
-ghost use Rattle.vimsyn_cli.specs.Plans.{FollowsFiles, IfFault, IsOfContent, RaisesItsCount, is_missing, is_too_long, is_unread};
+ghost use Rattle.vimsyn_cli.specs.Plans.{IfFault, IsOfContent};
+ghost use Rattle.vimsyn_cli.specs.Reads.{Reads};
 ghost use Rattle.vimsyn_cli.specs.Report.{IsFaultOf, fault_of};
 
 use crate::fault::Stop;
@@ -17,13 +19,8 @@ const MOST_TEXT_BYTES: usize = 67_108_864;
 
 /// The text of the file of this name.
 pub(crate) fn read_text<F: Files>(alloc: Global, files: &mut F, name: &str) -> Result<Text, Stop>
-    ensures kept { F.told files.new ≡ F.told files.old }
-    ensures planned { FollowsFiles (F.told files.old)
-        (text_told name.now) (IsUnreadNamed name.now) (lines_of result) }
-    ensures told { IfFault result (IsFaultOf name.now) }
-    ensures faults { RaisesItsCount is_unread result (F.faults files.old) (F.faults files.new) }
-    ensures misses { RaisesItsCount is_missing result (F.misses files.old) (F.misses files.new) }
-    ensures longs { RaisesItsCount is_too_long result (F.longs files.old) (F.longs files.new) }
+    ensures { Reads (text_told name.now) (IsUnreadNamed name.now) (IsFaultOf name.now)
+        (files_between F.told F.faults F.misses F.longs files.old files.new) (lines_of result) }
 {
     let bytes = read_file(alloc, files, name, MOST_TEXT_BYTES)?;
     text_of(alloc, name, bytes.as_slice())
@@ -62,13 +59,8 @@ fn read_file<F: Files>(
     name: &str,
     limit: usize,
 ) -> Result<List<u8>, Stop>
-    ensures kept { F.told files.new ≡ F.told files.old }
-    ensures planned { FollowsFiles (F.told files.old)
-        (bytes_told name.now limit) (IsUnreadNamed name.now) result }
-    ensures told { IfFault result (IsFaultOf name.now) }
-    ensures faults { RaisesItsCount is_unread result (F.faults files.old) (F.faults files.new) }
-    ensures misses { RaisesItsCount is_missing result (F.misses files.old) (F.misses files.new) }
-    ensures longs { RaisesItsCount is_too_long result (F.longs files.old) (F.longs files.new) }
+    ensures { Reads (bytes_told name.now limit) (IsUnreadNamed name.now) (IsFaultOf name.now)
+        (files_between F.told F.faults F.misses F.longs files.old files.new) result }
 {
     match files.fetch(alloc, name, limit) {
         Fetched::Whole(bytes) => Ok(bytes),

@@ -24,8 +24,8 @@ returns-in-Ok-clause-runs g c =
     (record { before = g.O.Sink.written c.args.out.now; after = g.O.Sink.written c.edit_painted.new.out; faults = g.O.Sink.faults c.args.out.now; faults_after = g.O.Sink.faults c.edit_painted.new.out })
     (record { before = g.E.Sink.written c.args.err.now; after = g.E.Sink.written c.edit_painted.new.err; faults = g.E.Sink.faults c.args.err.now; faults_after = g.E.Sink.faults c.edit_painted.new.err })
     c.edit_painted.result
-    (edit_painted_told c.args.words.now c.painting.result.now (told old) c.in-Ok.painted c.painting.ensures c.in-Ok.ensures.planned)
-    c.in-Ok.ensures.kept c.in-Ok.ensures.faults c.in-Ok.ensures.misses c.in-Ok.ensures.longs c.edit_painted.ensures.edits
+    (edit_painted_told c.args.words.now c.painting.result.now (told old) c.in-Ok.painted c.painting.ensures c.in-Ok.ensures.reads.planned)
+    c.in-Ok.ensures.reads.kept c.in-Ok.ensures.reads.faults c.in-Ok.ensures.reads.misses c.in-Ok.ensures.reads.longs c.edit_painted.ensures.edits
 
 pub returns-in-Err-clause-runs : goal.returns-in-Err-clause-runs
 returns-in-Err-clause-runs g c =
@@ -35,17 +35,17 @@ returns-in-Err-clause-runs g c =
     (record { before = g.O.Sink.written c.args.out.now; after = g.O.Sink.written c.deliver.new.out; faults = g.O.Sink.faults c.args.out.now; faults_after = g.O.Sink.faults c.deliver.new.out })
     (record { before = g.E.Sink.written c.args.err.now; after = g.E.Sink.written c.deliver.new.err; faults = g.E.Sink.faults c.args.err.now; faults_after = g.E.Sink.faults c.deliver.new.err })
     c.deliver.result
-    (edit_planned c.args.words.now c.painting.result.now (g.F.Files.told c.args.files.now) (g.I.Source.left c.args.script.now) c.in-Err.stop c.painting.ensures c.in-Err.ensures.planned)
-    (edit_fault c.args.words.now c.painting.result.now c.in-Err.stop c.painting.ensures c.in-Err.ensures.told)
-    (raises_again PaintedText (List ℕ) is_unread c.in-Err.stop _ _ c.in-Err.ensures.faults) (raises_again PaintedText (List ℕ) is_missing c.in-Err.stop _ _ c.in-Err.ensures.misses) (raises_again PaintedText (List ℕ) is_too_long c.in-Err.stop _ _ c.in-Err.ensures.longs)
-    c.in-Err.ensures.kept tt refl refl c.deliver.ensures (λ is. absurd (stop_undone c.in-Err.stop _ _ c.deliver.result c.deliver.ensures is))
+    (edit_planned c.args.words.now c.painting.result.now (g.F.Files.told c.args.files.now) (g.I.Source.left c.args.script.now) c.in-Err.stop c.painting.ensures c.in-Err.ensures.reads.planned)
+    (edit_fault c.args.words.now c.painting.result.now c.in-Err.stop c.painting.ensures c.in-Err.ensures.reads.told)
+    (raises_again PaintedText (List ℕ) is_unread c.in-Err.stop _ _ c.in-Err.ensures.reads.faults) (raises_again PaintedText (List ℕ) is_missing c.in-Err.stop _ _ c.in-Err.ensures.reads.misses) (raises_again PaintedText (List ℕ) is_too_long c.in-Err.stop _ _ c.in-Err.ensures.reads.longs)
+    c.in-Err.ensures.reads.kept tt refl refl c.deliver.ensures (λ is. absurd (stop_undone c.in-Err.stop _ _ c.deliver.result c.deliver.ensures is))
 
 pub returns-in-Ok-clause-steps : goal.returns-in-Ok-clause-steps
 returns-in-Ok-clause-steps g c =
     edited_count c.args.words.now c.painting.result.now (g.F.Files.told c.args.files.now) (g.I.Source.left c.args.script.now) c.in-Ok.painted
     c.args.steps.now c.paint.new.steps c.edit_painted.new.steps c.painting.ensures
-    (edit_painted_told c.args.words.now c.painting.result.now (g.F.Files.told c.args.files.now) c.in-Ok.painted c.painting.ensures c.in-Ok.ensures.planned)
-    c.in-Ok.ensures.steps (λ known is. c.edit_painted.ensures.steps known (c.in-Ok.ensures.kept ∙ is))
+    (edit_painted_told c.args.words.now c.painting.result.now (g.F.Files.told c.args.files.now) c.in-Ok.painted c.painting.ensures c.in-Ok.ensures.reads.planned)
+    c.in-Ok.ensures.steps (λ known is. c.edit_painted.ensures.steps known (c.in-Ok.ensures.reads.kept ∙ is))
 
 pub returns-in-Err-clause-steps : goal.returns-in-Err-clause-steps
 returns-in-Err-clause-steps g c =
@@ -64,8 +64,8 @@ returns-in-Ok-clause-long_named g c = λ is.
     edited_counted c.args.words.now c.in-Ok.painted
     (told old) (told mid) (told new) (faults old) (faults mid) (faults new) (misses old) (misses mid) (misses new) (longs old) (longs mid) (longs new)
     (g.I.Source.left c.args.script.now)
-    (edit_painted_told c.args.words.now c.painting.result.now (told old) c.in-Ok.painted c.painting.ensures c.in-Ok.ensures.planned)
-    c.in-Ok.ensures.kept c.in-Ok.ensures.longs (c.edit_painted.ensures.long_named is)
+    (edit_painted_told c.args.words.now c.painting.result.now (told old) c.in-Ok.painted c.painting.ensures c.in-Ok.ensures.reads.planned)
+    c.in-Ok.ensures.reads.kept c.in-Ok.ensures.reads.longs (c.edit_painted.ensures.long_named is)
 
 pub returns-in-Err-clause-long_named : goal.returns-in-Err-clause-long_named
 returns-in-Err-clause-long_named g c = λ is.
@@ -79,4 +79,4 @@ returns-in-Err-clause-long_named g c = λ is.
     (files_change (told old) (told new) (faults old) (faults new) (misses old) (misses new) (longs old) (longs new))
     (sink_change (g.O.Sink.written c.args.out.now) (g.O.Sink.written c.deliver.new.out) (g.O.Sink.faults c.args.out.now) (g.O.Sink.faults c.deliver.new.out))
     (sink_change (g.E.Sink.written c.args.err.now) (g.E.Sink.written c.deliver.new.err) (g.E.Sink.faults c.args.err.now) (g.E.Sink.faults c.deliver.new.err))
-    c.deliver.result c.painting.ensures c.in-Err.ensures.planned c.deliver.ensures is
+    c.deliver.result c.painting.ensures c.in-Err.ensures.reads.planned c.deliver.ensures is

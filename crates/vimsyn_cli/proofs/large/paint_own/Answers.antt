@@ -3,7 +3,7 @@ use Rattle.vimsyn_cli.proofs.LargeLaws.{kept_painted, kept_steps}
 use Rattle.vimsyn_cli.proofs.large.paint_own.Goals as goal
 
 pub returns-clause-planned : goal.returns-clause-planned
-returns-clause-planned g c = kept_painted c.args.words.now c.args.page.now c.painting.result.now c.args.files.files c.paint.result c.painting.ensures c.requires.page c.requires.files c.paint.ensures.planned c.paint.ensures.faults
+returns-clause-planned g c = kept_painted c.args.words.now c.args.page.now c.painting.result.now c.args.files.files c.paint.result c.painting.ensures c.requires.page c.requires.files c.paint.ensures.reads.planned c.paint.ensures.reads.faults
 
 pub returns-clause-steps : goal.returns-clause-steps
 returns-clause-steps g c =

@@ -1,4 +1,4 @@
-use Rattle.std.proofs.Common.{◌≤◌, ◌<◌, ◌+◌, ◌∙◌, ◌++◌, ℕ, List, ap, arith, length, refl, false}
+use Rattle.std.proofs.Common.{◌≤◌, ◌<◌, ◌+◌, ◌∙◌, ◌++◌, List, ap, arith, length, false}
 use Rattle.syn_base.specs.declared.places.Span.{Span}
 use Rattle.span_print.specs.SpanText.{line_text}
 use Rattle.vimsyn_cli.proofs.PrintLaws.{all_printed, printed_further}
@@ -12,9 +12,8 @@ loop-number-preserved g c =
     let number = c.loop-number.number in
     let within : number < length painting = omega (arith, c.loop-number-test.true, c.len-number-end.ensures.count, c.requires.as_many) in
     printed_further names links painting number (number + 1) c.loop-number.out.items _ _ (omega arith) within
-    (c.in_ok-push_bytes.ensures
-    ∙ ap (λ (bytes : List ℕ). c.loop-number.out.items ++ bytes)
-    (c.as_slice.ensures ∙ c.in_ok-bytes.ensures ∙ ap (λ (spans : List Span). line_text names links number spans false) c.spans_at-spans.ensures.is))
+    (c.in_ok-push_line.ensures
+    ∙ ap (λ (spans : List Span). c.loop-number.out.items ++ line_text names links number spans false) c.spans_at-spans.ensures.is)
     c.loop-number.invariant
 
 pub returns : goal.returns
