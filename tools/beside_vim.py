@@ -15,6 +15,7 @@ import shutil
 import subprocess
 import sys
 import tempfile
+from dataclasses import dataclass
 from pathlib import Path
 
 HERE = Path(__file__).resolve().parent
@@ -91,15 +92,42 @@ def same(vim: str, ours: str) -> bool:
     return vim.lower() == ours.lower() or vim.lower() in RESERVED and ours.lower() == vim.lower() + "group"
 
 
-def differences(syntax: str, text: str) -> list[str]:
-    found = []
-    rows = zip(lines_of(text), groups_of_vim(syntax, text), groups_of_vimsyn(syntax, text))
-    for number, (line, vim, ours) in enumerate(rows, 1):
-        for column, (one, other) in enumerate(zip(vim, ours)):
-            if not same(one, other):
-                around = f"{line[max(0, column - 20):column]}>>{line[column:column + 20]}"
-                found.append(f"{text}:{number}:{column + 1}: Vim {one or '-'}, vimsyn {other or '-'}: {around}")
+@dataclass
+class Difference:
+    """Characters side by side of which Vim shows one group and vimsyn another."""
+
+    line: int
+    first: int
+    last: int
+    vim: str
+    ours: str
+    around: str
+
+    def told(self, text: str) -> str:
+        place = f"{text}:{self.line}:{self.first}-{self.last}"
+        return f"{place}: Vim {self.vim or '-'}, vimsyn {self.ours or '-'}: {self.around}"
+
+    def count(self) -> int:
+        return self.last - self.first + 1
+
+
+def line_differences(number: int, line: str, vim: list[str], ours: list[str]) -> list[Difference]:
+    found: list[Difference] = []
+    for column, (one, other) in enumerate(zip(vim, ours), 1):
+        if same(one, other):
+            continue
+        if found and (found[-1].last, found[-1].vim, found[-1].ours) == (column - 1, one, other):
+            found[-1].last = column
+        else:
+            around = f"{line[max(0, column - 21):column - 1]}>>{line[column - 1:column + 19]}"
+            found.append(Difference(number, column, column, one, other, around))
     return found
+
+
+def differences(syntax: str, text: str) -> list[Difference]:
+    rows = zip(lines_of(text), groups_of_vim(syntax, text), groups_of_vimsyn(syntax, text))
+    found = [line_differences(number, *row) for number, row in enumerate(rows, 1)]
+    return [difference for row in found for difference in row]
 
 
 def main(words: list[str]) -> int:
@@ -113,10 +141,10 @@ def main(words: list[str]) -> int:
         except (Failed, OSError, UnicodeDecodeError) as failure:
             print(f"beside_vim.py: {failure}", file=sys.stderr)
             return 3
-        for line in found[:SHOWN]:
-            print(line)
+        for difference in found[:SHOWN]:
+            print(difference.told(text))
         characters += sum(map(len, lines_of(text)))
-        wrong += len(found)
+        wrong += sum(difference.count() for difference in found)
     share = 100 * (characters - wrong) / max(characters, 1)
     print(f"{characters} characters, {wrong} differ, {share:.3f} % are as in Vim")
     return 1 if wrong else 0

@@ -38,10 +38,12 @@ vim9script
 set nocompatible encoding=utf-8 viminfo=
 
 import './flatten/copies.vim'
+import './flatten/cut.vim'
 import './flatten/frame.vim'
 import './flatten/cluster.vim'
 import './flatten/command.vim'
 import './flatten/item.vim'
+import './flatten/scope.vim'
 
 var what = ''                          # the syntax that was asked for,
 var folder = ''                        # the folder of the flat files,
@@ -50,6 +52,7 @@ var by_name = true                     # whether a name was asked for, and not a
 var room = ''                          # the folder of the copies
 var includes = 0
 var pending: list<any> = []            # a command that is being carried out
+var last_file = -2                     # the file of the last one
 var own_iskeyword = ''                 # what 'syn iskeyword' set
 var keywords_written = '@,48-57,_,192-255'
 g:flatten_next = ''
@@ -106,9 +109,15 @@ func g:FlattenInclude(file, lnum, text)
   call s:EndInclude()
 endfunc
 
+# (Behind a command of the same file no include can have ended.)
 def Begin(file: number, lnum: number, text: string)
-  LeaveIncludes()
-  pending = text =~# '^sy\a*\s\+list\>' ? [] : [file, lnum, text]
+  if file == last_file
+    LeavePending()
+  else
+    LeaveIncludes()
+    last_file = file
+  endif
+  pending = stridx(text, 'list') > 0 && text =~# '^sy\a*\s\+list\>' ? [] : [file, lnum, text]
 enddef
 
 def Carried(file: number, lnum: number, text: string)
@@ -118,7 +127,9 @@ def Carried(file: number, lnum: number, text: string)
     return
   endif
   final flat = command.Flat(text)
-  NoteOwnKeywords(text)
+  if strpart(text, 0, 2) ==# 'sy'
+    NoteOwnKeywords(text)
+  endif
   NoteKeywords(file, lnum)
   for cause in flat.causes
     frame.LeaveOut(file, lnum, cause, text)
@@ -132,33 +143,38 @@ def BeginInclude(file: number, lnum: number, text: string)
   LeaveIncludes()
   includes += 1
   const tail = fnamemodify(matchstr(text, '\S\+$'), ':t')
-  frame.Open(name .. '-' .. includes .. '-' .. tail, [file, lnum, text])
+  frame.Open(name .. '-' .. includes .. '-' .. tail, [file, lnum, text], matchstr(text, '^\a\+\s\+include\s\+\zs@\S\+\ze\s'))
 enddef
 
 def EndInclude()
   cluster.WriteOut()
   final read = frame.Close()
   const [file, lnum, text] = read.asked
-  const members = matchstr(text, '^\a\+\s\+include\s\+\zs@\S\+\s\+')
   if !read.read
     frame.LeaveOut(file, lnum, v:errmsg ==# '' ? 'no such file' : v:errmsg, text)
   elseif empty(read.entries)
     frame.LeaveOut(file, lnum, 'nothing was read there', text)
   else
-    frame.Keep(file, lnum, 'syn include ' .. members .. 'syntax/' .. read.name)
-    if members !=# ''
-      cluster.Change(tolower(matchstr(members, '@\zs\S\+')), 'add', keys(read.tops))
+    frame.Keep(file, lnum, 'syn include ' .. read.cluster .. (read.cluster ==# '' ? '' : ' ') .. 'syntax/' .. read.name)
+    if read.cluster !=# ''
+      cluster.Change(tolower(read.cluster[1 :]), 'add', keys(read.tops))
     endif
   endif
 enddef
 
-# Includes and commands that ended by an error which the file's own 'try' took are closed.
-def LeaveIncludes()
+# A command that ended by an error which the file's own 'try' took is left out.
+def LeavePending()
   if pending != []
     const [file, lnum, text] = pending
     pending = []
     frame.LeaveOut(file, lnum, 'refused by Vim', text)
   endif
+enddef
+
+# Includes that ended so are closed.
+def LeaveIncludes()
+  LeavePending()
+  last_file = -2
   if len(frame.frames) > 1
     const open = count(expand('<stack>'), 'FlattenInclude[')
     while len(frame.frames) > open + 1
@@ -169,7 +185,7 @@ enddef
 
 # What 'syn iskeyword' has set once a command is carried out, or nothing. ':syn sync clear' takes it away too.
 def NoteOwnKeywords(text: string)
-  if text =~# '^sy\a*\s\+\%(iskeyword\|clear\|sync\)\>'
+  if index(['iskeyword', 'clear', 'sync'], cut.Head(text)[0]) >= 0
     const told = matchstr(execute('syntax iskeyword'), 'syntax iskeyword \zs.*')
     own_iskeyword = told =~# '^not set' ? '' : told
   endif
@@ -177,11 +193,10 @@ enddef
 
 # The keyword set as 'syn iskeyword', where it has changed. With 'lisp' a dash belongs to it.
 def NoteKeywords(file: number, lnum: number)
-  const given = own_iskeyword ==# '' ? &l:iskeyword : own_iskeyword
-  const value = substitute(given, '[ "|]', (m) => string(char2nr(m[0])), 'g') .. (&l:lisp ? ',-' : '')
-  if value !=# keywords_written
-    keywords_written = value
-    frame.Keep(file, lnum, 'syn iskeyword ' .. value)
+  const given = (own_iskeyword ==# '' ? &l:iskeyword : own_iskeyword) .. (&l:lisp ? ',-' : '')
+  if given !=# keywords_written
+    keywords_written = given
+    frame.Keep(file, lnum, 'syn iskeyword ' .. substitute(given, '[ "|]', (m) => string(char2nr(m[0])), 'g'))
   endif
 enddef
 
@@ -194,7 +209,7 @@ func Main() abort
   call s:command.SetColours(exists('v:colornames') ? copy(v:colornames) : {})
   exe 'noautocmd' (argc() > 2 ? 'edit! ' .. fnameescape(argv(2)) : 'enew!')
   exe 'noautocmd setlocal filetype=' .. s:name 'syntax=' .. s:name
-  call s:frame.Open(s:name .. '.vim', [])
+  call s:frame.Open(s:name .. '.vim', [], '')
   let &verbosefile = s:room .. '/messages'
   " (in place of Vim's own, which keeps Vim from asking for the files that it sources)
   autocmd! Syntax
@@ -237,7 +252,7 @@ def Finish(): bool
   LeaveIncludes()
   NoteKeywords(-1, 0)
   cluster.WriteOut()
-  for line in item.OwnLinks()
+  for line in scope.Settle() + item.OwnLinks()
     frame.Keep(-1, 0, line)
   endfor
   final main = frame.Close()

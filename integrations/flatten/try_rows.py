@@ -2,7 +2,8 @@
 """try_rows.py ROWS: prints each row that isn't as it says, in vimsyn by a flat file or in Vim; nothing where all are.
 
 A row begins with '== ' and a name. Behind it stand the lines of a syntax, then '--', and then pairs of a line of text and
-its picture: for each character the first letter of the final group that it shows, '.' for none. Remarks begin with '# '.
+its picture: for each character the first letter of the final group that it shows, '.' for none. '-- ' and a name before
+the text begins the lines of another file beside the syntax. Remarks begin with '# '.
 """
 from __future__ import annotations
 
@@ -18,23 +19,24 @@ import beside_vim  # noqa: E402
 @dataclass
 class Row:
     name: str
-    syntax: list[str] = field(default_factory=list)
+    files: dict[str, list[str]] = field(default_factory=lambda: {"row.vim": []})
     text: list[str] = field(default_factory=list)
     wanted: list[str] = field(default_factory=list)
 
 
 def rows_of(path: str) -> list[Row]:
     rows: list[Row] = []
-    in_syntax = True
+    name = "row.vim"
     for line in Path(path).read_text(encoding="utf-8").split("\n"):
         if line.startswith("== "):
             rows.append(Row(line[3:]))
-            in_syntax = True
-        elif line == "--":
-            in_syntax = False
+            name = "row.vim"
+        elif line == "--" or line.startswith("-- ") and name:
+            name = line[3:]
         elif rows and not line.startswith("# "):
             row = rows[-1]
-            part = row.syntax if in_syntax else row.text if len(row.text) == len(row.wanted) else row.wanted
+            pairs = row.text if len(row.text) == len(row.wanted) else row.wanted
+            part = row.files.setdefault(name, []) if name else pairs
             part.append(line)
     for row in rows:
         while row.text and not row.text[-1] and len(row.text) > len(row.wanted):
@@ -48,7 +50,8 @@ def picture(groups: list[str]) -> str:
 
 def wrong(row: Row, folder: Path) -> list[str]:
     syntax, text = folder / "row.vim", folder / "row.txt"
-    syntax.write_text("\n".join(row.syntax) + "\n", encoding="utf-8")
+    for name, lines in row.files.items():
+        (folder / name).write_text("\n".join(lines) + "\n", encoding="utf-8")
     text.write_text("\n".join(row.text) + "\n", encoding="utf-8")
     found = []
     for who, colour in (("vimsyn", beside_vim.groups_of_vimsyn), ("Vim", beside_vim.groups_of_vim)):

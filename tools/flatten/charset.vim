@@ -10,7 +10,7 @@ const alphabet = join(map(range(1, 9) + range(11, 255) + [0x101, 0x3b1, 0x4e00, 
 var sets: dict<string> = {}    # of atoms as they are spelled, what they take
 
 # What an atom takes, with case ignored or not. An atom that takes no room takes nothing.
-export def SetOf(pattern: string, atom: dict<any>, ignore: bool): string
+export def SetOf(pattern: string, atom: any, ignore: bool): string
   const kind = atom.kind
   if kind ==# 'end'
     return "\n"
@@ -39,7 +39,7 @@ export def Meet(set: string, other: string): bool
 enddef
 
 # All that the atoms of a node take.
-export def AllOf(pattern: string, node: dict<any>, ignore: bool): string
+export def AllOf(pattern: string, node: any, ignore: bool): string
   if has_key(node, 'inside')
     return node.multi =~# '^@.*[=!]$' ? '' : AllOf(pattern, node.inside, ignore)
   elseif !has_key(node, 'parts')
@@ -53,7 +53,7 @@ export def AllOf(pattern: string, node: dict<any>, ignore: bool): string
 enddef
 
 # With what a row of pieces may begin, and whether it may take nothing. Behind the stop of a line only its end follows.
-export def FirstOf(pattern: string, pieces: list<dict<any>>): list<any>
+export def FirstOf(pattern: string, pieces: any): list<any>
   var set = ''
   for piece in pieces
     if piece.kind ==# 'stop'
@@ -68,7 +68,7 @@ export def FirstOf(pattern: string, pieces: list<dict<any>>): list<any>
   return [set, true]
 enddef
 
-def FirstOfPiece(pattern: string, piece: dict<any>): list<any>
+def FirstOfPiece(pattern: string, piece: any): list<any>
   if piece.multi =~# '^@.*[=!]$'
     return ['', true]
   elseif piece.kind ==# 'group' || piece.kind ==# 'list'
@@ -81,7 +81,7 @@ def FirstOfPiece(pattern: string, piece: dict<any>): list<any>
   return [set, set ==# '' || MayBeNone(piece)]
 enddef
 
-export def FirstOfChoice(pattern: string, choice: dict<any>): list<any>
+export def FirstOfChoice(pattern: string, choice: any): list<any>
   var [set, empty] = ['', false]
   for branch in choice.parts
     const [first, none] = FirstOf(pattern, branch.parts[-1].parts)
@@ -92,6 +92,6 @@ export def FirstOfChoice(pattern: string, choice: dict<any>): list<any>
 enddef
 
 # Whether a count may be none.
-export def MayBeNone(piece: dict<any>): bool
+export def MayBeNone(piece: any): bool
   return piece.multi =~# '^[*=?]\|^{-\=0*\%(,\|}\)\|^{-\=}'
 enddef

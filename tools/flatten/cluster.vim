@@ -58,7 +58,7 @@ def WrittenOut(name: string, at: dict<any>): string
   const first = toupper(list[0])
   var less = {}
   AddMembers(less, list[1 :], 1)
-  final from = first ==# 'TOP' ? at.tops : first ==# 'CONTAINED' ? at.contained : groups
+  final from = first ==# 'TOP' ? at.tops : first ==# 'CONTAINED' ? at.contained : extendnew(at.tops, at.contained)
   final names = filter(sort(keys(from)), (_, group) => first ==# 'ALL' || !has_key(less, group))
   return 'syn cluster ' .. name .. ' contains=' .. join(mapnew(names, (_, group) => groups[group]), ',')
 enddef

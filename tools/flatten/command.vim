@@ -5,6 +5,7 @@ vim9script
 import './cut.vim'
 import './frame.vim'
 import './cluster.vim'
+import './scope.vim'
 import './pattern.vim'
 import './item.vim'
 import './counts.vim'
@@ -22,17 +23,18 @@ def Form(lines: list<string>, causes: list<string>): dict<list<string>>
 enddef
 
 export def Flat(text: string): dict<list<string>>
-  return text =~# '^sy' ? FlatSyntax(text) : FlatHighlight(text)
+  return strpart(text, 0, 2) ==# 'sy' ? FlatSyntax(text) : FlatHighlight(text)
 enddef
 
 def FlatSyntax(text: string): dict<list<string>>
-  const sub = matchstr(text, '^\a\+\s*\zs\a*')
-  const rest = strpart(text, matchend(text, '^\a\+\s*\a*\s*'))
+  const sub = cut.Head(text)[0]
   if sub ==# 'match' || sub ==# 'region'
     return FlatItem(text)
   elseif sub ==# 'keyword'
     return FlatKeywords(text)
-  elseif sub ==# 'cluster'
+  endif
+  const rest = strpart(text, matchend(text, '^\a\+\s*\a*\s*'))
+  if sub ==# 'cluster'
     return FlatCluster(rest)
   elseif sub ==# 'sync' && rest !~# '^fromstart\>'
     return Form([], ['painting starts from the first line'])
@@ -49,8 +51,14 @@ def FlatSyntax(text: string): dict<list<string>>
 enddef
 
 def FlatCluster(rest: string): dict<list<string>>
-  const [line, cause] = cluster.FlatCluster(rest, Names)
+  const [line, cause] = cluster.FlatCluster(rest, ClusterNames)
   return Form(line ==# '' ? [] : [line], cause ==# '' ? [] : [cause])
+enddef
+
+# The names of a cluster's list.
+def ClusterNames(text: string): list<string>
+  final names = Names(text)
+  return scope.IsCluster(names) ? scope.Scoped(names) : names
 enddef
 
 # === Items ===
@@ -66,11 +74,11 @@ def FlatItem(text: string): dict<list<string>>
     extend(causes, flat[1 :])
     add(parts, item.Part(pieces[i].kind, flat[0], gap))
   endfor
-  NoteGroup(parts[0].text, WordsOf(text, pieces))
-  if match(causes, '^left out') >= 0
+  const [sub, group, _] = cut.Head(parts[0].text)
+  NoteGroup(group, WordsOf(text, pieces))
+  if causes != [] && match(causes, '^left out') >= 0
     return Form([], causes)
   endif
-  const [sub, group] = split(parts[0].text)[1 : 2]
   const made = cut.Trimmed(item.TextOf(item.Respell(sub, group, parts, causes)))
   return Form(long_match.Split(made), causes)
 enddef
@@ -86,8 +94,8 @@ def FlatPiece(kind: string, piece: string): list<string>
     const made = counted.pattern ==# inner ? piece : pattern.Delimited(counted.pattern, piece[0])
     return [made] + (cause ==# '' ? [] : [cause]) + counted.causes
   elseif kind ==# 'list'
-    return [FlatList(piece)]
-  elseif piece =~? '^cchar\s*=\s*|'
+    return [FlatList(piece)] + ListCauses(piece)
+  elseif stridx(piece, '|') > 0 && piece =~? '^cchar\s*=\s*|'
     return ['', 'this character can''t be told']
   endif
   return [piece]
@@ -98,8 +106,8 @@ def ReservedCause(name: string): string
 enddef
 
 def FlatHead(text: string): string
-  final m = matchlist(text, '^\a\+\s\+\(\a\+\)\s\+\([^ \t|]*\)')
-  return empty(m) ? text : 'syn ' .. m[1] .. ' ' .. GroupName(m[2]) .. ' '
+  const [sub, group, _] = cut.Head(text)
+  return group ==# '' ? text : 'syn ' .. sub .. ' ' .. GroupName(group) .. ' '
 enddef
 
 const reserved_words = {none: true, all: true, allbut: true, top: true, contained: true, contains: true}
@@ -114,8 +122,7 @@ def GroupName(name: string): string
 enddef
 
 # Notes the group of an item, and whether 'contained' is among its words, which are in small letters.
-def NoteGroup(made: string, words: list<string>)
-  const name = matchstr(made, '^syn \a\+\s\+\zs\S\+')
+def NoteGroup(name: string, words: list<string>)
   const key = tolower(name)
   cluster.groups[key] = name
   frame.frames[-1][index(words, 'contained') < 0 ? 'tops' : 'contained'][key] = 1
@@ -133,12 +140,19 @@ enddef
 
 # A list of names without empty ones.
 def FlatList(text: string): string
-  final m = matchlist(text, '^\(\a\+\)\s*=\s*\(.*\)$')
-  return empty(m) ? text : m[1] .. '=' .. join(Names(m[2]), ',')
+  const equals = stridx(text, '=')
+  const key = trim(strpart(text, 0, equals))
+  final names = Names(strpart(text, equals + 1))
+  return key .. '=' .. join(key ==? 'nextgroup' ? names : scope.Scoped(names), ',')
+enddef
+
+def ListCauses(text: string): list<string>
+  return stridx(text, 'TOP') > 0 && scope.IsCluster(Names(matchstr(text, '=\s*\zs.*'))) ? ['TOP is the cluster of this file: ' .. text] : []
 enddef
 
 def Names(text: string): list<string>
-  final names = filter(map(split(text, ','), (_, name) => trim(name)), (_, name) => name !=# '')
+  final names = stridx(text, ' ') < 0 && stridx(text, "\t") < 0 && stridx(text, ',,') < 0 ? split(text, ',')
+    : filter(map(split(text, ','), (_, name) => trim(name)), (_, name) => name !=# '')
   var made = names[: 0]
   for name in names[1 :]
     if name !=? 'none' || has_key(reserved, 'none')
@@ -162,11 +176,11 @@ enddef
 
 # Keywords: words that only Vim takes are put as matches where they can match at all.
 def FlatKeywords(text: string): dict<list<string>>
-  const rest = matchstr(text, '^\a\+\s\+\a\+\s\+\S\+\s*\zs.*')
+  const rest = strpart(text, cut.Head(text)[2])
   const all = split(tolower(rest))
   if text !~# '[\\|"=]\|\s\[' && !HasOther(all)
     const front = FlatHead(text)
-    NoteGroup(front, all)
+    NoteGroup(cut.Head(front)[1], all)
     return Form([front .. rest], [])
   endif
   var pieces = cut.KnownPieces(text)
@@ -183,7 +197,7 @@ def FlatKeywords(text: string): dict<list<string>>
       AddWord(words, others, substitute(word, '\\\(.\)', '\1', 'g'))
     endif
   endfor
-  NoteGroup(head, WordsOf(text, pieces))
+  NoteGroup(cut.Head(head)[1], WordsOf(text, pieces))
   final texts = mapnew(item.FirstLists(options, causes), (_, part) => part.text)
   causes += WordMatches(matchstr(head, '^syn keyword\s\+\zs\S\+'), texts, others)
   return Form(words == [] ? [] : [head .. join(words + texts, ' ')], causes)

@@ -36,9 +36,17 @@ enddef
 # The lines of a copy: each command stands in the line that it has in its file. The first one lets Vim ask again.
 def CopyLines(lines: list<string>, file: number): list<string>
   const vim9 = match(lines, '^\s*vim9s\%[cript]\>') >= 0
-  var [made, begun, i] = [[], false, 0]
-  while i < len(lines)
-    const [text, next] = Logical(lines, i, vim9)
+  var made: list<string> = []
+  var [begun, i, joined] = [false, 0, 0]
+  while true
+    const code = vim9 ? i : NextCode(lines, i)
+    made += repeat([''], code - i)
+    i = code
+    if i >= len(lines)
+      break
+    endif
+    joined = joined > i || joined < 0 ? joined : match(lines, goes_on, i + 1)
+    const [text, next] = joined == i + 1 || vim9 ? Logical(lines, i, vim9) : [lines[i], i + 1]
     var line = Rewrite(text, file, i + 1, vim9)
     if !begun && line !~# '^\s*$' && line !~# '^\s*vim9s\%[cript]\>'
       begun = true
@@ -46,10 +54,23 @@ def CopyLines(lines: list<string>, file: number): list<string>
     endif
     add(made, line)
     const kept = stridx(text, '<<') < 0 ? [] : HeredocLines(text, lines, next)
-    extend(made, repeat([''], next - i - 1) + kept)
+    made += repeat([''], next - i - 1) + kept
     i = next + len(kept)
   endwhile
   return begun ? made : made + ['set eventignore-=SourceCmd']
+enddef
+
+# A line that goes on with the one before it, outside of Vim 9 script.
+const goes_on = '^\s*\%(\\\|["#]\\ \)'
+
+# The next line from line i on that is no comment and isn't empty; or the comment before it, if it goes on with that.
+def NextCode(lines: list<string>, i: number): number
+  const first = i < len(lines) ? strpart(trim(lines[i], " \t", 1), 0, 1) : ''
+  if first !=# '' && first !=# '"'
+    return i
+  endif
+  const next = match(lines, '^\s*[^" \t]', i)
+  return next < 0 ? len(lines) : next > i && lines[next] =~# goes_on ? next - 1 : next
 enddef
 
 # The logical line that begins at line i, and the line behind it.
@@ -113,11 +134,8 @@ AddKind('expressions', 'if elsei[f] wh[ile] for let cons[t] unl[et] cal[l] retu[
 
 # The line, in which each command whose words must be known is a call.
 export def Rewrite(line: string, file: number, lnum: number, vim9: bool): string
-  if !vim9 && line =~# '^\s*\%("\|$\)'
-    return ''
-  endif
   const at = file .. ', ' .. lnum
-  var [made, rest] = ['', WithoutScriptName(line, file)]
+  var [made, rest] = ['', stridx(line, '<s') < 0 ? line : WithoutScriptName(line, file)]
   while true
     const lead = Lead(rest)
     rest = strpart(rest, len(lead))
@@ -140,16 +158,23 @@ enddef
 
 # Blanks, colons and modifiers in front of a command.
 def Lead(text: string): string
-  var i = matchend(text, '^[ \t:]*')
-  while get(kinds, matchstr(text, '^\a\w*', i), '') ==# 'modifier'
+  var i = cut.BlankEnd(text, 0)
+  i = strpart(text, i, 1) ==# ':' ? matchend(text, '^[ \t:]*') : i
+  while get(kinds, WordAt(text, i), '') ==# 'modifier'
     i = matchend(text, '^\a\w*!\=[ \t:]*', i)
   endwhile
   return strpart(text, 0, i)
 enddef
 
+# The word at a place, as of a command.
+def WordAt(text: string, i: number): string
+  const word = strpart(text, i, stridx(text, ' ', i) - i)
+  return has_key(kinds, word) ? word : matchstr(text, '^\a\w*', i)
+enddef
+
 # One command at the front of a text: what stands for it, and the rest from its bar on.
 def RewriteCommand(lead: string, text: string, at: string, vim9: bool): list<string>
-  const word = matchstr(text, '^\a\w*')
+  const word = WordAt(text, 0)
   const kind = get(kinds, word, '')
   if kind ==# 'definition'
     return [lead .. Definition(text, at), '']
@@ -160,7 +185,7 @@ def RewriteCommand(lead: string, text: string, at: string, vim9: bool): list<str
   endif
   const end = CommandEnd(kind, word, text, vim9)
   const command = strpart(text, 0, end)
-  const made = kind ==# 'syntax' && command =~# '^\a\+\s\+include\>' ? lead .. Call('FlattenInclude', at, command)
+  const made = kind ==# 'syntax' && stridx(command, 'include') > 0 && command =~# '^\a\+\s\+include\>' ? lead .. Call('FlattenInclude', at, command)
     : kind ==# 'syntax' || kind ==# 'highlight' ? lead .. Call('FlattenCommand', at, command)
     : kind ==# 'execute' ? lead .. Put(strpart(command, len(word)), lead, at)
     : kind ==# 'option' && !IsKeywordOption(command) ? Noted(lead, command, at, 'option') : lead .. command
@@ -168,7 +193,7 @@ def RewriteCommand(lead: string, text: string, at: string, vim9: bool): list<str
 enddef
 
 def CommandEnd(kind: string, word: string, text: string, vim9: bool): number
-  if word =~# '^\u' && strpart(text, len(word), 1) !~# '[(:.\[]'
+  if word >=# 'A' && word <# '[' && strpart(text, len(word), 1) !~# '[(:.\[]'
     return has_key(plain_commands, word) ? cut.BarEnd(text, vim9) : len(text)
   elseif kind ==# 'syntax'
     return cut.SyntaxEnd(text, vim9)
@@ -219,9 +244,6 @@ enddef
 
 # For <sfile> Vim would put the name of the copy: the file's own name stands in its place.
 def WithoutScriptName(line: string, file: number): string
-  if stridx(line, '<sfile>') < 0 && stridx(line, '<script>') < 0
-    return line
-  endif
   const path = files[file]
   const mods = '\(\%(:[phtre~.]\)*\)'
   const made = substitute(line, 'expand(\s*\([''"]\)<\%(sfile\|script\)>' .. mods .. '\1[^)]*)',

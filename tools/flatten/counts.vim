@@ -12,7 +12,7 @@ var keeps_groups = false               # whether what its groups match counts el
 # A pattern in which counts within counts are respelled, and the causes: what was respelled, and what is left though a
 # text may be cut in many ways.
 export def Respell(pattern: string): dict<any>
-  if pattern !~# ')\\\=[*+{]'
+  if !HasCountedGroup(pattern) || pattern !~# '[*+{].*)\\\=[*+{]'
     return {pattern: pattern, causes: []}
   elseif !has_key(respelled, pattern)
     respelled[pattern] = Respelled(pattern)
@@ -20,10 +20,22 @@ export def Respell(pattern: string): dict<any>
   return respelled[pattern]
 enddef
 
+def HasCountedGroup(pattern: string): bool
+  for counted in [')*', ')\+', ')\{', ')+', '){', ')\*']
+    if stridx(pattern, counted) >= 0
+      return true
+    endif
+  endfor
+  return false
+enddef
+
 def Respelled(given: string): dict<any>
   var [pattern, causes] = [given, []]
   while true
     var whole = tree.TreeOf(pattern)
+    if !tree.HasNested()
+      return {pattern: pattern, causes: causes}
+    endif
     keeps_groups = given =~# '\\[1-9]\|\\z('
     const change = FirstChange(pattern, whole)
     if empty(change)
@@ -39,7 +51,7 @@ enddef
 # === What can be spelled otherwise ===
 
 # The first group of a node that can be spelled otherwise, the inner ones first: where it stands, and its two texts.
-def FirstChange(pattern: string, node: dict<any>): dict<any>
+def FirstChange(pattern: string, node: any): dict<any>
   for part in get(node, 'parts', [])
     final change = FirstChange(pattern, part)
     if !empty(change)
@@ -58,7 +70,7 @@ def FirstChange(pattern: string, node: dict<any>): dict<any>
 enddef
 
 # Whether a node has a group with a number.
-def IsNumbered(node: dict<any>): bool
+def IsNumbered(node: any): bool
   if get(node, 'counted', false) || has_key(node, 'inside') && IsNumbered(node.inside)
     return true
   endif
@@ -70,8 +82,8 @@ def IsNumbered(node: dict<any>): bool
   return false
 enddef
 
-def HasCount(node: dict<any>): bool
-  if IsUnbounded(get(node, 'multi', ''))
+def HasCount(node: any): bool
+  if tree.IsUnbounded(get(node, 'multi', ''))
     return true
   elseif has_key(node, 'inside')
     return node.multi !~# '^@.*[=!]$' && HasCount(node.inside)
@@ -84,11 +96,7 @@ def HasCount(node: dict<any>): bool
   return false
 enddef
 
-def IsUnbounded(multi: string): bool
-  return multi =~# '^[*+]\|^{-\=\d*,}\|^{-\=}'
-enddef
-
-def TextOf(pattern: string, node: dict<any>): string
+def TextOf(pattern: string, node: any): string
   return strpart(pattern, node.from, node.to - node.from)
 enddef
 
@@ -96,7 +104,7 @@ enddef
 
 # Whether each branch has a greedy count over all characters of the rest of the group, and only single characters behind
 # it: then what several turns take one turn takes, its longest first.
-def IsCovered(pattern: string, group: dict<any>): bool
+def IsCovered(pattern: string, group: any): bool
   for branch in group.inside.parts
     var others = ''
     for other in group.inside.parts
@@ -109,7 +117,7 @@ def IsCovered(pattern: string, group: dict<any>): bool
   return true
 enddef
 
-def IsCoveredRow(pattern: string, pieces: list<dict<any>>, others: string): bool
+def IsCoveredRow(pattern: string, pieces: any, others: string): bool
   for piece in pieces
     if index(['zs', 'ze', 'back', 'list'], piece.kind) >= 0
       return false
@@ -124,11 +132,11 @@ def IsCoveredRow(pattern: string, pieces: list<dict<any>>, others: string): bool
   return false
 enddef
 
-def AllOfAll(pattern: string, pieces: list<dict<any>>): string
+def AllOfAll(pattern: string, pieces: any): string
   return join(mapnew(pieces, (_, piece) => charset.AllOf(pattern, piece, false)), '')
 enddef
 
-def AreSingle(pieces: list<dict<any>>): bool
+def AreSingle(pieces: any): bool
   for piece in pieces
     if piece.multi !=# '' || piece.kind ==# 'group'
       return false
@@ -138,7 +146,7 @@ def AreSingle(pieces: list<dict<any>>): bool
 enddef
 
 # What each turn of a piece takes as one character: an atom's set, or those of a choice's branches of one atom.
-def Cover(pattern: string, piece: dict<any>): string
+def Cover(pattern: string, piece: any): string
   if piece.kind !=# 'group'
     return charset.SetOf(pattern, piece, false)
   endif
@@ -153,13 +161,13 @@ def Cover(pattern: string, piece: dict<any>): string
 enddef
 
 # The group with at most one turn in place of any number, or with one in place of one or more.
-def Once(pattern: string, group: dict<any>): dict<any>
+def Once(pattern: string, group: any): dict<any>
   const front = strpart(pattern, group.from, group.multi_from - group.from)
   return {at: group.from, from: TextOf(pattern, group), to: front .. (group.multi ==# '+' ? '' : Multi(pattern, group, '='))}
 enddef
 
 # A count of one character, spelled as at the level of its piece.
-def Multi(pattern: string, piece: dict<any>, multi: string): string
+def Multi(pattern: string, piece: any, multi: string): string
   return (piece.level == 3 ? '' : '\') .. multi
 enddef
 
@@ -167,7 +175,7 @@ enddef
 
 # A group with a branch in which a run of one atom has nothing about it but what may be absent: the run may be one
 # character, as the next turns take the rest of it.
-def RunsOfOne(pattern: string, group: dict<any>): dict<any>
+def RunsOfOne(pattern: string, group: any): dict<any>
   for branch in group.inside.parts
     final pieces = branch.parts[-1].parts
     for i in range(len(pieces))
@@ -182,14 +190,14 @@ def RunsOfOne(pattern: string, group: dict<any>): dict<any>
   return {}
 enddef
 
-def IsRun(pieces: list<dict<any>>, at: number): bool
+def IsRun(pieces: any, at: number): bool
   const multi = pieces[at].multi
   return (multi ==# '+' || multi ==# '*' && len(pieces) == 1) && index(['take', 'char', 'line'], pieces[at].kind) >= 0
 enddef
 
 # Whether each of the pieces is a character that may be absent: then each later end of a turn can be come to from each
 # earlier one, and so they are tried from the last to the first.
-def AreOptional(pieces: list<dict<any>>): bool
+def AreOptional(pieces: any): bool
   for piece in pieces
     if index(['take', 'char', 'line'], piece.kind) < 0 || piece.multi !~# '^[=?*]$'
       return false
@@ -199,7 +207,7 @@ def AreOptional(pieces: list<dict<any>>): bool
 enddef
 
 # Whether what stands about a run of a set may be absent, and neither that nor another branch can begin within the run.
-def IsApart(pattern: string, group: dict<any>, branch: dict<any>, others: list<dict<any>>, set: string): bool
+def IsApart(pattern: string, group: any, branch: any, others: any, set: string): bool
   for piece in others
     const [first, empty] = charset.FirstOf(pattern, [piece])
     if !empty || first ==# '' || piece.multi =~# '@\|-' || charset.Meet(first, set)
@@ -215,7 +223,7 @@ def IsApart(pattern: string, group: dict<any>, branch: dict<any>, others: list<d
 enddef
 
 # The group with one character in place of the run. One whose run may be empty may be empty itself.
-def OneOf(pattern: string, group: dict<any>, run: dict<any>, alone: bool): dict<any>
+def OneOf(pattern: string, group: any, run: any, alone: bool): dict<any>
   const front = strpart(pattern, group.from, run.multi_from - group.from)
   const back = strpart(pattern, run.to, group.multi_from - run.to)
   const multi = run.multi ==# '*' && alone ? '*' : strpart(pattern, group.multi_from, group.to - group.multi_from)
@@ -226,7 +234,7 @@ enddef
 # === What is left ===
 
 # The groups under a count of which a text may be cut into turns in many ways, and in which none within is one.
-def Ambiguous(pattern: string, node: dict<any>): list<string>
+def Ambiguous(pattern: string, node: any): list<string>
   var found = []
   for part in get(node, 'parts', [])
     found += Ambiguous(pattern, part)
@@ -234,7 +242,7 @@ def Ambiguous(pattern: string, node: dict<any>): list<string>
   if node.kind ==# 'group'
     found = Ambiguous(pattern, node.inside)
     const next = charset.FirstOfChoice(pattern, node.inside)[0]
-    if found == [] && IsUnbounded(node.multi) && HasCount(node.inside) && MeetsNext(pattern, node.inside, next)
+    if found == [] && tree.IsUnbounded(node.multi) && HasCount(node.inside) && MeetsNext(pattern, node.inside, next)
       found = [TextOf(pattern, node)]
     endif
   endif
@@ -243,7 +251,7 @@ enddef
 
 # Whether a count in a node may go on over a character with which what follows it begins as well: the rest of the turn, or
 # the next one, which begins with 'next'.
-def MeetsNext(pattern: string, node: dict<any>, next: string): bool
+def MeetsNext(pattern: string, node: any, next: string): bool
   final parts = node.parts
   for i in range(len(parts))
     if node.kind !=# 'row' && MeetsNext(pattern, parts[i], next)
@@ -258,12 +266,12 @@ def MeetsNext(pattern: string, node: dict<any>, next: string): bool
   return false
 enddef
 
-def PieceMeets(pattern: string, piece: dict<any>, next: string): bool
+def PieceMeets(pattern: string, piece: any, next: string): bool
   const first = charset.FirstOf(pattern, [piece])[0]
   if piece.multi[0] ==# '@'
     return false
-  elseif IsUnbounded(piece.multi) && charset.Meet(first, next)
+  elseif tree.IsUnbounded(piece.multi) && charset.Meet(first, next)
     return true
   endif
-  return piece.kind ==# 'group' && MeetsNext(pattern, piece.inside, next .. (IsUnbounded(piece.multi) ? first : ''))
+  return piece.kind ==# 'group' && MeetsNext(pattern, piece.inside, next .. (tree.IsUnbounded(piece.multi) ? first : ''))
 enddef

@@ -57,6 +57,38 @@ def IsValue(text: string, i: number, value_end: number): bool
     && strpart(text, end - 8, 8) !~# '\<\%(in\|is\|isnot\|return\|throw\)[?#]\=$'
 enddef
 
+# === Blanks and words ===
+
+# The place behind the blanks at a place.
+export def BlankEnd(text: string, begin: number): number
+  var i = begin
+  while strpart(text, i, 1) ==# ' ' || strpart(text, i, 1) ==# "\t"
+    i += 1
+  endwhile
+  return i
+enddef
+
+# The place of the first of some characters, from a place up to another one.
+def FirstOf(text: string, characters: list<string>, from: number, to: number): number
+  var first = to
+  for c in characters
+    const at = stridx(text, c, from)
+    if at >= 0 && at < first
+      first = at
+    endif
+  endfor
+  return first
+enddef
+
+# The subcommand of a syntax command, its first argument, and the place behind the blanks that follow this.
+export def Head(text: string): list<any>
+  const sub = BlankEnd(text, FirstOf(text, [' ', "\t"], 0, len(text)))
+  const sub_end = FirstOf(text, [' ', "\t", '|'], sub, len(text))
+  const group = BlankEnd(text, sub_end)
+  const group_end = FirstOf(text, [' ', "\t", '|'], group, len(text))
+  return [strpart(text, sub, sub_end - sub), strpart(text, group, group_end - group), BlankEnd(text, group_end)]
+enddef
+
 # === The pieces of a syntax command ===
 
 # A command is cut into pieces, of which each is a dictionary: its kind ('head' for command and group, 'pattern',
@@ -91,7 +123,7 @@ var known: dict<list<dict<any>>> = {}    # the pieces of commands that were cut 
 
 # The place where a syntax command ends. Its pieces are kept for when it is carried out.
 export def SyntaxEnd(text: string, vim9: bool): number
-  if text !~# '[|"#]'
+  if stridx(text, '|') < 0 && stridx(text, '"') < 0 && stridx(text, '#') < 0
     return len(text)
   endif
   var pieces = Pieces(text, vim9)
@@ -113,14 +145,15 @@ export def KnownPieces(text: string): list<dict<any>>
 enddef
 
 export def Pieces(text: string, vim9: bool): list<dict<any>>
-  const sub = matchstr(text, '^\a\+\s\+\zs\a\+')
-  const begin = matchend(text, '^\a\+\s*\a*\s*')
+  const [sub, _, group_end] = Head(text)
   if sub ==# 'match' || sub ==# 'region'
-    return ItemPieces(text, begin, sub, vim9)
-  elseif sub ==# 'sync'
+    return ItemPieces(text, group_end, sub, vim9)
+  endif
+  const begin = matchend(text, '^\a\+\s*\a*\s*')
+  if sub ==# 'sync'
     const item = matchstr(text, '^\%(match\|region\)\>', begin)
     if item !=# ''
-      return ItemPieces(text, matchend(text, '\a\+\s*', begin), item, vim9)
+      return ItemPieces(text, matchend(text, '\a\+\s*[^ \t|]*\s*', begin), item, vim9)
     endif
   endif
   return WordPieces(text, begin, sub, vim9)
@@ -149,17 +182,16 @@ def EndsHere(text: string, i: number, vim9: bool): bool
 enddef
 
 def WordEnd(text: string, i: number, bar_ends: bool): number
-  const end = match(text, bar_ends ? '[ \t|]' : '[ \t]', i)
-  return end < 0 ? len(text) : end
+  return FirstOf(text, bar_ends ? [' ', "\t", '|'] : [' ', "\t"], i, len(text))
 enddef
 
 export def ListEnd(text: string, i: number): number
   return matchend(text, '^\%([^ \t|,][^ \t,]*\)\=\%(\s*,\s*[^ \t|,][^ \t,]*\|,\)*', i)
 enddef
 
-# A match or region. What is no option of a match is its pattern.
+# A match or region, from its first option on. What is no option of a match is its pattern.
 def ItemPieces(text: string, from: number, sub: string, vim9: bool): list<dict<any>>
-  var i = matchend(text, '[^ \t|]*\s*', from)
+  var i = from
   var pieces = [Piece('head', 0, i)]
   var has_pattern = sub ==# 'region'
   while has_pattern ? !EndsHere(text, i, vim9) : i < len(text) && strpart(text, i, 1) !=# '|'
@@ -167,22 +199,24 @@ def ItemPieces(text: string, from: number, sub: string, vim9: bool): list<dict<a
       AddPattern(pieces, text, i)
       has_pattern = true
     endif
-    i = matchend(text, '\s*', pieces[-1].to)
+    i = BlankEnd(text, pieces[-1].to)
   endwhile
   return add(pieces, Piece('end', i, i))
 enddef
 
 # Adds the option that stands at i, if one does.
 def AddOption(pieces: list<dict<any>>, text: string, i: number, sub: string, has_pattern: bool): bool
-  const word = tolower(matchstr(text, '^\a\+', i))
-  const value = has_key(keys, word) ? matchend(text, '^\a\+\s*=\s*', i) : -1
-  const kind = value < 0 ? '' : keys[word]
+  const end = FirstOf(text, [' ', "\t", '=', '|'], i, len(text))
+  const word = tolower(strpart(text, i, end - i))
+  const equals = BlankEnd(text, end)
+  const kind = strpart(text, equals, 1) ==# '=' ? get(keys, word, '') : ''
+  const value = BlankEnd(text, equals + 1)
   if kind ==# 'key' && sub ==# 'region'
     add(pieces, Piece('key', i, value))
     AddPattern(pieces, text, value)
   elseif kind ==# 'list'
     add(pieces, Piece('list', i, ListEnd(text, value)))
-  elseif kind !=# '' || has_pattern || has_key(flags, word) && strpart(text, i + len(word), 1) =~# '^[[:blank:]|]\=$'
+  elseif kind !=# '' || has_pattern || has_key(flags, word) && strpart(text, end, 1) !=# '='
     add(pieces, Piece('word', i, WordEnd(text, kind ==# '' ? i : value, word !=# 'cchar')))
   elseif pieces[-1].kind ==# 'word' && strpart(text, pieces[-1].from) =~? '^group\%(here\|there\)'
     add(pieces, Piece('list', i, WordEnd(text, i, true)))
@@ -229,18 +263,6 @@ export def PatternEnd(text: string, opening: number): number
     i += 1
   endwhile
   return len(text)
-enddef
-
-# The place of the first of some characters, from a place up to another one.
-def FirstOf(text: string, characters: list<string>, from: number, to: number): number
-  var first = to
-  for c in characters
-    const at = stridx(text, c, from)
-    if at >= 0 && at < first
-      first = at
-    endif
-  endfor
-  return first
 enddef
 
 # The place of the bracket that closes the collection whose members begin at i, or the text's end.

@@ -5,11 +5,15 @@ vim9script
 export var frames: list<dict<any>> = []    # the innermost include stands last
 export var done: list<dict<any>> = []      # those that are whole
 var notes: list<list<any>> = []            # what is left out: [file, line, cause, text]
+var opened = 0
 
 # A flat file: 'tops' and 'contained' are the groups of its items without and with 'contained', 'late' the commands
-# that stand at its end, behind their group. 'asked' is the command that reads it, with file and line.
-export def Open(name: string, asked: list<any>)
-  add(frames, {name: name, asked: asked, entries: [], late: [], read: 0, tops: {}, contained: {}})
+# that stand at its end, behind their group. 'asked' is the command that reads it, with file and line, and 'cluster' that
+# which it names; 'has_all' says whether a list begins with ALL or ALLBUT.
+export def Open(name: string, asked: list<any>, cluster: string)
+  add(frames, {name: name, number: opened, asked: asked, cluster: cluster, has_all: false, entries: [], late: [], read: 0,
+    tops: {}, contained: {}})
+  opened += 1
 enddef
 
 # The innermost flat file is whole. One without entries is left out, but for the last one.

@@ -16,7 +16,11 @@ export def Part(kind: string, text: string, gap: string): dict<string>
 enddef
 
 export def TextOf(parts: list<dict<string>>): string
-  return join(mapnew(parts, (_, part) => part.text .. part.gap), '')
+  var text = ''
+  for part in parts
+    text ..= part.text .. part.gap
+  endfor
+  return text
 enddef
 
 # An item of a kind ('match', 'region') and a group. Causes are added to a list.

@@ -15,7 +15,7 @@ var not_at_end: dict<string> = {}    # of each pattern that was read for it, the
 # In Vim nothing begins at the end of a line that isn't empty. A pattern whose item may begin there asks for a character
 # or for the line's start. 'empty' says whether it counts where the item takes nothing.
 export def NotAtEnd(given: string, empty: bool): string
-  if empty ? given =~# plain_front && given !~# '\\|\|\\zs\|\\v' : given !~# '\\n\|\\_'
+  if empty ? given =~# plain_front && given !~# '\\|\|\\zs\|\\v' : stridx(given, '\n') < 0 && stridx(given, '\_') < 0
     return given
   endif
   const key = given .. (empty ? '+' : '-')
@@ -39,7 +39,7 @@ def Guarded(given: string, empty: bool): string
 enddef
 
 # Where the guard of a branch stands, or -1: behind its last '\zs', else at its front.
-def GuardPlace(branch: dict<any>, empty: bool): number
+def GuardPlace(branch: any, empty: bool): number
   var pieces = branch.parts[-1].parts
   var [begin, place] = [0, branch.flags]
   for i in range(len(pieces))
@@ -52,7 +52,7 @@ def GuardPlace(branch: dict<any>, empty: bool): number
 enddef
 
 # Whether a row may match nothing at a line's end (behind characters of the line), and whether it may take the end.
-def RowAtEnd(pieces: list<dict<any>>): list<bool>
+def RowAtEnd(pieces: any): list<bool>
   var [passes, takes] = [true, false]
   for piece in pieces
     if passes
@@ -64,7 +64,7 @@ def RowAtEnd(pieces: list<dict<any>>): list<bool>
   return [passes, takes]
 enddef
 
-def PieceAtEnd(piece: dict<any>): list<bool>
+def PieceAtEnd(piece: any): list<bool>
   const [passes, takes] = AtomAtEnd(piece)
   if piece.multi =~# '!$\|<=$'
     return [true, false]
@@ -74,7 +74,7 @@ def PieceAtEnd(piece: dict<any>): list<bool>
   return [passes || piece.multi =~# '^[*=?]\|^{-\=\%(0\|,\|}\)', takes]
 enddef
 
-def AtomAtEnd(piece: dict<any>): list<bool>
+def AtomAtEnd(piece: any): list<bool>
   if piece.kind ==# 'group'
     return ChoiceAtEnd(piece.inside)
   elseif piece.kind ==# 'list'
@@ -84,7 +84,7 @@ def AtomAtEnd(piece: dict<any>): list<bool>
   return [!takes && index(['take', 'char', 'start', 'word'], piece.kind) < 0, takes]
 enddef
 
-def ChoiceAtEnd(choice: dict<any>): list<bool>
+def ChoiceAtEnd(choice: any): list<bool>
   var [passes, takes] = [false, false]
   for branch in choice.parts
     const [passed, took] = RowAtEnd(branch.parts[-1].parts)
@@ -105,7 +105,7 @@ enddef
 # Where a start goes over a line's end, Vim seeks the region's end from the line on in which the start begins. So the
 # start takes one character, and looks at the rest.
 export def WithinLine(given: string): string
-  if given !~# '\\n\|\\_'
+  if stridx(given, '\n') < 0 && stridx(given, '\_') < 0
     return given
   endif
   var whole = tree.TreeOf(given)
@@ -117,7 +117,7 @@ export def WithinLine(given: string): string
 enddef
 
 # Whether what a node takes may go over a line's end.
-def Crosses(node: dict<any>): bool
+def Crosses(node: any): bool
   if node.kind ==# 'line' || node.kind ==# 'end'
     return true
   elseif get(node, 'multi', '') =~# '^@.*[=!]$'

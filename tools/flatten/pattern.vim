@@ -8,20 +8,39 @@ const odd = '%[\\CV#]\|%[<>]\=\%(\d\+[cv]\|\d\{10,}l\)\|[z_]\\\|@\d*[=!>\\]\|\\Z
 # (behind a line number at its start a pattern still begins for Vim, so a caret is a line start there)
 const caret_behind_line = '^\%(\\[cCmM]\)*\%(\\%[<>]\=\d\+l\)\+\zs\^'
 
+const letters = '\[:\%(upper\|lower\):\]'
+
 var respelled: dict<list<string>> = {}    # of each pattern that was asked for its answer
 
 # A pattern, and a cause where it doesn't mean all that it means for Vim, or is left out.
 export def Respell(pattern: string): list<string>
-  if !has_key(respelled, pattern)
-    respelled[pattern] = Respelled(pattern)
+  const unfolds = stridx(pattern, 'er:]') > 0 && pattern =~# letters && IgnoresCase(pattern)
+  const key = (unfolds ? 'i' : '') .. '/' .. pattern
+  if !has_key(respelled, key)
+    respelled[key] = Respelled(pattern, unfolds)
   endif
-  return respelled[pattern]
+  return respelled[key]
+enddef
+
+# Whether a pattern that is added now ignores case.
+def IgnoresCase(pattern: string): bool
+  return pattern =~# '\\c' || pattern !~# '\\C' && execute('syntax case') =~# 'ignore'
+enddef
+
+# Whether a pattern has none of the letters that may need another spelling.
+def IsPlain(pattern: string): bool
+  for letter in ['%', '@', '\Z', '[=', '[.', '\n', 'z\', '_\']
+    if stridx(pattern, letter) >= 0
+      return false
+    endif
+  endfor
+  return true
 enddef
 
 # A text that is painted has no cursor and no visual area, so '\%#' and '\%V' never match.
-def Respelled(given: string): list<string>
-  const pattern = substitute(given, caret_behind_line, '\\_^', '')
-  if pattern !~# odd
+def Respelled(given: string, unfolds: bool): list<string>
+  const pattern = stridx(given, '\%') < 0 ? given : substitute(given, caret_behind_line, '\\_^', '')
+  if !unfolds && (IsPlain(pattern) || pattern !~# odd)
     return [pattern, '']
   endif
   var [made, cause, level, i, before] = ['', '', 2, 0, '']
@@ -43,14 +62,42 @@ def Respelled(given: string): list<string>
       [item, cause] = ['', 'composing characters count: \Z']
     elseif kind ==# '[' && item =~# '\[=.=\]\|\[\..\.\]'
       cause = 'left out: ' .. matchstr(item, '\[=.=\]\|\[\..\.\]')
-    elseif kind ==# '[' && item =~# '\\n' && item =~# '^\\\=\[^' && before !=# '\_'
-      item = WithoutLineEnds(item)
-      cause = item ==# given_item || cause !=# '' ? cause : 'a line end in a negated collection: ' .. given_item
+    elseif kind ==# '[' && before !=# '\_'
+      var why = ''
+      [item, why] = Collection(item, unfolds, level)
+      cause = cause ==# '' ? why : cause
     endif
     made ..= item
     before = given_item
   endwhile
   return [made, cause]
+enddef
+
+# A collection, and a cause.
+def Collection(given: string, unfolds: bool, level: number): list<string>
+  var [item, cause] = [given, '']
+  if item =~# '\\n' && item =~# '^\\\=\[^'
+    item = WithoutLineEnds(item)
+    cause = item ==# given ? '' : 'a line end in a negated collection: ' .. given
+  endif
+  if unfolds && (item =~# '\[:upper:\]') != (item =~# '\[:lower:\]')
+    item = OneCase(item, level)
+    cause = 'letters of one case, where case is ignored: ' .. given
+  endif
+  return [item, cause]
+enddef
+
+# A collection in which '[:upper:]' or '[:lower:]' holds no letters of the other case, also where case is ignored.
+def OneCase(item: string, level: number): string
+  const class = matchstr(item, letters)
+  const others = class ==# '[:upper:]' ? '\l' : '\u'
+  final m = matchlist(item, '^\(\\\=\[\)\(\^\=\)\(.*\)\]$')
+  const rest = substitute(substitute(m[3], letters, '', 'g'), '^^', '\\^', '')
+  const rest_alone = rest ==# '' ? (m[2] ==# '' ? '' : '.') : m[1] .. m[2] .. rest .. ']'
+  const with_class = m[1] .. m[2] .. class .. (m[2] ==# '' ? '' : rest) .. ']'
+  const choices = m[2] ==# '' ? [Spelled(others .. '@!', level) .. with_class] + (rest ==# '' ? [] : [rest_alone])
+    : [with_class, Spelled(others .. '@=', level) .. rest_alone]
+  return Spelled('%(', level) .. join(choices, Spelled('|', level)) .. Spelled(')', level)
 enddef
 
 # A negated collection without '\n', which Vim doesn't take for a member there. Without members it is any character.
@@ -60,9 +107,16 @@ def WithoutLineEnds(item: string): string
   return members ==# '' ? front .. '.' : front .. '[^' .. members .. ']'
 enddef
 
+# The character at a place, with the backslash before it.
+def Character(pattern: string, i: number): string
+  const first = strpart(pattern, i, 1)
+  const last = first ==# '\' ? strpart(pattern, i, 2) : first
+  return last[-1] <# "\x7f" ? last : matchstr(pattern, '^\\\=.', i)
+enddef
+
 # The item of a pattern at place i, and what it is: only those that may need another spelling have a kind.
 export def Item(pattern: string, i: number, level: number): list<string>
-  const item = matchstr(pattern, '^\\\=.', i)
+  const item = Character(pattern, i)
   const c = item[-1]
   const bare = item[0] !=# '\' || item ==# '\'
   if !bare && c =~# '[vmMV]'

@@ -19,11 +19,22 @@ vim9script
 import './cut.vim'
 
 var [text, at, level] = ['', 0, 2]    # the pattern that is read, how far, and the level of magic there
+var [counts, nested] = [0, false]     # the counts without a limit so far, and whether one stands in a part with another
 
 # The tree of a pattern that Vim takes.
 export def TreeOf(pattern: string): dict<any>
   [text, at, level] = [pattern, 0, 2]
+  [counts, nested] = [0, false]
   return Choice()
+enddef
+
+# Whether a count without a limit stands within another one in the pattern that was read last.
+export def HasNested(): bool
+  return nested
+enddef
+
+export def IsUnbounded(multi: string): bool
+  return multi =~# '^[*+]\|^{-\=\d*,}\|^{-\=}'
 enddef
 
 # The level of magic at the end of the pattern that was read last.
@@ -63,9 +74,11 @@ enddef
 
 # Levels and the case, which take no room.
 def SkipFlags()
-  while Peek() =~# '^[cCvmMVZ]$'
-    level = Peek() =~# '[vmMV]' ? stridx('VMmv', Peek()) : level
+  var c = Peek()
+  while c !=# '' && stridx('cCvmMVZ', c) >= 0
+    level = stridx('VMmv', c) >= 0 ? stridx('VMmv', c) : level
     at += 2
+    c = Peek()
   endwhile
 enddef
 
@@ -96,19 +109,26 @@ enddef
 def Row(): dict<any>
   var node = Node('row', at)
   node.parts = []
-  while Peek() !~# '^[|&)]\=$'
+  var c = Peek()
+  while c !=# '' && stridx('|&)', c) < 0
     add(node.parts, Piece(node.parts == []))
     SkipFlags()
+    c = Peek()
   endwhile
   node.to = at
   return node
 enddef
 
 def Piece(first: bool): dict<any>
+  const counts_before = counts
   var node = Atom(first)
   SkipFlags()
   node.multi_from = at
   node.multi = node.kind ==# 'start' && Peek() ==# '*' ? '' : Multi()
+  if node.multi !=# '' && IsUnbounded(node.multi)
+    nested = nested || counts > counts_before
+    counts += 1
+  endif
   node.to = at
   return node
 enddef
@@ -116,12 +136,16 @@ enddef
 def Multi(): string
   const c = Peek()
   const from = at
-  if c =~# '^[*+=?]$'
+  if c ==# ''
+    return ''
+  elseif stridx('*+=?', c) >= 0
     at += Length()
   elseif c ==# '{'
     at = matchend(text, '}', at)
   elseif c ==# '@'
     at = matchend(text, '^\\\=@\d*\%([=!>]\|<[=!]\)', at)
+  else
+    return ''
   endif
   return substitute(strpart(text, from, at - from), '\\', '', 'g')
 enddef
