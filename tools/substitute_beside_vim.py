@@ -165,14 +165,16 @@ def is_same(case: Case, one: str, other: str) -> bool:
 
 def known(case: Case) -> str:
     """Why the two may differ (docs/DECISIONS.md, "Substitutions"), or nothing."""
-    parts = re.split(r"(?<!\\)/", case.command)
+    parts = [*re.findall(r"((?:\\.|[^\\/])*)(?:/|$)", case.command), ""]
     string, flags = (parts[2], parts[3]) if re.match(r"[0-9,$%]*s/", case.command) else ("", "")
-    if re.search(r"\\[ul](\\[UL]|\\[ul])*(\\[Ee]|\\r)", string):
+    if re.search(r"\\[ul](\\[ULul0-9]|&)*(\\[Ee]|\\r)", string):
         return "a change of the next letter before \\E or a break"
     if re.search(r"\\n|\\_", parts[1]):
         return "a line's end in the pattern"
     if "g" in flags:
         return "an empty match at a line's end"
+    if re.search(r"\\ze.*\\\|", parts[1]):
+        return "a branch that ends at \\ze before another"
     return ""
 
 
