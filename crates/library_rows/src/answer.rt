@@ -52,3 +52,11 @@ pub(crate) fn print_bytes(answer: &mut String, bytes: &[u8]) -> Result<(), Fault
     write!(answer, "{escaped}")?;
     Ok(())
 }
+
+/// Writes characters as they are.
+pub(crate) fn write_characters(answer: &mut String, characters: &[char]) -> Result<(), Fault> {
+    for c in characters {
+        answer.push(*c)?;
+    }
+    Ok(())
+}

@@ -92,3 +92,9 @@ pub(crate) fn character_of(text: &str) -> Result<char, Fault> {
 pub(crate) fn two_of(text: &str) -> Result<(&str, &str), Fault> {
     text.split_once(' ').ok_or(Fault::BadCase)
 }
+
+/// Two numbers with a dash between them, as `1-4`.
+pub(crate) fn range_of(text: &str) -> Result<(usize, usize), Fault> {
+    let (a, b) = text.split_once('-').ok_or(Fault::BadCase)?;
+    Ok((number_of(a)?, number_of(b)?))
+}

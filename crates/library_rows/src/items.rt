@@ -12,12 +12,20 @@
 //!     free 0 0        an item of a group, which contains what the cluster of this number has
 //!     contained 1 0   so a contained item
 //!     dead 1 0        so an item that isn't live
+//!     hidden 1 0      so an item with `conceal`
 //!     start 1 a\|b    a region of a group with this start pattern
+//!     leads 1 2-4     an item of a group, whose `nextgroup` names these groups
+//!     ends 1 2        a region of a group with `concealends`, whose start and end show this matchgroup
 //!     copy 0          a copy of an item, live if that is
 //!     tree 0          what is told of the tree of the first start pattern of an item
 //!     group 1         the group of an item
 //!     allowed 1 0     whether an item may start in another one
 //!     next 1 1        whether an item is one of the group
+//!     follows 1 0     whether the `nextgroup` of another item has an item
+//!     mark 0          the marks of the syntax, each with its item and the group that it stands for; the items
+//!                     and clusters are the marked ones from now on
+//!     nexts 1         what the `nextgroup` of an item names
+//!     shown 1         the matchgroups of a region
 //!     clear 1         the items of a group end
 //!     live 1          whether an item is live
 //!     settle 0        the clusters are settled
@@ -27,11 +35,12 @@ ghost use Rattle.std.specs.Prelude.{◌<◌, IfOk, length};
 
 use crate::answer::{add_found, add_number, add_whether, add_word, begin_answer};
 use crate::fault::{Fault, short_number_of, two_of};
-use crate::patterns::{tree_of, write_tree};
+use crate::new_items::{hidden, item, leading, list_of, region, with_ends};
+use crate::patterns::write_tree;
+use conceal_view::{Mark, mark};
 use std::alloc::Global;
-use syn_base::{GroupId, ItemId, List, Memory, PatternId};
-use syntax_set::{Change, Clusters, Entry, GroupList, Item, ItemKind, ItemSet, Pattern, Special};
-use vim_pattern::Tree;
+use syn_base::{GroupId, ItemId};
+use syntax_set::{Change, Clusters, Entry, GroupList, Item, ItemKind, ItemSet, Pattern};
 
 /// Clusters and items.
 #[derive(Drop)]
@@ -52,7 +61,8 @@ impl Sets {
             "settle" => Ok(self.clusters.settle()?),
             "cluster" => add_number(answers, self.clusters.number(rest)? as usize),
             "next" => self.is_next(alloc, rest, answers),
-            "free" | "contained" | "dead" | "start" | "copy" => {
+            "mark" => self.mark(alloc, answers),
+            "free" | "contained" | "dead" | "start" | "copy" | "leads" | "hidden" | "ends" => {
                 let id = self.add(alloc, name, rest)?;
                 add_number(answers, id.0 as usize)
             }
@@ -91,6 +101,9 @@ impl Sets {
             "contained" => self.items.add_item(item(alloc, rest, true)?)?,
             "dead" => self.items.add_dead(item(alloc, rest, false)?)?,
             "start" => self.items.add_item(region(alloc, rest)?)?,
+            "leads" => self.items.add_item(leading(alloc, rest)?)?,
+            "hidden" => self.items.add_item(hidden(alloc, rest)?)?,
+            "ends" => self.items.add_item(with_ends(alloc, rest)?)?,
             _ => self.add_copy(alloc, self.item_of(rest)?)?,
         };
         Ok(id)
@@ -107,6 +120,15 @@ impl Sets {
         }
     }
 
+    /// Marks the items and clusters.
+    fn mark(&mut self, alloc: Global, answers: &mut String) -> Result<(), Fault> {
+        let marked = mark(alloc, &self.items, &self.clusters)?;
+        add_marks(answers, marked.marks.as_slice())?;
+        self.items = marked.items;
+        self.clusters = marked.clusters;
+        Ok(())
+    }
+
     /// Makes a call that changes nothing.
     fn ask(&self, name: &str, rest: &str, answers: &mut String) -> Result<(), Fault> {
         match name {
@@ -118,8 +140,11 @@ impl Sets {
                 self.items.item(self.item_of(rest)?).group.0 as usize,
             ),
             "allowed" => self.is_allowed(rest, answers),
+            "follows" => self.is_behind(rest, answers),
             "live" => add_whether(answers, self.items.live(self.item_of(rest)?)),
             "tree" => add_tree(answers, &self.items.item(self.item_of(rest)?).kind),
+            "nexts" => add_nexts(answers, self.items.item(self.item_of(rest)?)),
+            "shown" => add_shown(answers, &self.items.item(self.item_of(rest)?).kind),
             "count" => self.count(answers),
             _ => Err(Fault::BadCase),
         }
@@ -151,6 +176,13 @@ impl Sets {
         add_whether(answers, holds)
     }
 
+    fn is_behind(&self, rest: &str, answers: &mut String) -> Result<(), Fault> {
+        let (id, other) = two_of(rest)?;
+        let id = self.item_of(id)?;
+        let other = self.item_of(other)?;
+        add_whether(answers, self.items.follows(&self.clusters, id, other))
+    }
+
     fn is_next(&self, alloc: Global, rest: &str, answers: &mut String) -> Result<(), Fault> {
         let (id, group) = two_of(rest)?;
         let id = self.item_of(id)?;
@@ -167,16 +199,6 @@ impl Sets {
         write!(answers, "{clusters},{added},{live}")?;
         Ok(())
     }
-}
-
-/// A plain list of one entry.
-fn list_of(alloc: Global, entry: Entry) -> Result<GroupList, Memory> {
-    let mut entries = List::new(alloc);
-    entries.push(entry)?;
-    Ok(GroupList {
-        special: Special::Plain,
-        entries,
-    })
 }
 
 /// A group by its number, or a cluster by its number behind `@`.
@@ -216,48 +238,41 @@ fn add_tree(answers: &mut String, kind: &ItemKind) -> Result<(), Fault> {
     }
 }
 
-/// A keyword item of a group, which contains what a cluster has.
-fn item(alloc: Global, rest: &str, contained: bool) -> Result<Item, Fault> {
-    let (group, cluster) = two_of(rest)?;
-    let (group, cluster) = (short_number_of(group)?, short_number_of(cluster)?);
-    let contains = list_of(alloc, Entry::Cluster(cluster))?;
-    let mut item = Item::plain(GroupId(group));
-    item.contained = contained;
-    item.contains = Some(contains);
-    Ok(item)
-}
-
-/// A region of a group with one start pattern, and no end.
-fn region(alloc: Global, rest: &str) -> Result<Item, Fault> {
-    let (group, pattern) = two_of(rest)?;
-    let group = short_number_of(group)?;
-    let tree = tree_of(alloc, pattern)?;
-    let mut starts = List::new(alloc);
-    starts.push(pattern_of(tree))?;
-    let mut item = Item::plain(GroupId(group));
-    item.kind = ItemKind::Region {
-        starts,
-        skip: None,
-        ends: List::new(alloc),
-    };
-    Ok(item)
-}
-
-/// A pattern of which nothing is said but its tree.
-fn pattern_of(tree: Tree) -> Pattern {
-    Pattern {
-        id: PatternId(0),
-        tree,
-        ms: None,
-        me: None,
-        hs: None,
-        he: None,
-        rs: None,
-        re: None,
-        lc: 0,
-        matchgroup: None,
-        excludenl: false,
+/// Adds what the `nextgroup` of an item names.
+fn add_nexts(answers: &mut String, item: &Item) -> Result<(), Fault> {
+    match &item.nextgroup {
+        Some(list) => add_list(answers, list),
+        None => Err(Fault::BadCase),
     }
+}
+
+/// Adds the matchgroups of a region's starts, and those of its ends.
+fn add_shown(answers: &mut String, kind: &ItemKind) -> Result<(), Fault> {
+    let ItemKind::Region { starts, ends, .. } = kind else {
+        return Err(Fault::BadCase);
+    };
+    add_matchgroups(answers, starts.as_slice())?;
+    add_matchgroups(answers, ends.as_slice())
+}
+
+fn add_matchgroups(answers: &mut String, patterns: &[Pattern]) -> Result<(), Fault> {
+    for pattern in patterns {
+        add_found(answers, pattern.matchgroup.map(|group| group.0 as usize))?;
+    }
+    Ok(())
+}
+
+/// Adds marks, each as `MARK=ITEM,GROUP`, or a dash for none.
+fn add_marks(answers: &mut String, marks: &[Mark]) -> Result<(), Fault> {
+    if marks.is_empty() {
+        return add_word(answers, "");
+    }
+    for mark in marks {
+        let (number, item, shown) = (mark.number.0, mark.item.0, mark.shown.0);
+        begin_answer(answers)?;
+        write!(answers, "{number}={item},{shown}")?;
+    }
+    Ok(())
 }
 
 pub(crate) fn carry_out_all(

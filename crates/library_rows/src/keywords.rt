@@ -7,7 +7,7 @@
 
 ghost use Rattle.std.specs.Prelude.{◌≤◌};
 
-use crate::answer::{add_found, begin_answer};
+use crate::answer::{add_found, begin_answer, write_characters};
 use crate::fault::{Fault, number_of};
 use char_class::Sets;
 use keyword_table::{ExpandError, Keywords, expand, word_end};
@@ -100,18 +100,11 @@ fn write_words(
         Ok(words) => {
             for word in words.as_slice() {
                 begin_answer(answer)?;
-                write_word(answer, word.as_slice())?;
+                write_characters(answer, word.as_slice())?;
             }
         }
         Err(ExpandError::BadBrackets) => answer.push_str("bad brackets")?,
         Err(ExpandError::Memory) => return Err(Fault::Memory),
-    }
-    Ok(())
-}
-
-fn write_word(answer: &mut String, word: &[char]) -> Result<(), Fault> {
-    for c in word {
-        answer.push(*c)?;
     }
     Ok(())
 }

@@ -13,15 +13,21 @@
 
 mod answer;
 mod characters;
+mod chunks;
 mod fault;
 mod items;
 mod keywords;
 mod links;
+mod new_items;
 mod outside;
 mod patterns;
 mod printed;
+mod scripts;
 mod streams;
+mod substitutions;
 mod texts;
+mod views;
+mod words;
 
 use fault::Fault;
 use row_tally::{Answering, check_lines};
@@ -108,6 +114,13 @@ fn answer_inside(
         "places" => streams::places(arguments, answer),
         "text" => texts::changed(alloc, arguments, answer),
         "bytes" => texts::bytes(alloc, arguments, answer),
+        "chunks" => chunks::starred(alloc, arguments, answer),
+        "script" => scripts::entries(alloc, arguments, answer),
+        "ex" => substitutions::made(alloc, arguments, answer),
+        "view" => views::view(alloc, arguments, answer),
+        "commands" => words::commands_of(alloc, arguments, answer),
+        "cpo" => words::names_cpo(alloc, arguments, answer),
+        "in_folder" => words::name_in_folder(alloc, arguments, answer),
         _ => Err(Fault::BadCase),
     }
 }

@@ -11,7 +11,7 @@ ghost use Rattle.std.specs.Prelude.{◌<◌, [], ◌∷◌, length, All, IsTrue}
 ghost use Rattle.syn_base.specs.SpansFit.{IsFromColumn};
 
 use crate::answer::print_bytes;
-use crate::fault::{Fault, number_of, two_of};
+use crate::fault::{Fault, number_of, range_of, two_of};
 use crate::links::Shown;
 use html_writer::{PageOptions, page};
 use span_print::{head_text, refusal_text, span_text};
@@ -49,12 +49,10 @@ fn link_or_add(shown: &mut Shown, spans: &mut Vec<Span>, argument: &str) -> Resu
 /// The span of columns, from 0, and the name of a group, as `1-11 A`.
 fn span_of(shown: &mut Shown, text: &str) -> Result<Span, Fault> {
     let (columns, name) = two_of(text)?;
-    let Some((first, last)) = columns.split_once('-') else {
-        return Err(Fault::BadCase);
-    };
+    let (first, last) = range_of(columns)?;
     Ok(Span {
-        first: number_of(first)?,
-        last: number_of(last)?,
+        first,
+        last,
         group: shown.groups.number(name)?,
     })
 }
@@ -108,9 +106,9 @@ pub(crate) fn refusal(alloc: Global, arguments: &[&str], answer: &mut String) ->
 
 /// A text of one line, painted.
 #[derive(Clone, Copy)]
-struct OneLine<'a> {
-    characters: &'a [char],
-    spans: &'a [Span],
+pub(crate) struct OneLine<'a> {
+    pub(crate) characters: &'a [char],
+    pub(crate) spans: &'a [Span],
 }
 
 impl Lines for OneLine<'_> {

@@ -3,16 +3,19 @@
 //!     text 1537 511-512+3 ..  a text of so many lines, of which line 511 becomes three lines and so on,
 //!                             against a plain list with the same changes: how many lines both have, or
 //!                             the first line where they differ
-//!     bytes a/b               the bytes of a text of these lines, and of its copy
+//!     bytes a/b               the bytes of a text of these lines, and of its copy with room for more lines
 
 ghost use Rattle.std.specs.Prelude.{◌≡◌, ◌<◌, ◌≤◌, length, IfOk};
 ghost use Rattle.text_buffer.specs.TextSeen.{replaced};
 
-use crate::answer::add_bytes;
+use crate::answer::{add_bytes, write_characters};
 use crate::fault::{Fault, number_of};
 use std::alloc::Global;
 use syn_base::{Lines, List};
 use text_buffer::{Line, MOST_LINES, Text};
+
+/// For how many lines room is made in a copy.
+const MORE_LINES: usize = 1000;
 
 /// A change: lines `a` to `b - 1` become `count` lines.
 #[derive(Clone, Copy)]
@@ -126,17 +129,10 @@ fn write_difference(answer: &mut String, text: &Text, lines: &[Line]) -> Result<
 fn text_of_lines(alloc: Global, lines: &Vec<Line>) -> Result<Text, Fault> {
     let mut bytes = String::new(alloc);
     for line in lines {
-        write_line(&mut bytes, line.as_slice())?;
+        write_characters(&mut bytes, line.as_slice())?;
+        bytes.push('\n')?;
     }
     Ok(Text::from_bytes(alloc, bytes.as_bytes())?)
-}
-
-fn write_line(bytes: &mut String, line: &[char]) -> Result<(), Fault> {
-    for c in line {
-        bytes.push(*c)?;
-    }
-    bytes.push('\n')?;
-    Ok(())
 }
 
 pub(crate) fn bytes(alloc: Global, arguments: &[&str], answers: &mut String) -> Result<(), Fault> {
@@ -145,12 +141,13 @@ pub(crate) fn bytes(alloc: Global, arguments: &[&str], answers: &mut String) -> 
     };
     let text = text_of(alloc, lines)?;
     add_text(alloc, &text, answers)?;
-    let copy = text.copy(alloc)?;
+    let mut copy = text.copy(alloc)?;
+    copy.reserve_lines(MORE_LINES)?;
     add_text(alloc, &copy, answers)
 }
 
 /// The text of lines with a slash between any two.
-fn text_of(alloc: Global, lines: &str) -> Result<Text, Fault> {
+pub(crate) fn text_of(alloc: Global, lines: &str) -> Result<Text, Fault> {
     let mut bytes = String::new(alloc);
     for c in lines.chars() {
         bytes.push(if c == '/' { '\n' } else { c })?;
