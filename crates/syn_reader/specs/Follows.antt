@@ -1,6 +1,6 @@
 -- What reading answers, beside the syntax of files: which counts of the files rose, and that the answer is that of the rules
 -- where the files are told.
-use Rattle.std.specs.Prelude.{◌≡◌, ◌≤◌, ℕ, suc, Bool, true, false, List, Option, None, Some, IfSome, Result, Ok, Err}
+use Rattle.std.specs.Prelude.{◌≡◌, ◌≤◌, ℕ, suc, Bool, true, false, List, Option, None, Some, IfSome, OnOk, Result, Ok, Err}
 use Rattle.syn_base.specs.Causes.{Counted, FileCounts}
 use Rattle.syn_base.specs.Outside.{FileMap}
 use Rattle.syn_words.specs.declared.cause.Cause.TheVariants as cause
@@ -13,6 +13,7 @@ use Rattle.syn_reader.specs.declared.syntax.ReadOptions.{ReadOptions}
 use Rattle.syn_reader.specs.declared.syntax.Syntax.{Syntax}
 use Rattle.syn_reader.specs.declared.syntax.ReadError.{ReadError}
 use Rattle.syn_reader.specs.declared.syntax.ReadError.TheVariants as error
+use Rattle.syn_reader.specs.SoundReading.{IsSoundReading}
 use Rattle.syn_reader.specs.SyntaxOf.{Answer, Fetching, Opening, asked_within, told_by, failing_at, syntax_by, syntax_of}
 
 -- which error is the cause of which count
@@ -67,13 +68,19 @@ IsOrMemory (error.Missing file line name) expected = error.Missing file line nam
 IsOrMemory (error.FileFault file line name) expected = error.FileFault file line name ≡ expected
 
 -- how often a file couldn't be read, was missing or was too long
-abbrev pub counts : ℕ → ℕ → ℕ → FileCounts
-counts faults misses longs = record { faults = faults; misses = misses; longs = longs }
+abbrev pub file_counts : ℕ → ℕ → ℕ → FileCounts
+file_counts faults misses longs = record { faults = faults; misses = misses; longs = longs }
 
--- each count of the files rose so, by what tells them before and after a call
-abbrev pub CountsOf : {F A : Type 0} → (F → ℕ) → (F → ℕ) → (F → ℕ) → F → F → Result A ReadError → Type 0
-CountsOf faults misses longs before now result =
-    Counts result (counts (faults before) (misses before) (longs before)) (counts (faults now) (misses now) (longs now))
+-- A run that makes fetches from this number on went by its files, by what tells of them before and after: they tell what they
+-- told, each count rose where its cause is answered, the answer is that of the rules, and what was read is sound.
+pub record GoesBy
+    {F : Type 0} (told : F → Option FileMap) (faults misses longs : F → ℕ) (before after : F) (first : ℕ)
+    (rules : Fetching → Answer) (left : Progress) (result : Result (Unit {0}) ReadError) : Type 0 where
+  pub kept : told after ≡ told before
+  pub counts :
+      Counts result (file_counts (faults before) (misses before) (longs before)) (file_counts (faults after) (misses after) (longs after))
+  pub answer : Reads (told before) first rules left result
+  pub sound : OnOk result (IsSoundReading left.reading)
 
 -- how a file is read that a command asks for
 abbrev pub opening : How → Fetching → Opening

@@ -4,15 +4,14 @@ ghost use Rattle.std.specs.String.{string_bytes};
 ghost use Rattle.syn_words.specs.declared.cause.Cause.TheVariants as cause;
 ghost use Rattle.syn_reader.specs.declared.syntax.ReadError.TheVariants as error;
 ghost use Rattle.syn_reader.specs.Follows.{
-  CountsOf,
   Does,
+  GoesBy,
   HasOtherCause,
   HasOtherCauses,
   IsFaultOf,
   IsInLine,
   IsOrMemory,
   opening,
-  Reads,
 };
 ghost use Rattle.syn_reader.specs.Includes.{cluster_named, counted, include_begun};
 ghost use Rattle.syn_reader.specs.SoundReading.{IsSoundReading};
@@ -193,12 +192,9 @@ pub(crate) fn ask<F: Files>(
     progress: &mut Progress,
 ) -> Result<(), ReadError>
     requires sound { IsSoundReading progress.old.reading }
-    ensures kept { F.told files.new ≡ F.told files.old }
-    ensures counts { CountsOf F.faults F.misses F.longs files.old files.new result }
-    ensures answer { Reads (F.told files.old) progress.old.includes
+    ensures { GoesBy F.told F.faults F.misses F.longs files.old files.new progress.old.includes
         (λ fetch. opening how.entry fetch asker.entry.file.now asker.entry.line
         name.now progress.old) progress.new result }
-    ensures sound { OnOk result (IsSoundReading progress.new.reading) }
 {
     if how.room == 0 {
         return Err(refused(how.alloc, asker, Cause::TooDeepIncludes));
@@ -221,12 +217,9 @@ fn read_file<F: Files>(
     progress: &mut Progress,
 ) -> Result<(), ReadError>
     requires sound { IsSoundReading progress.old.reading }
-    ensures kept { F.told files.new ≡ F.told files.old }
-    ensures counts { CountsOf F.faults F.misses F.longs files.old files.new result }
-    ensures answer { Reads (F.told files.old) progress.old.includes
+    ensures { GoesBy F.told F.faults F.misses F.longs files.old files.new progress.old.includes
         (λ fetch. spec.fetched_by (opening how.entry fetch) fetch how.entry.options.now
         asker.entry.file.now asker.entry.line name.now progress.old) progress.new result }
-    ensures sound { OnOk result (IsSoundReading progress.new.reading) }
 {
     let asked = asked_for(how.alloc, asker, name)?;
     match files.fetch(how.alloc, name, MOST_SYNTAX_BYTES) {
@@ -252,12 +245,9 @@ fn carry_out_all<F: Files>(
     found: Commands,
 ) -> Result<(), ReadError>
     requires sound { IsSoundReading progress.old.reading }
-    ensures kept { F.told files.new ≡ F.told files.old }
-    ensures counts { CountsOf F.faults F.misses F.longs files.old files.new result }
-    ensures answer { Reads (F.told files.old) (suc progress.old.includes)
+    ensures { GoesBy F.told F.faults F.misses F.longs files.old files.new (suc progress.old.includes)
         (λ fetch. spec.with_commands (opening how.entry fetch) how.entry.options.now
         file.now progress.old found) progress.new result }
-    ensures sound { OnOk result (IsSoundReading progress.new.reading) }
 {
     let Commands { list, fault } = found;
     for command in list.into_vec() {
@@ -276,12 +266,9 @@ fn carry_out<F: Files>(
     command: Command,
 ) -> Result<(), ReadError>
     requires sound { IsSoundReading progress.old.reading }
-    ensures kept { F.told files.new ≡ F.told files.old }
-    ensures counts { CountsOf F.faults F.misses F.longs files.old files.new result }
-    ensures answer { Reads (F.told files.old) (suc progress.old.includes)
+    ensures { GoesBy F.told F.faults F.misses F.longs files.old files.new (suc progress.old.includes)
         (λ fetch. spec.with_command (opening how.entry fetch) how.entry.options.now
         file.now progress.old command) progress.new result }
-    ensures sound { OnOk result (IsSoundReading progress.new.reading) }
 {
     let Command { line, what } = command;
     let asker = Asker { file, line };
@@ -312,12 +299,9 @@ fn runtime<F: Files>(
     name: &str,
 ) -> Result<(), ReadError>
     requires sound { IsSoundReading progress.old.reading }
-    ensures kept { F.told files.new ≡ F.told files.old }
-    ensures counts { CountsOf F.faults F.misses F.longs files.old files.new result }
-    ensures answer { Reads (F.told files.old) (suc progress.old.includes)
+    ensures { GoesBy F.told F.faults F.misses F.longs files.old files.new (suc progress.old.includes)
         (λ fetch. spec.runtime_command (opening how.entry fetch)
         asker.entry.file.now asker.entry.line progress.old name.now) progress.new result }
-    ensures sound { OnOk result (IsSoundReading progress.new.reading) }
 {
     count_include(how.alloc, asker, progress)?;
     ask(how, files, asker, name, progress)
@@ -333,13 +317,10 @@ fn include<F: Files>(
     wanted: Wanted<'_>,
 ) -> Result<(), ReadError>
     requires sound { IsSoundReading progress.old.reading }
-    ensures kept { F.told files.new ≡ F.told files.old }
-    ensures counts { CountsOf F.faults F.misses F.longs files.old files.new result }
-    ensures answer { Reads (F.told files.old) (suc progress.old.includes)
+    ensures { GoesBy F.told F.faults F.misses F.longs files.old files.new (suc progress.old.includes)
         (λ fetch. spec.include_command (opening how.entry fetch)
         asker.entry.file.now asker.entry.line progress.old wanted.entry.cluster.now
         wanted.entry.name.now) progress.new result }
-    ensures sound { OnOk result (IsSoundReading progress.new.reading) }
 {
     let around = progress.reading.include;
     name_cluster(how.alloc, asker, progress, wanted.cluster)?;

@@ -1,7 +1,7 @@
 //! The syntax of a file and of the files that it asks for.
 ghost use Rattle.std.specs.Prelude.{◌≡◌, [], IfOk, IfSome, OnOk, chars};
 ghost use Rattle.hi_links.specs.UsualGroups.{groups_and_links};
-ghost use Rattle.syn_reader.specs.Follows.{counts, Counts, CountsOf, IsSyntaxOf, Reads};
+ghost use Rattle.syn_reader.specs.Follows.{Counts, GoesBy, IsSyntaxOf, file_counts};
 ghost use Rattle.syn_reader.specs.SoundReading.{IsSoundReading};
 ghost use Rattle.syn_reader.specs.SyntaxOf as spec;
 
@@ -76,12 +76,9 @@ fn read_first<F: Files>(
     progress: &mut Progress,
 ) -> Result<(), ReadError>
     requires sound { IsSoundReading progress.old.reading }
-    ensures kept { F.told files.new ≡ F.told files.old }
-    ensures counts { CountsOf F.faults F.misses F.longs files.old files.new result }
-    ensures answer { Reads (F.told files.old) progress.old.includes
+    ensures { GoesBy F.told F.faults F.misses F.longs files.old files.new progress.old.includes
         (λ fetch. spec.asked_within 21 fetch options.now (chars name.now) 0 name.now
         progress.old) progress.new result }
-    ensures sound { OnOk result (IsSoundReading progress.new.reading) }
 {
     let own = List::from_chars(alloc, name)?;
     let asker = Asker {
@@ -105,8 +102,8 @@ pub fn read_syntax<F: Files>(
 ) -> Result<Syntax, ReadError>
     ensures kept { F.told files.new ≡ F.told files.old }
     ensures counts { Counts result
-        (counts (F.faults files.old) (F.misses files.old) (F.longs files.old))
-        (counts (F.faults files.new) (F.misses files.new) (F.longs files.new)) }
+        (file_counts (F.faults files.old) (F.misses files.old) (F.longs files.old))
+        (file_counts (F.faults files.new) (F.misses files.new) (F.longs files.new)) }
     ensures answer { IfSome (F.told files.old) (λ map. IsSyntaxOf map name.now options.now result) }
 {
     let mut progress = Progress {

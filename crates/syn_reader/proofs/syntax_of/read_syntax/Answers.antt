@@ -2,7 +2,7 @@ use Rattle.std.proofs.Common.{refl, sym, subst, Err}
 use Rattle.std.specs.Prelude.{IfSome, chars}
 use Rattle.std.proofs.lemmas.Result.{err_from_is_err_and}
 use Rattle.syn_reader.specs.declared.syntax.ReadError.{ReadError}
-use Rattle.syn_reader.specs.Follows.{counts, IsSyntaxOf}
+use Rattle.syn_reader.specs.Follows.{file_counts, IsSyntaxOf}
 use Rattle.syn_reader.specs.SoundReading.{IsSoundReading}
 use Rattle.syn_reader.proofs.SyntaxRuns.{error_counts, run_fails, run_goes_well}
 use Rattle.syn_reader.proofs.SoundRuns.{nothing_sound}
@@ -16,8 +16,8 @@ returns-in_err-read_first-clause-counts g c =
     let p = err_from_is_err_and c.from_residual-in_err-read_first.result c.from_residual-in_err-read_first.ensures.1 in
     rw (p.1, p.2)
     (error_counts c.in_err-read_first.field-0.0
-    (counts (g.F.Files.faults c.args.files.now) (g.F.Files.misses c.args.files.now) (g.F.Files.longs c.args.files.now))
-    (counts (g.F.Files.faults c.read_first.new.files) (g.F.Files.misses c.read_first.new.files)
+    (file_counts (g.F.Files.faults c.args.files.now) (g.F.Files.misses c.args.files.now) (g.F.Files.longs c.args.files.now))
+    (file_counts (g.F.Files.faults c.read_first.new.files) (g.F.Files.misses c.read_first.new.files)
     (g.F.Files.longs c.read_first.new.files)) c.in_err-read_first.ensures.counts)
 
 pub returns-in_err-read_first-clause-answer : goal.returns-in_err-read_first-clause-answer
