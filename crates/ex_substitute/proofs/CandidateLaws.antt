@@ -1,16 +1,24 @@
 -- A search that goes from one candidate to the next: the columns between them are passed over.
 use Rattle.std.proofs.Common.{◌≡◌, ◌<◌, ◌≤◌, ◌+◌, ◌-◌, ℕ, zero, suc, Bool, true, false, not, ◌||◌, List, [], length, max, ap, refl, sym, ◌∙◌, subst, arith, inl, inr}
-use Rattle.std.specs.Prelude.{Option, Some, None, Ok, ◌⊎◌, nat_le, slice_get}
+use Rattle.std.specs.Prelude.{Option, Some, None, Ok, ◌⊎◌, nat_le, nat_lt, slice_get, if◌then◌else◌}
 use Rattle.std.proofs.lemmas.Bool.Decides.{nat_tests}
-use Rattle.std.proofs.lemmas.Option.{get_or_from_slice_get}
+use Rattle.std.proofs.lemmas.Option.{get_or_from_slice_get, slice_get_within}
+use Rattle.char_class.specs.Bits.{has_code}
+use Rattle.char_class.specs.declared.codes.Codes.{Codes}
+use Rattle.char_class.specs.declared.sets.Sets.{Sets}
+use Rattle.match_rules.specs.Atoms.{has_keyword}
 use Rattle.match_rules.specs.Ways.{Text, line_at, place}
 use Rattle.match_rules.specs.Attempt.{attempt}
+use Rattle.pattern_screens.specs.declared.key.Next.TheVariants.{Code}
+use Rattle.pattern_screens.specs.FailingLaw.{FailBefore}
 use Rattle.pattern_screens.specs.FirstAtoms.{first_cost}
 use Rattle.pattern_screens.specs.FirstLaw.{AreFirstSound}
+use Rattle.pattern_screens.specs.Following.{takes_first}
+use Rattle.pattern_screens.specs.Keys.{key_numbered, key_of, last_in, last_of, next_of, other_of}
 use Rattle.pattern_needs.specs.Lacking.{IsNeedOf, Need, is_lacked}
 use Rattle.pattern_needs.specs.NeedsLaw.{AreNeedsSound}
 use Rattle.pattern_match.specs.declared.answer.Match.{Match}
-use Rattle.ex_substitute.specs.Begins.{AreNeeds, Setting, is_screened, may_begin, screen_passes}
+use Rattle.ex_substitute.specs.Begins.{AreNeeds, AreSeconds, FailsBefore, IsNoSecond, Setting, is_screened, may_begin, may_follow, screen_passes}
 use Rattle.ex_substitute.specs.Trials.{AreVain, IsVain, trial_in}
 use Rattle.ex_substitute.specs.Trying.{Trial, Counts, tried, columns, places_in, first_of, is_counted_by}
 use Rattle.ex_substitute.proofs.TryLaws.{none-left, passed-over, vain-tried}
@@ -36,16 +44,64 @@ in-vain sound s line col unfit text number same =
     let cost : (attempt t.tree t.x (place number col)).cost ≤ first_cost s.tree.node = vain.cost in
     vain-tried t (place number col) vain.way (omega arith)
 
+-- ---- so does what stands behind it
+
+last-behind : (sets : Sets) (line : List ℕ) (col n : ℕ) → n ≡ suc col → last_in sets line n ≡ last_of (has_keyword sets (slice_get line col))
+last-behind sets line col n e = subst (λ m. last_in sets line m ≡ last_of (has_keyword sets (slice_get line col))) (sym e) refl
+
+second-key : (sets : Sets) (line : List ℕ) (col c number : ℕ) (keyword : Bool) → has_keyword sets (slice_get line col) ≡ keyword → slice_get line (col + 1) ≡ Some c → c < 256 →
+    key_numbered number ≡ record { next = Code c; last = last_of keyword } → key_numbered number ≡ key_of sets line (col + 1)
+second-key sets line col c number keyword kind here low is =
+    let small : nat_lt c 256 ≡ true = grind (arith, nat_tests) in
+    let next : next_of sets (slice_get line (col + 1)) ≡ Code c = ap (next_of sets) here ∙ ap (λ b. if b then Code c else other_of (has_keyword sets (Some c))) small in
+    let last : last_in sets line (col + 1) ≡ last_of keyword = last-behind sets line col (col + 1) (omega arith) ∙ ap last_of kind in
+    is ∙ ap (λ n. record { next = n; last = last_of keyword }) (sym next) ∙ ap (λ l. record { next = next_of sets (slice_get line (col + 1)); last = l }) (sym last)
+
+second-vain : FailBefore → (s : Setting) (line : List ℕ) (col c : ℕ) → IsNoSecond s c → slice_get line (col + 1) ≡ Some c → c < 256 → IsVain s line col
+second-vain sound s line col c second here low text number same =
+    by-kind (has_keyword s.context.sets.now (slice_get line col)) refl
+  where
+    t : Trial
+    t = trial_in text s
+
+    begins-there : (later : Bool) → takes_first later s.tree.node ≡ true
+    begins-there false = second.begins.first
+    begins-there true = second.begins.later
+
+    within : col + 1 ≤ length (line_at text number)
+    within = let inside : col + 1 < length line = slice_get_within line (col + 1) c here in omega (arith, ap (λ (l : List ℕ). length l) same)
+
+    by-key : (keyword : Bool) → has_keyword s.context.sets.now (slice_get line col) ≡ keyword → FailsBefore s (last_of keyword) c → tried t (place number col) ≡ Ok None
+    by-key keyword kind fails =
+        let is = second-key s.context.sets.now line col c fails.0 keyword kind here low fails.1 in
+        let vain = sound s.tree t.x s.budget number col fails.0 (begins-there (nat_lt 0 col))
+        (record { within = within; is = subst (λ (l : List ℕ). key_numbered fails.0 ≡ key_of s.context.sets.now l (col + 1)) (sym same) is }) fails.2 in
+        vain-tried t (place number col) vain.way vain.cost
+
+    by-kind : (keyword : Bool) → has_keyword s.context.sets.now (slice_get line col) ≡ keyword → tried t (place number col) ≡ Ok None
+    by-kind true kind = by-key true kind second.behind_keyword
+    by-kind false kind = by-key false kind second.behind_other
+
+pub follow-vain : FailBefore → (s : Setting) (codes : Codes) (line : List ℕ) (col : ℕ) → AreSeconds s codes → may_follow codes (slice_get line (col + 1)) ≡ false → IsVain s line col
+follow-vain sound s codes line col seconds unfit = by-next (slice_get line (col + 1)) refl unfit
+  where
+    by-next : (next : Option ℕ) → slice_get line (col + 1) ≡ next → may_follow codes next ≡ false → IsVain s line col
+    by-next None here e = absurd (cc)
+    by-next (Some c) here e =
+        let small : nat_lt c 256 ≡ true = screened (nat_lt c 256) (has_code codes c) e in
+        let low : c < 256 = grind (arith, nat_tests) in
+        second-vain sound s line col c (seconds c low (unpassed (not (nat_lt c 256)) (has_code codes c) e)) here low
+
 -- one column more
-pub vain-step : AreFirstSound → (s : Setting) (line : List ℕ) (from col : ℕ) → AreVain s line from col → may_begin s (slice_get line col) ≡ false → AreVain s line from (col + 1)
-vain-step sound s line from col before unfit k low high = by-order (order k col)
+pub vain-step : (s : Setting) (line : List ℕ) (from col : ℕ) → AreVain s line from col → IsVain s line col → AreVain s line from (col + 1)
+vain-step s line from col before vain k low high = by-order (order k col)
   where
     order : (k col : ℕ) → (k < col) ⊎ (col ≤ k)
     order k col = grind arith
 
     by-order : (k < col) ⊎ (col ≤ k) → IsVain s line k
     by-order (inl h) = before k low h
-    by-order (inr h) = let same : k ≡ col = omega arith in subst (λ (n : ℕ). IsVain s line n) (sym same) (in-vain sound s line col unfit)
+    by-order (inr h) = let same : k ≡ col = omega arith in subst (λ (n : ℕ). IsVain s line n) (sym same) vain
 
 -- no column
 pub vain-none : (s : Setting) (line : List ℕ) (from : ℕ) → AreVain s line from from

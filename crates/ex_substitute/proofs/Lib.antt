@@ -3,6 +3,7 @@ pub mod ApplyRows
 pub mod AnswerLaws
 pub mod TryLaws
 pub mod CandidateLaws
+mod SecondLaws
 pub mod DeleteLaws
 pub mod SearchLaws
 pub mod OrderLaws

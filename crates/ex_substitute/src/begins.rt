@@ -4,6 +4,7 @@ ghost use Rattle.char_class.specs.Bits.{has_code};
 ghost use Rattle.ex_substitute.specs.Begins.{AreBegins, screen_passes};
 
 use crate::ExCommand;
+use crate::seconds::seconds_of;
 use char_class::Codes;
 use pattern_match::Context;
 
@@ -13,6 +14,8 @@ use pattern_match::Context;
 pub(crate) struct Begins {
     /// The characters below 256.
     pub codes: Codes,
+    /// Those that may stand second.
+    pub seconds: Codes,
     /// Whether a line's end.
     pub at_end: bool,
     /// Whether the screen tells anything: the budget allows for it.
@@ -28,6 +31,7 @@ impl Begins {
         let is_screened = command.is_screened(budget);
         Begins {
             codes: codes_of(command, context, is_screened),
+            seconds: seconds_of(command, context, budget),
             at_end: may_begin(command, context, is_screened, None),
             is_screened,
         }

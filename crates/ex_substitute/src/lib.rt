@@ -20,6 +20,7 @@ mod line_count;
 mod pen;
 mod refusal;
 mod searching;
+mod seconds;
 mod string;
 mod substituting;
 mod trying;

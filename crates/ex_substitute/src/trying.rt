@@ -1,20 +1,21 @@
 //! A command's pattern, tried at the places of a line.
-ghost use Rattle.std.specs.Prelude.{◌≡◌, ◌<◌, ◌≤◌, ◌+◌, ◌-◌, length, slice_get, true, IfOk, IfSome};
+ghost use Rattle.std.specs.Prelude.{◌≡◌, ◌<◌, ◌≤◌, ◌+◌, ◌-◌, length, slice_get, true, false, IfOk, IfSome};
 ghost use Rattle.match_rules.specs.Ways.{IsPlaceOf, is_after, is_same_place};
 ghost use Rattle.pattern_match.specs.OnText.{IsFoundOn};
 ghost use Rattle.ex_substitute.specs.Answers.{Gives};
-ghost use Rattle.ex_substitute.specs.Begins.{AreCodes, may_begin};
+ghost use Rattle.ex_substitute.specs.Begins.{AreCodes, AreSeconds, may_begin};
 ghost use Rattle.ex_substitute.specs.Searching as searching;
-ghost use Rattle.ex_substitute.specs.Trials.{AreVain, counts_of, trial_in};
+ghost use Rattle.ex_substitute.specs.Trials.{AreVain, IsVain, counts_of, trial_in};
 ghost use Rattle.ex_substitute.specs.Trying as spec;
 
 use crate::begins::Begins;
 use crate::refusal::Refusal;
+use crate::seconds::may_follow_at;
 use crate::{ExCommand, ExError};
 use char_class::Codes;
 use pattern_match::{Attempt, Context, Match, Scratch};
 use pattern_needs::{Needs, needs_are_sound};
-use pattern_screens::first_screens_are_sound;
+use pattern_screens::{failures_are_sound, first_screens_are_sound};
 use std::alloc::Global;
 use std::marker::Model;
 use syn_base::{Lines, Place};
@@ -165,19 +166,41 @@ impl<'a> Trying<'a> {
         self.may_begin(codes, line.get(col).copied())
     }
 
+    /// The characters below 256 that may stand second in a match.
+    fn seconds(&self) -> Codes
+        ensures { AreSeconds self.now result }
+    {
+        self.begins.seconds
+    }
+
+    /// Whether the pattern has to be tried at a column of a line, by what stands there and behind it.
+    fn is_candidate(&self, codes: &Codes, seconds: &Codes, line: &[char], col: usize) -> bool
+        requires codes { AreCodes self.now codes.now }
+        requires seconds { AreSeconds self.now seconds.now }
+        requires column { col ≤ length line.now }
+        ensures { result ≡ false → IsVain self.now line.now col }
+    {
+        // The proof needs the laws that these calls tell.
+        first_screens_are_sound();
+        failures_are_sound();
+        if !self.may_begin_at(codes, line, col) {
+            return false;
+        }
+        may_follow_at(seconds, line, col + 1)
+    }
+
     /// The first column from one on at which the pattern has to be tried; a column behind the line's end,
     /// if there is none.
     fn next_column(&self, line: &[char], from: usize) -> usize
         ensures from { from ≤ result }
         ensures passed { AreVain self.now line.now from result }
     {
-        // The proof needs the law that this call tells.
-        first_screens_are_sound();
-        // A copy at hand, in which a column is looked up fast.
+        // Copies at hand, in which a column is looked up fast.
         let codes = self.codes();
+        let seconds = self.seconds();
         let mut col = from;
         'columns: while col <= line.len() {
-            if self.may_begin_at(&codes, line, col) {
+            if self.is_candidate(&codes, &seconds, line, col) {
                 return col;
             }
             col += 1;
