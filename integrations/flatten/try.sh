@@ -8,6 +8,12 @@ cd "$room"
 same "rows" "" "$(python3 "$here/try_rows.py" "$here/rows" 2>&1)"
 tried=$((tried + $(grep -c '^== ' "$here/rows")))
 
+awk '/^#/ || !NF { next } ++n % 2 { print "syn match M \"" $0 "\"" > "given.vim"; next } { print "syn match M \"" $0 "\"" }' "$here/spelled" > wanted
+vim -es -u NONE -S "$top/tools/flatten.vim" ./given.vim flat < /dev/null > told || true
+same "patterns as they are spelled" "" "$(grep '^syn match' flat/syntax/given.vim | diff wanted -)"
+tried=$((tried + $(grep -c . wanted)))
+same "a look behind is told once" 1 "$(grep -c "gets a limit: \\\\%(::" told)"
+
 flatten() {
   { vim -es -u NONE -S "$top/tools/flatten.vim" "$@" < /dev/null && echo "status 0"; } || echo "status $?"
 }

@@ -9,6 +9,7 @@ import './scope.vim'
 import './pattern.vim'
 import './item.vim'
 import './counts.vim'
+import './behind.vim'
 import './long_match.vim'
 
 var reserved: dict<string> = {}    # of each group with a reserved name, in small letters, the name that it gets
@@ -91,8 +92,9 @@ def FlatPiece(kind: string, piece: string): list<string>
     const inner = strpart(piece, 1, len(piece) - 2)
     const [usual, cause] = pattern.Respell(inner)
     final counted = counts.Respell(usual)
-    const made = counted.pattern ==# inner ? piece : pattern.Delimited(counted.pattern, piece[0])
-    return [made] + (cause ==# '' ? [] : [cause]) + counted.causes
+    final limited = behind.Respell(counted.pattern)
+    const made = limited.pattern ==# inner ? piece : pattern.Delimited(limited.pattern, piece[0])
+    return [made] + (cause ==# '' ? [] : [cause]) + counted.causes + limited.causes
   elseif kind ==# 'list'
     return [FlatList(piece)] + ListCauses(piece)
   elseif stridx(piece, '|') > 0 && piece =~? '^cchar\s*=\s*|'

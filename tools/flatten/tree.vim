@@ -13,8 +13,8 @@ vim9script
 #             a reference, 'char' for a character by itself, 'start', 'stop', 'word', 'wordend' for '^', '$', '\<', '\>',
 #             'place' for other places
 #
-# Groups, lists and atoms have a 'multi', the text of their count without backslashes, '' for none, or a look: '@=',
-# '@5<!' .., which begins at 'multi_from'; and the 'level' of magic at which they are spelled.
+# Groups, lists and atoms end at 'atom_to' and have a 'multi' behind it, the text of their count without backslashes, '' for
+# none, or a look: '@=', '@5<!' .., which begins at 'multi_from'; and the 'level' of magic at which they are spelled.
 
 import './cut.vim'
 
@@ -122,6 +122,7 @@ enddef
 def Piece(first: bool): dict<any>
   const counts_before = counts
   var node = Atom(first)
+  node.atom_to = at
   SkipFlags()
   node.multi_from = at
   node.multi = node.kind ==# 'start' && Peek() ==# '*' ? '' : Multi()
@@ -221,7 +222,8 @@ def OptionalList(from: number): dict<any>
   var row = Node('row', at)
   row.parts = []
   while at < len(text) && strpart(text, at, 1) !=# ']'
-    add(row.parts, Atom(false))
+    var atom = Atom(false)
+    add(row.parts, extend(atom, {atom_to: atom.to, multi_from: atom.to}))
   endwhile
   row.to = at
   at += 1
