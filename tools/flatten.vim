@@ -227,7 +227,7 @@ def Prepare()
   name = by_name ? what : fnamemodify(what, ':t:r')
   room = tempname()
   mkdir(room, 'p')
-  set noswapfile nomodeline background=light t_Co=256
+  set noswapfile nofsync nomodeline background=light t_Co=256
 enddef
 
 # The command that reads all that Vim reads for a syntax.

@@ -31,11 +31,22 @@ enddef
 
 # What is in one set and not in another.
 export def Without(set: string, other: string): string
-  return join(filter(split(set, '\zs'), (_, c) => stridx(other, c) < 0), '')
+  var left = ''
+  for c in split(set, '\zs')
+    if stridx(other, c) < 0
+      left ..= c
+    endif
+  endfor
+  return left
 enddef
 
 export def Meet(set: string, other: string): bool
-  return Without(set, other) !=# set
+  for c in split(set, '\zs')
+    if stridx(other, c) >= 0
+      return true
+    endif
+  endfor
+  return false
 enddef
 
 # All that the atoms of a node take.

@@ -62,11 +62,18 @@ enddef
 # The place behind the blanks at a place.
 export def BlankEnd(text: string, begin: number): number
   var i = begin
-  while strpart(text, i, 1) ==# ' ' || strpart(text, i, 1) ==# "\t"
+  var c = strpart(text, i, 1)
+  while c ==# ' ' || c ==# "\t"
     i += 1
+    c = strpart(text, i, 1)
   endwhile
   return i
 enddef
+
+const blanks = [' ', "\t"]
+const blanks_and_bar = [' ', "\t", '|']
+const behind_option = [' ', "\t", '=', '|']
+const in_pattern = ['\', '[']
 
 # The place of the first of some characters, from a place up to another one.
 def FirstOf(text: string, characters: list<string>, from: number, to: number): number
@@ -80,12 +87,21 @@ def FirstOf(text: string, characters: list<string>, from: number, to: number): n
   return first
 enddef
 
+var heads: dict<list<any>> = {}    # of each text that was asked for its head, the answer
+
 # The subcommand of a syntax command, its first argument, and the place behind the blanks that follow this.
 export def Head(text: string): list<any>
-  const sub = BlankEnd(text, FirstOf(text, [' ', "\t"], 0, len(text)))
-  const sub_end = FirstOf(text, [' ', "\t", '|'], sub, len(text))
+  if !has_key(heads, text)
+    heads[text] = HeadOf(text)
+  endif
+  return heads[text]
+enddef
+
+def HeadOf(text: string): list<any>
+  const sub = BlankEnd(text, FirstOf(text, blanks, 0, len(text)))
+  const sub_end = FirstOf(text, blanks_and_bar, sub, len(text))
   const group = BlankEnd(text, sub_end)
-  const group_end = FirstOf(text, [' ', "\t", '|'], group, len(text))
+  const group_end = FirstOf(text, blanks_and_bar, group, len(text))
   return [strpart(text, sub, sub_end - sub), strpart(text, group, group_end - group), BlankEnd(text, group_end)]
 enddef
 
@@ -182,7 +198,7 @@ def EndsHere(text: string, i: number, vim9: bool): bool
 enddef
 
 def WordEnd(text: string, i: number, bar_ends: bool): number
-  return FirstOf(text, bar_ends ? [' ', "\t", '|'] : [' ', "\t"], i, len(text))
+  return FirstOf(text, bar_ends ? blanks_and_bar : blanks, i, len(text))
 enddef
 
 export def ListEnd(text: string, i: number): number
@@ -206,7 +222,7 @@ enddef
 
 # Adds the option that stands at i, if one does.
 def AddOption(pieces: list<dict<any>>, text: string, i: number, sub: string, has_pattern: bool): bool
-  const end = FirstOf(text, [' ', "\t", '=', '|'], i, len(text))
+  const end = FirstOf(text, behind_option, i, len(text))
   const word = tolower(strpart(text, i, end - i))
   const equals = BlankEnd(text, end)
   const kind = strpart(text, equals, 1) ==# '=' ? get(keys, word, '') : ''
@@ -249,7 +265,7 @@ export def PatternEnd(text: string, opening: number): number
     if close < 0
       return len(text)
     endif
-    i = FirstOf(text, ['\', '['], i, close)
+    i = FirstOf(text, in_pattern, i, close)
     if i == close
       return i
     endif

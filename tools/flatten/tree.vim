@@ -20,12 +20,21 @@ import './cut.vim'
 
 var [text, at, level] = ['', 0, 2]    # the pattern that is read, how far, and the level of magic there
 var [counts, nested] = [0, false]     # the counts without a limit so far, and whether one stands in a part with another
+var read: dict<list<any>> = {}        # of each pattern that was read, its tree, 'level' and 'nested'
 
 # The tree of a pattern that Vim takes.
 export def TreeOf(pattern: string): dict<any>
+  const key = '/' .. pattern
+  if has_key(read, key)
+    level = read[key][1]
+    nested = read[key][2]
+    return read[key][0]
+  endif
   [text, at, level] = [pattern, 0, 2]
   [counts, nested] = [0, false]
-  return Choice()
+  final made = Choice()
+  read[key] = [made, level, nested]
+  return made
 enddef
 
 # Whether a count without a limit stands within another one in the pattern that was read last.
@@ -46,10 +55,15 @@ def Node(kind: string, from: number): dict<any>
   return {kind: kind, from: from, to: at, multi: '', level: level}
 enddef
 
+# The characters that may be more than themselves.
+const special = '\^$.*[~()|&+=?{@%<>'
+
 # What stands at the place, without its backslash: '' at the end, and a blank for a character that means itself.
 def Peek(): string
   const c = strpart(text, at, 1)
-  if c ==# '\' && at + 1 < len(text)
+  if stridx(special, c) < 0
+    return ' '
+  elseif c ==# '\' && at + 1 < len(text)
     const next = strpart(text, at + 1, 1)
     return stridx('^$', next) >= 0 && level >= 1 || stridx('.*[~', next) >= 0 && level >= 2
       || stridx('()|&+=?{@%<>', next) >= 0 && level == 3 ? ' ' : next
@@ -72,14 +86,15 @@ def Take(kind: string, length: number): dict<any>
   return Node(kind, from)
 enddef
 
-# Levels and the case, which take no room.
-def SkipFlags()
+# Goes past levels and the case, which take no room, and answers what stands behind them.
+def SkipFlags(): string
   var c = Peek()
   while c !=# '' && stridx('cCvmMVZ', c) >= 0
     level = stridx('VMmv', c) >= 0 ? stridx('VMmv', c) : level
     at += 2
     c = Peek()
   endwhile
+  return c
 enddef
 
 def Choice(): dict<any>
@@ -123,9 +138,9 @@ def Piece(first: bool): dict<any>
   const counts_before = counts
   var node = Atom(first)
   node.atom_to = at
-  SkipFlags()
+  const c = SkipFlags()
   node.multi_from = at
-  node.multi = node.kind ==# 'start' && Peek() ==# '*' ? '' : Multi()
+  node.multi = c ==# ' ' || c ==# '' || node.kind ==# 'start' && c ==# '*' ? '' : Multi(c)
   if node.multi !=# '' && IsUnbounded(node.multi)
     nested = nested || counts > counts_before
     counts += 1
@@ -134,12 +149,10 @@ def Piece(first: bool): dict<any>
   return node
 enddef
 
-def Multi(): string
-  const c = Peek()
+# The count that begins with such a character, or nothing.
+def Multi(c: string): string
   const from = at
-  if c ==# ''
-    return ''
-  elseif stridx('*+=?', c) >= 0
+  if stridx('*+=?', c) >= 0
     at += Length()
   elseif c ==# '{'
     at = matchend(text, '}', at)
@@ -155,7 +168,9 @@ const classes = 'iIkKfFpPsSdDxXoOwWhHaAlLuU'
 
 def Atom(first: bool): dict<any>
   const c = Peek()
-  if c ==# '('
+  if c ==# ' '
+    return Take('char', Length())
+  elseif c ==# '('
     return Group(Length(), true)
   elseif c ==# '%'
     return Percent()
@@ -174,7 +189,7 @@ def Atom(first: bool): dict<any>
     return IsStop() ? node : Node('char', node.from)
   elseif c ==# '<' || c ==# '>'
     return Take(c ==# '<' ? 'word' : 'wordend', Length())
-  elseif c ==# '.' || c !=# ' ' && stridx(classes, c) >= 0 && strpart(text, at, 1) ==# '\'
+  elseif c ==# '.' || stridx(classes, c) >= 0 && strpart(text, at, 1) ==# '\'
     return Take('take', Length())
   elseif c =~# '^[1-9]$' && strpart(text, at, 1) ==# '\'
     return Take('back', 2)
@@ -185,8 +200,7 @@ enddef
 # Whether a dollar before the place is the stop of a line.
 def IsStop(): bool
   final kept = [at, level]
-  SkipFlags()
-  const c = Peek()
+  const c = SkipFlags()
   const escaped = strpart(text, at, 1) ==# '\\'
   [at, level] = kept
   return level == 3 || c ==# '' || c ==# '|' || c ==# '&' || c ==# ')' || c ==# 'n' && escaped
