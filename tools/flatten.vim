@@ -24,6 +24,7 @@ vim9script
 #   - What ':syn include' reads is a flat file of its own, c-1-html.vim, so that its include number holds.
 #   - A change of 'iskeyword' is 'syn iskeyword'.
 #   - Spellings that Vim reads and vimsyn doesn't are put into the usual ones, which the parts in flatten/ say.
+#   - Patterns that cost vimsyn much are put in words of the same meaning that cost less: counts within counts, looks behind.
 #   - Names of colours are put as #rrggbb.
 #   - ':syn sync' is left out, since painting starts from the first line.
 #
