@@ -1,20 +1,13 @@
 -- Parts of the rules that have no name there.
-use Rattle.std.specs.Prelude.{ℕ, List, ◌∷◌, Bool, true, false, Option, Some, None, length}
+use Rattle.std.specs.Prelude.{List, ◌∷◌, Bool, true, false, Option, Some, None, length}
 use Rattle.paint_rules.specs.declared.Spot.{Spot}
-use Rattle.paint_rules.specs.declared.Spot.TheVariants.{At}
+use Rattle.paint_rules.specs.declared.Spot.TheVariants.{Past, At}
 use Rattle.paint_rules.specs.Frames.{Frame}
 use Rattle.paint_rules.specs.Painted.{Painted, done, ◌>>=◌}
-use Rattle.paint_rules.specs.Rules.{Here, this_line, Cause, Matched, place_at}
+use Rattle.paint_rules.specs.Rules.{Here, this_line, item_of, no_externals, Cause}
 use Rattle.paint_rules.specs.Close.{at_line_start}
-use Rattle.syn_base.specs.declared.places.Place.{Place}
-use Rattle.syn_base.specs.declared.places.GroupId.{GroupId}
 use Rattle.syn_base.specs.declared.places.ItemId.{ItemId}
-use Rattle.paint_rules.specs.declared.Part.TheVariants.{StartArea}
-use Rattle.syntax_set.specs.declared.item.Pattern.{Pattern}
-use Rattle.paint_rules.specs.declared.Which.TheVariants.{Hs}
-use Rattle.paint_rules.specs.Offsets.{offset_place, later_place}
-use Rattle.paint_rules.specs.Pick.{plain_frame, body_from}
-use Rattle.paint_rules.specs.States.{spot_of}
+use Rattle.paint_rules.specs.declared.Part.TheVariants.{Body}
 
 abbrev pub line_end_if : Here → Bool → Option Spot
 line_end_if h wanted = elim wanted [ true ↦ Some (At 0 (length (this_line h))) | false ↦ None ]
@@ -34,20 +27,18 @@ top_searched h f searches rest = do
   g ← at_line_start_if h f searches
   done (g ∷ rest)
 
--- where the highlight of a region's body begins
-abbrev pub body_high : Here → ℕ → Pattern → Matched → Place
-body_high h c pattern m = elim pattern.matchgroup [
-  | Some g ↦ body_from h c pattern m
-  | None ↦ later_place (offset_place h.text m pattern Hs) (place_at h.line c)
-]
-
--- the start area of a region
-abbrev pub area_frame : Here → ℕ → ItemId → Pattern → Matched → GroupId → Frame
-area_frame h c i pattern m g = record (plain_frame h i) {
-  part = StartArea;
-  shows = g;
-  known_end = Some (spot_of h (body_from h c pattern m));
-  high_from = spot_of h (offset_place h.text m pattern Hs);
-  search = spot_of h m.to;
-  externals = m.externals;
+-- a frame of an item of which nothing is known
+abbrev pub plain_frame : Here → ItemId → Frame
+plain_frame h i = record {
+  item = i;
+  part = Body;
+  shows = (item_of h.rules.items i).group;
+  known_end = None;
+  high_from = Past;
+  high_to = None;
+  area_end = None;
+  area_high = None;
+  area_shows = None;
+  search = Past;
+  externals = no_externals;
 }

@@ -1,9 +1,9 @@
 //! The frames that a start pushes.
 ghost use Rattle.std.specs.Prelude.{◌≡◌, ◌<◌, ◌∷◌, length, reverse, IfOk, Some};
 ghost use Rattle.paint_rules.specs.Close.{with_end};
-ghost use Rattle.paint_rules.specs.Pick.{plain_frame, word_frame, between, match_frame, body_from, body_frame, body_with_end, pushed};
+ghost use Rattle.paint_rules.specs.Pick.{word_frame, between, match_frame, body_from, body_high, body_frame, area_frame, body_with_end, pushed};
 ghost use Rattle.line_paint.specs.Answers.{Gives};
-ghost use Rattle.line_paint.specs.Frames.{area_frame, body_high};
+ghost use Rattle.line_paint.specs.Frames.{plain_frame};
 ghost use Rattle.paint_rules.specs.Rules.{place_at, no_externals};
 
 use crate::ends::with_end;

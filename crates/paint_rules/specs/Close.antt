@@ -107,15 +107,17 @@ goes_beyond place (Some end) = is_before place end
 pub data Closing : Type 0 where
   Stays BecomesArea Leaves LeavesArea : Closing
 
+-- a frame whose kept end is reached: a region's body with an end area there becomes that area, any other frame goes
+abbrev pub ending : Rules → Spot → Frame → Closing
+ending r place top =
+    elim (is_region_body r top && is_reached place top.known_end && goes_beyond place top.area_end) [
+      | true ↦ BecomesArea
+      | false ↦ elim (is_start_area top.part) [ true ↦ LeavesArea | false ↦ Leaves ]
+    ]
+
 abbrev pub closing_of : Rules → Spot → Frame → List Frame → Closing
 closing_of r place top below =
-    elim (is_reached place (kept_end_over r.items top below)) [
-      | false ↦ Stays
-      | true ↦ elim (is_region_body r top && is_reached place top.known_end && goes_beyond place top.area_end) [
-        | true ↦ BecomesArea
-        | false ↦ elim (is_start_area top.part) [ true ↦ LeavesArea | false ↦ Leaves ]
-      ]
-    ]
+    elim (is_reached place (kept_end_over r.items top below)) [ true ↦ ending r place top | false ↦ Stays ]
 
 -- the end area of a region body, from a place on
 abbrev pub end_area_of : Spot → Frame → Frame
@@ -147,7 +149,10 @@ col_here _ = None
 abbrev pub body_after_area : Here → List Frame → Painted Cause (List Frame)
 body_after_area h [] = done []
 body_after_area h (body ∷ below) = do
-  f ← elim (is_region_body h.rules body && is_none body.known_end) [ true ↦ searched_if h body (col_here body.search) | false ↦ done body ]
+  f ← elim (is_region_body h.rules body && is_none body.known_end) [
+    | true ↦ searched_if h body (col_here body.search)
+    | false ↦ done body
+  ]
   done (f ∷ below)
 
 -- the frames under one with `extend` that was popped: from the last one with `extend` on, those with `keepend` and those
@@ -198,17 +203,33 @@ container_goes_on r line c popped below =
     has_line_end (item_of r.items popped.item).kind && not (list_any (has_keepend r.items) below)
     && is_region_body_on r below && is_line_end line c
 
+-- the top frame becomes its end area, and no item waits any more
+abbrev pub becomes_area : ℕ → Standing → Frame → List Frame → Standing
+becomes_area c s top below = record s { stack = end_area_of (At 0 c) top ∷ below; waiting = None }
+
+-- a start area is popped, which leaves these frames; no item waits any more
+abbrev pub start_area_popped : ℕ → Standing → List Frame → Standing
+start_area_popped c s frames = record s { stack = frames; waiting = None; floor = c }
+
+-- any other frame is popped from those below it, which leaves these; its item's nextgroup waits
+abbrev pub frame_popped : Here → ℕ → Standing → Frame → List Frame → List Frame → Standing
+frame_popped h c s top below frames = record s {
+  stack = frames;
+  waiting = waiting_after h.rules (this_line h) c top.item;
+  floor = c;
+  is_over = container_goes_on h.rules (this_line h) c top below;
+}
+
 -- one step of closing; none is left where the top frame stays
 abbrev pub close_top : Here → ℕ → Standing → Frame → List Frame → Closing → Painted Cause (Option Standing)
 close_top h c s top below Stays = done None
-close_top h c s top below BecomesArea =
-    done (Some (record s { stack = end_area_of (At 0 c) top ∷ below; waiting = None }))
+close_top h c s top below BecomesArea = done (Some (becomes_area c s top below))
 close_top h c s top below LeavesArea = do
   frames ← body_after_area h below
-  done (Some (record s { stack = frames; waiting = None; floor = c }))
+  done (Some (start_area_popped c s frames))
 close_top h c s top below Leaves = do
   frames ← frames_after h c top below
-  done (Some (record s { stack = frames; waiting = waiting_after h.rules (this_line h) c top.item; floor = c; is_over = container_goes_on h.rules (this_line h) c top below }))
+  done (Some (frame_popped h c s top below frames))
 
 abbrev pub close_once : Here → ℕ → Standing → List Frame → Painted Cause (Option Standing)
 close_once h c s [] = done None

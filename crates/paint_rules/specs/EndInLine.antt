@@ -41,14 +41,15 @@ ends_of Keyword = []
 ends_of (Match p) = []
 ends_of (Region starts skip ends) = ends
 
+-- a pattern that begins at a column
+abbrev pub tried_from : Search → Pattern → ℕ → Painted Cause (Option Matched)
+tried_from s pattern c = do
+  m ← attempted s.rules s.text s.item s.externals pattern (place_at s.from.line c)
+  looks_at_end m
+
 -- a skip or end pattern at a column: with `lc` it begins so many columns before, or not at all
 abbrev pub tried_at : Search → Pattern → ℕ → Painted Cause (Option Matched)
-tried_at s pattern c = elim (nat_lt c pattern.lc) [
-  | true ↦ done None
-  | false ↦ do
-    m ← attempted s.rules s.text s.item s.externals pattern (place_at s.from.line (c - pattern.lc))
-    looks_at_end m
-]
+tried_at s pattern c = elim (nat_lt c pattern.lc) [ true ↦ done None | false ↦ tried_from s pattern (c - pattern.lc) ]
 
 -- the end that a match of an end pattern makes
 abbrev pub end_made : Search → Pattern → Matched → RegionEnd
@@ -73,11 +74,17 @@ pub data Skip : Type 0 where
   SkipTo : (col : ℕ) → Skip
   SkipLine : Skip
 
+-- a skip that takes something ends before the line's end, or no end is in this line
+abbrev pub skip_past : Search → Place → Skip
+skip_past s me =
+    elim (is_after (place_at s.from.line (length (line_at s.text s.from.line))) me) [
+      | true ↦ SkipTo me.col
+      | false ↦ SkipLine
+    ]
+
 abbrev pub skip_to : Search → ℕ → Place → Skip
-skip_to s c me = elim (is_after me (place_at s.from.line c)) [
-  | false ↦ SkipTo (suc c)
-  | true ↦ elim (is_after (place_at s.from.line (length (line_at s.text s.from.line))) me) [ true ↦ SkipTo me.col | false ↦ SkipLine ]
-]
+skip_to s c me =
+    elim (is_after me (place_at s.from.line c)) [ true ↦ skip_past s me | false ↦ SkipTo (suc c) ]
 
 abbrev pub skip_at : Search → Option Pattern → ℕ → Painted Cause Skip
 skip_at s None c = done NoSkip

@@ -40,14 +40,16 @@ looks_at_end (Some m) = do
   _ ← looks_at (one_line (pos m.to.line))
   done (Some m)
 
+-- an attempt from a column, whose match counts if its item start is the place
+abbrev pub tried_to_start : Rules → Text → ItemId → Pattern → Place → ℕ → Painted Cause (Option Matched)
+tried_to_start r t i pattern p c = do
+  m ← attempted r t i no_externals pattern (place_at p.line c)
+  elim (starts_at t pattern p m) [ true ↦ looks_at_end m | false ↦ done None ]
+
 -- the match from a column, if its item start is the place
 abbrev pub match_from : Rules → Text → ItemId → Pattern → Place → ℕ → Painted Cause (Option Matched)
-match_from r t i pattern p c = elim (may_start t pattern p (place_at p.line c)) [
-  | false ↦ done None
-  | true ↦ do
-    m ← attempted r t i no_externals pattern (place_at p.line c)
-    elim (starts_at t pattern p m) [ true ↦ looks_at_end m | false ↦ done None ]
-]
+match_from r t i pattern p c =
+    elim (may_start t pattern p (place_at p.line c)) [ true ↦ tried_to_start r t i pattern p c | false ↦ done None ]
 
 -- the match of an item at a place: from the first column that gives one, where the last start or close in the line is `floor`
 abbrev pub item_match : Rules → Text → ItemId → Pattern → Place → ℕ → Painted Cause (Option Matched)

@@ -12,3 +12,5 @@ pub mod Close
 pub mod Pick
 pub mod Line
 pub mod Syntax
+-- what stands where there is no item
+pub mod NoItem

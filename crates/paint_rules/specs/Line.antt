@@ -123,7 +123,8 @@ painting_from r t l [] state = Whole []
 painting_from r t l (x ∷ lines) state =
     elim (painted_line (record { rules = r; text = t; line = l }) state) [
       | Refused refusal k ↦ Fails l refusal
-      | Done p k ↦ with_note (record { before = state; spans = p.spans; after = p.after; looked = k }) (painting_from r t (suc l) lines (next_line p.after))
+      | Done p k ↦ with_note (record { before = state; spans = p.spans; after = p.after; looked = k })
+          (painting_from r t (suc l) lines (next_line p.after))
     ]
 
 abbrev pub painting : Rules → Text → Painting

@@ -4,6 +4,7 @@ use Rattle.std.specs.Option.{option_map}
 use Rattle.std.specs.List.{list_any, find, filter}
 use Rattle.syn_base.specs.declared.places.Place.{Place}
 use Rattle.match_rules.specs.Ways.{is_after}
+use Rattle.syn_base.specs.declared.places.GroupId.{GroupId}
 use Rattle.syn_base.specs.declared.places.ItemId.{ItemId}
 use Rattle.syntax_set.specs.declared.item.ItemKind.{ItemKind}
 use Rattle.syntax_set.specs.declared.item.ItemKind.TheVariants.{Keyword, Match, Region}
@@ -11,7 +12,7 @@ use Rattle.syntax_set.specs.declared.item.Pattern.{Pattern}
 use Rattle.paint_rules.specs.declared.Which.TheVariants.{Me, Hs, He, Rs}
 use Rattle.paint_rules.specs.Frames.{Frame}
 use Rattle.paint_rules.specs.declared.Part.TheVariants.{Body, StartArea, Keyword as Word}
-use Rattle.paint_rules.specs.declared.Spot.TheVariants.{Past, At}
+use Rattle.paint_rules.specs.declared.Spot.TheVariants.{At}
 use Rattle.paint_rules.specs.declared.Waiting.{Waiting}
 use Rattle.keyword_table.specs.Candidates.{candidates}
 use Rattle.keyword_table.specs.Words.{word_end}
@@ -72,16 +73,19 @@ match_start h c i pattern (Some m) =
       | false ↦ elim (is_some (item_of h.rules.items i).nextgroup) [ true ↦ Some (AnEmpty i) | false ↦ None ]
     ]
 
--- a region searches its end at once if that is in this line; a oneline one always, and doesn't start in vain
+-- a region that searches its end at once; a oneline one doesn't start in vain
+abbrev pub region_with_end : Here → ItemId → Pattern → Matched → Painted Cause (Option Starting)
+region_with_end h i pattern m = do
+  end ← end_in_line (search_from h i m.externals m.to)
+  elim ((item_of h.rules.items i).oneline && is_none end) [ true ↦ done None | false ↦ done (Some (ARegion i pattern m end)) ]
+
+-- a region searches its end at once if that is in this line; a oneline one always
 abbrev pub region_start : Here → ItemId → Pattern → Option Matched → Painted Cause (Option Starting)
 region_start h i pattern None = done None
 region_start h i pattern (Some m) =
-    let oneline = (item_of h.rules.items i).oneline in
-    elim (oneline || nat_eq m.to.line h.line) [
+    elim ((item_of h.rules.items i).oneline || nat_eq m.to.line h.line) [
+      | true ↦ region_with_end h i pattern m
       | false ↦ done (Some (ARegion i pattern m None))
-      | true ↦ do
-        end ← end_in_line (search_from h i m.externals m.to)
-        elim (oneline && is_none end) [ true ↦ done None | false ↦ done (Some (ARegion i pattern m end)) ]
     ]
 
 abbrev pub start_by : Here → ℕ → ℕ → ItemId → ItemKind → Painted Cause (Option Starting)
@@ -109,7 +113,8 @@ start_among h c s admits =
     let free = λ (i : ItemId). not (is_tried s i) && admits i in
     elim (keyword_at h.rules free (this_line h) c) [
       | Some word ↦ done (Some (AWord word.item word.end))
-      | None ↦ first_found (λ i. start_by h c s.floor i (item_of h.rules.items i).kind) (filter free (items_below (length h.rules.items)))
+      | None ↦ first_found (λ i. start_by h c s.floor i (item_of h.rules.items i).kind)
+          (filter free (items_below (length h.rules.items)))
     ]
 
 pub data Picked : Type 0 where
@@ -162,28 +167,20 @@ pushed f stack = elim (nat_lt (length stack) most_frames) [ true ↦ done (f ∷
 abbrev pub started_at : ℕ → ItemId → Standing → List Frame → Option Waiting → Standing
 started_at c i s stack waiting = record s { stack = stack; waiting = waiting; floor = c; tried = i ∷ s.tried }
 
-abbrev pub plain_frame : Here → ItemId → Frame
-plain_frame h i = record {
-  item = i;
-  part = Body;
-  shows = (item_of h.rules.items i).group;
-  known_end = None;
-  high_from = Past;
-  high_to = None;
-  area_end = None;
-  area_high = None;
-  area_shows = None;
-  search = Past;
-  externals = no_externals;
-}
-
+-- a keyword, up to the end of its word
 abbrev pub word_frame : Here → ℕ → ItemId → ℕ → Frame
-word_frame h c i end = record (plain_frame h i) {
+word_frame h c i end = record {
+  item = i;
   part = Word;
+  shows = (item_of h.rules.items i).group;
   known_end = Some (At 0 end);
   high_from = At 0 c;
   high_to = Some (At 0 end);
+  area_end = None;
+  area_high = None;
+  area_shows = None;
   search = At 0 c;
+  externals = no_externals;
 }
 
 -- a place kept within the body
@@ -194,23 +191,43 @@ abbrev pub match_frame : Here → ℕ → ItemId → Pattern → Matched → Fra
 match_frame h c i pattern m =
     let start = place_at h.line c in
     let me = offset_place h.text m pattern Me in
-    record (plain_frame h i) {
+    record {
+      item = i;
+      part = Body;
+      shows = (item_of h.rules.items i).group;
       known_end = Some (spot_of h me);
       high_from = spot_of h (between start me (offset_place h.text m pattern Hs));
       high_to = Some (spot_of h (between start me (offset_place h.text m pattern He)));
+      area_end = None;
+      area_high = None;
+      area_shows = None;
       search = At 0 c;
+      externals = no_externals;
     }
 
 -- where a region's body begins
 abbrev pub body_from : Here → ℕ → Pattern → Matched → Place
 body_from h c pattern m = later_place (offset_place h.text m pattern Rs) (place_at h.line c)
 
+-- where its highlight begins: behind the start area, if it has one
+abbrev pub body_high : Here → ℕ → Pattern → Matched → Place
+body_high h c pattern m = elim pattern.matchgroup [
+  | Some g ↦ body_from h c pattern m
+  | None ↦ later_place (offset_place h.text m pattern Hs) (place_at h.line c)
+]
+
+-- a region's body, of which no end is known yet
 abbrev pub body_frame : Here → ℕ → ItemId → Pattern → Matched → Frame
-body_frame h c i pattern m = record (plain_frame h i) {
-  high_from = spot_of h (elim pattern.matchgroup [
-    | Some g ↦ body_from h c pattern m
-    | None ↦ later_place (offset_place h.text m pattern Hs) (place_at h.line c)
-  ]);
+body_frame h c i pattern m = record {
+  item = i;
+  part = Body;
+  shows = (item_of h.rules.items i).group;
+  known_end = None;
+  high_from = spot_of h (body_high h c pattern m);
+  high_to = None;
+  area_end = None;
+  area_high = None;
+  area_shows = None;
   search = spot_of h m.to;
   externals = m.externals;
 }
@@ -219,17 +236,26 @@ abbrev pub body_with_end : Here → Frame → Option RegionEnd → Frame
 body_with_end h f None = f
 body_with_end h f (Some e) = with_end h f (Some e)
 
+-- a region's start area, which ends where the body begins
+abbrev pub area_frame : Here → ℕ → ItemId → Pattern → Matched → GroupId → Frame
+area_frame h c i pattern m g = record {
+  item = i;
+  part = StartArea;
+  shows = g;
+  known_end = Some (spot_of h (body_from h c pattern m));
+  high_from = spot_of h (offset_place h.text m pattern Hs);
+  high_to = None;
+  area_end = None;
+  area_high = None;
+  area_shows = None;
+  search = spot_of h m.to;
+  externals = m.externals;
+}
+
 abbrev pub area_pushed : Here → ℕ → ItemId → Pattern → Matched → List Frame → Painted Cause (List Frame)
 area_pushed h c i pattern m stack = elim pattern.matchgroup [
   | None ↦ done stack
-  | Some g ↦ pushed (record (plain_frame h i) {
-    part = StartArea;
-    shows = g;
-    known_end = Some (spot_of h (body_from h c pattern m));
-    high_from = spot_of h (offset_place h.text m pattern Hs);
-    search = spot_of h m.to;
-    externals = m.externals;
-  }) stack
+  | Some g ↦ pushed (area_frame h c i pattern m g) stack
 ]
 
 abbrev pub started : Here → ℕ → Standing → Starting → Painted Cause Standing

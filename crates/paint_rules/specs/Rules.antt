@@ -1,5 +1,5 @@
 -- A syntax as the painter asks it, and where it stands.
-use Rattle.std.specs.Prelude.{ℕ, Bool, true, false, nat_lt, nat_eq, List, [], Option, Some, None, get_or, replicate}
+use Rattle.std.specs.Prelude.{ℕ, Bool, true, false, nat_lt, nat_eq, List, [], Option, Some, get_or, replicate}
 use Rattle.char_class.specs.declared.sets.Sets.{Sets}
 use Rattle.syn_base.specs.declared.places.Place.{Place}
 use Rattle.syn_base.specs.declared.places.GroupId.{GroupId}
@@ -12,9 +12,9 @@ use Rattle.keyword_table.specs.declared.table.Definition.{Definition}
 use Rattle.syntax_set.specs.ClusterTable.{ClusterList}
 use Rattle.syntax_set.specs.declared.added_item.AddedItem.{AddedItem}
 use Rattle.syntax_set.specs.declared.item.Item.{Item}
-use Rattle.syntax_set.specs.declared.item.ItemKind.TheVariants.{Keyword}
 use Rattle.syntax_set.specs.declared.item.Pattern.{Pattern}
 use Rattle.paint_rules.specs.Painted.{Painted, Done, Refused}
+pub use Rattle.paint_rules.specs.NoItem.{no_item, no_added}
 
 abbrev pub Matched : Type 0
 Matched = Match
@@ -50,32 +50,6 @@ this_line h = line_at h.text h.line
 
 abbrev pub place_at : ℕ → ℕ → Place
 place_at l c = record { line = l; col = c }
-
-abbrev pub no_item : Item
-no_item = record {
-  group = record { 0 = 0 };
-  kind = Keyword;
-  contained = true;
-  include = 0;
-  ignore = false;
-  contains = None;
-  containedin = None;
-  nextgroup = None;
-  skipwhite = false;
-  skipnl = false;
-  skipempty = false;
-  transparent = false;
-  oneline = false;
-  keepend = false;
-  extend = false;
-  fold = false;
-  conceal = false;
-  concealends = false;
-  cchar = None;
-}
-
-abbrev pub no_added : AddedItem
-no_added = record { item = no_item; live = false }
 
 -- the item of a number, live or not
 abbrev pub item_of : List AddedItem → ItemId → Item

@@ -26,7 +26,7 @@ use Rattle.paint_rules.specs.Pick.{is_allowed, keyword_at, match_start, region_s
 use Rattle.paint_rules.specs.Pick.{items_below, is_tried, start_among, or_nothing, picked_allowed}
 use Rattle.paint_rules.specs.Pick.{picked_waiting, picked, waits_on, most_frames, pushed}
 use Rattle.paint_rules.specs.Pick.{started_at, word_frame, match_frame, body_from, body_frame}
-use Rattle.paint_rules.specs.Pick.{body_with_end, area_pushed, between, plain_frame, started}
+use Rattle.paint_rules.specs.Pick.{body_with_end, area_pushed, between, area_frame, started}
 use Rattle.paint_shift.proofs.Shift.{Two, IsMoved, Alike, OnBoth, IsPresent, IsSeenMatch}
 use Rattle.paint_shift.proofs.Shift.{IsMovedEnd, IsMovedStart, word, «match», empty, region}
 use Rattle.paint_shift.proofs.Shift.{IsMovedPick, start, skip, nothing, AttemptsAreLocal}
@@ -193,7 +193,7 @@ module _ (two : Two) (local : AttemptsAreLocal two) (k j : ℕ) (h : IsPresent t
         (offset_place_moved two a b pattern Me m)
 
     match_frame_same : match_frame there c i pattern b ≡ match_frame here c i pattern a
-    match_frame_same = λ t. record (plain_frame here i) {
+    match_frame_same = λ t. record (match_frame here c i pattern a) {
       known_end = Some (spot_same two local k j h _ _ (offset_place_moved two a b pattern Me m) t);
       high_from = spot_same two local k j h _ _ (between_moved Hs) t;
       high_to = Some (spot_same two local k j h _ _ (between_moved He) t);
@@ -218,7 +218,7 @@ module _ (two : Two) (local : AttemptsAreLocal two) (k j : ℕ) (h : IsPresent t
     high_from_moved (Some g) = body_from_moved
 
     body_frame_same : body_frame there c i pattern b ≡ body_frame here c i pattern a
-    body_frame_same = λ t. record (plain_frame here i) {
+    body_frame_same = λ t. record (body_frame here c i pattern a) {
       high_from = spot_same two local k j h _ _ (high_from_moved pattern.matchgroup) t;
       search = spot_same two local k j h _ _ m.moved.to t;
       externals = m.moved.externals t;
@@ -238,7 +238,7 @@ module _ (two : Two) (local : AttemptsAreLocal two) (k j : ℕ) (h : IsPresent t
         Same two (area_pushed here c i (record pattern { matchgroup = g }) a stack)
         (area_pushed there c i (record pattern { matchgroup = g }) b stack)
     area_same stack None = done_same two stack
-    area_same stack (Some g) = pushed_same _ _ stack (λ t. record (plain_frame here i) {
+    area_same stack (Some g) = pushed_same _ _ stack (λ t. record (area_frame here c i pattern a g) {
       part = StartArea;
       shows = g;
       known_end = Some (spot_same two local k j h _ _ body_from_moved t);
