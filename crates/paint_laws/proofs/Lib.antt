@@ -3,6 +3,9 @@ pub mod TriedLaws
 pub mod AllowedLaws
 pub mod PickedLaws
 pub mod StartLaws
+pub mod PickLaws
+pub mod RegionEndLaws
+pub mod ReachedLaws
 pub mod TextLaws
 pub mod SpanLaws
 pub mod ClosingLaws

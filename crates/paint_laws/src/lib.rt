@@ -11,7 +11,10 @@ ghost use Rattle.paint_laws.specs.Accepted.{TextsWithinLimitsAreAccepted};
 ghost use Rattle.paint_laws.specs.Closings.{ClosingEnds};
 ghost use Rattle.paint_laws.specs.LineByLine.{RefusedPaintings, WholePaintings};
 ghost use Rattle.paint_laws.specs.NothingStarts.{NothingIsPainted};
+ghost use Rattle.paint_laws.specs.Picks.{PicksComeFirst};
+ghost use Rattle.paint_laws.specs.Reached.{KeptEndsAreEarliest, LinesStartAtReached, PopsSearchReached};
 ghost use Rattle.paint_laws.specs.Refusals.{RefusalsChangeNothing};
+ghost use Rattle.paint_laws.specs.RegionEnds.{ColumnsEndRegions, EndsStandAtColumns, SearchesGoRight};
 ghost use Rattle.paint_laws.specs.Shown.{NoOtherSpansDo, OneStandsAtAColumn, SpansShowTheStack};
 ghost use Rattle.paint_laws.specs.Starts.{ColumnsRunToTheirEnd, ItemsStartOnce, KnownItemsStart};
 
@@ -21,6 +24,34 @@ pub fn an_item_starts_at_most_once()
     ensures once { ItemsStartOnce }
     ensures known { KnownItemsStart }
     ensures whole { ColumnsRunToTheirEnd }
+{}
+
+/// What starts at a place, of the items that may start there: a keyword whose word begins there; else
+/// the match or region that was defined last of those that have a match there. Where an item's
+/// `nextgroup` waits, the items of that list come first, and those that are allowed come after it,
+/// unless the wait goes on (`:syn-priority`, `:syn-nextgroup`).
+pub fn the_last_defined_item_starts()
+    ensures { PicksComeFirst }
+{}
+
+/// A region ends in a line at the first column that has an end, of those that its search visits: the
+/// one where it begins, and behind each the one that a skip leads to, or else the next one
+/// (`:syn-pattern`). Behind an end it visits none.
+pub fn a_region_ends_at_the_first_end()
+    ensures right { SearchesGoRight }
+    ensures stands { EndsStandAtColumns }
+    ensures found { ColumnsEndRegions }
+{}
+
+/// A kept end, and the searches where a line begins and behind the pop of a frame with `extend`, reach
+/// the frames from the last one with `extend` on, and none below it. A frame ends at the earliest of
+/// its own end and of the ends that those below it keep. Where a line begins those with `keepend`
+/// search, and the top frame. Behind a pop those with `keepend` do and those above such a one, or else
+/// the exposed frame (`:syn-keepend`, `:syn-extend`).
+pub fn extend_sets_frames_apart()
+    ensures ends { KeptEndsAreEarliest }
+    ensures starts { LinesStartAtReached }
+    ensures pops { PopsSearchReached }
 {}
 
 /// Closing at a place goes on until nothing more closes there, and doesn't stop before.
