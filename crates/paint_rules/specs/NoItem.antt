@@ -1,4 +1,4 @@
--- What stands for a number that no item has. A syntax is asked for its own items alone, so nothing hangs on it.
+-- What stands for a number that no item has. The calls of the painter ask that frames fit the items, so they come to none.
 use Rattle.std.specs.Prelude.{true, false, None}
 use Rattle.syntax_set.specs.declared.added_item.AddedItem.{AddedItem}
 use Rattle.syntax_set.specs.declared.item.Item.{Item}
