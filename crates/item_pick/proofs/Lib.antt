@@ -5,6 +5,7 @@ pub mod KeptLaws
 pub mod ListLaws
 pub mod MatchLaws
 pub mod MemoLaws
+pub mod NeedLaws
 pub mod NextLaws
 pub mod OwnLaws
 pub mod PickLaws

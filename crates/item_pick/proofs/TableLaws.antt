@@ -33,6 +33,8 @@ use Rattle.pattern_screens.specs.Keys.{AreNumbers, is_first, key_numbered, key_o
 use Rattle.pattern_screens.specs.declared.key.Key.{Key}
 use Rattle.pattern_screens.proofs.Stands.{both_true}
 use Rattle.item_pick.specs.declared.choice.Choice.{Choice}
+use Rattle.pattern_needs.specs.LineNeeds.{AreHeld}
+use Rattle.pattern_needs.specs.declared.line_need.LineNeed.{LineNeed}
 use Rattle.item_pick.specs.declared.memory.PickMemory.{PickMemory}
 use Rattle.item_pick.specs.declared.runs.Run.{Run}
 use Rattle.item_pick.specs.declared.runs.Search.{Search}
@@ -44,7 +46,7 @@ use Rattle.item_pick.specs.Screens.{HoldsLine, HoldsLines, IsIdle, IsLater, IsSe
 use Rattle.item_pick.specs.Standing.{first_pattern, has_one_start, IsFirst, IsPatternOf}
 use Rattle.item_pick.specs.Started.{admits, is_free}
 use Rattle.item_pick.specs.Firsts.{idles_before, IsToldOfFirst, sits_by, some_idle}
-use Rattle.item_pick.specs.Tables.{passes, AnchorsStand, EndsStand, IsAnchored, IsCheapWithin, IsEnough, IsMissed, IsNextAt, IsNextIn, IsNumberAt, Lacks, ListStands, LongestStand, MemoryStands, RisesTo, RunsStand, RunStands, StaysOut, TablesStand}
+use Rattle.item_pick.specs.Tables.{AnchorsStand, EndsStand, IsAnchored, IsCheapWithin, IsEnough, IsMissed, IsNeededBy, IsNextAt, IsNextIn, IsNumberAt, Lacks, ListStands, LongestStand, MemoryStands, NeedsStand, passes, RisesTo, RunsStand, RunStands, StaysOut, TablesStand}
 use Rattle.syn_base.specs.Looked.{one_line}
 use Rattle.item_pick.proofs.BehindLaws.{futile_vain}
 use Rattle.item_pick.proofs.MatchLaws.{no_start}
@@ -286,6 +288,8 @@ still_stands r t l a b tables numbers runs stands = record {
   keys = subst (λ v. AreNumbers r.sets (line_at t l) (length (line_at t l) + 1) v.items) (sym numbers) stands.keys;
   runs = subst (RunsStand r t l) (sym runs) stands.runs;
   ends = subst (EndsStand r t l) (sym runs) stands.ends;
+  held = subst (λ many. AreHeld b.runs.held many (line_at t l)) (sym (ap (λ v. length v.items) numbers))
+      (subst (λ known. AreHeld known.held (length a.numbers.items) (line_at t l)) (sym runs) stands.held);
 }
 
 -- ---- lists
@@ -436,4 +440,12 @@ longest_by r longest i stands (Some most) there = stands.told i.0 most there
 pub longest_still : (r : Rules) (old new : Table (Option ℕ)) (i : ItemId) (o : Option ℕ) → IsPut (IsAt old) (IsAt new) i.0 o → LongestStand r old → IfSome o (IsCheapWithin r i) → LongestStand r new
 longest_still r old new i o put stands own = record {
   told = λ item most there. all_still (λ k e. IfSome e (IsCheapWithin r (item_numbered k))) (IsAt old) (IsAt new) i.0 o put (λ k e was. longest_by r old (item_numbered k) stands e was) own item (Some most) there;
+}
+
+-- ---- what lines need
+
+-- an answer that is kept
+pub needs_still : (r : Rules) (old new : Table (Option LineNeed)) (i : ItemId) (o : Option LineNeed) → IsPut (IsAt old) (IsAt new) i.0 o → NeedsStand r old → IfSome o (IsNeededBy r i) → NeedsStand r new
+needs_still r old new i o put stands own = record {
+  told = λ item need there. all_still (λ k e. IfSome e (IsNeededBy r (item_numbered k))) (IsAt old) (IsAt new) i.0 o put (λ k e was. stands.told k e was) own item need there;
 }

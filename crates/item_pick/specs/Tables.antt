@@ -14,6 +14,8 @@ use Rattle.syntax_set.specs.declared.item.ItemKind.{ItemKind}
 use Rattle.syntax_set.specs.declared.item.ItemKind.TheVariants.{Keyword, Match, Region}
 use Rattle.syntax_set.specs.declared.item.Pattern.{Pattern}
 use Rattle.paint_rules.specs.Rules.{Rules, item_of}
+use Rattle.pattern_needs.specs.LineNeeds.{AreHeld, IsLineNeedOf, LacksNeed}
+use Rattle.pattern_needs.specs.declared.line_need.LineNeed.{LineNeed}
 use Rattle.pattern_screens.specs.Behind.{is_cheap_behind}
 use Rattle.pattern_screens.specs.Failing.{fails, fails_at}
 use Rattle.pattern_screens.specs.Following.{fails_after, takes_first}
@@ -123,6 +125,23 @@ IsCheapWithin r i most =
 pub record LongestStand (r : Rules) (longest : Table (Option ℕ)) : Type 0 where
   pub told : (item most : ℕ) → IsAt longest item (Some most) → IsCheapWithin r (item_numbered item) most
 
+-- each pattern by which an item starts needs what this says
+abbrev pub IsNeededBy : Rules → ItemId → LineNeed → Type 0
+IsNeededBy r i need =
+    (pattern : Pattern) → IsPatternOf (item_of r.items i).kind pattern →
+    IsLineNeedOf r.sets (item_of r.items i).ignore r.budget pattern.tree need
+
+-- of which items it was told
+pub record NeedsStand (r : Rules) (needs : Table (Option LineNeed)) : Type 0 where
+  pub told : (item : ℕ) (need : Option LineNeed) → IsAt needs item need →
+      IfSome need (IsNeededBy r (item_numbered item))
+
+-- the line lacks what each pattern needs by which an item starts
+abbrev pub IsLackedIn : Rules → List ℕ → ItemId → Type 0
+IsLackedIn r line i =
+    (pattern : Pattern) → IsPatternOf (item_of r.items i).kind pattern →
+    LacksNeed r.sets (item_of r.items i).ignore r.budget pattern.tree line
+
 -- the column is one of the line's, its end included, and its key has this number
 abbrev pub IsNumberAt : Rules → List ℕ → ℕ → ℕ → Type 0
 IsNumberAt r line col number =
@@ -147,6 +166,7 @@ pub record TablesStand (r : Rules) (memory : PickMemory) : Type 0 where
   pub shut : AnswersStand (is_shut_at r.items r.sets r.budget) memory.shut
   pub anchors : AnchorsStand r memory.anchors
   pub longest : LongestStand r memory.longest
+  pub needs : NeedsStand r memory.needs
 
 -- ---- what is known of the line
 
@@ -176,3 +196,4 @@ pub record MemoryStands (r : Rules) (t : Text) (l : ℕ) (memory : PickMemory) :
   pub keys : AreNumbers r.sets (line_at t l) (length (line_at t l) + 1) memory.numbers.items
   pub runs : RunsStand r t l memory.runs
   pub ends : EndsStand r t l memory.runs
+  pub held : AreHeld memory.runs.held (length memory.numbers.items) (line_at t l)

@@ -8,13 +8,13 @@ ghost use Rattle.paint_rules.specs.Rules.{Rules, item_of, place_at};
 ghost use Rattle.pattern_screens.specs.Failing.{fails_at};
 ghost use Rattle.pattern_screens.specs.Following.{fails_after};
 ghost use Rattle.pattern_screens.specs.Keys.{AreNumbers};
-ghost use Rattle.item_pick.specs.Firsts.{IsToldOfFirst, rest_asked};
+ghost use Rattle.item_pick.specs.Firsts.{IsToldOfFirst};
 ghost use Rattle.item_pick.specs.PartsSeen.{rules_in};
 ghost use Rattle.item_pick.specs.Quiet.{IsPassed, IsQuiet, item_numbered};
 ghost use Rattle.item_pick.specs.Runs.{TellsOf};
 ghost use Rattle.item_pick.specs.Screens.{HoldsLine};
 ghost use Rattle.item_pick.specs.Standing.{ChoiceFits, IsFirst, IsItem, IsOwn};
-ghost use Rattle.item_pick.specs.Tables.{IsAnchored, IsCheapWithin, IsMissed, IsNextAt, IsNextIn, IsNumberAt, MemoryStands, RowStands, RunStands, TablesStand};
+ghost use Rattle.item_pick.specs.Tables.{IsAnchored, IsMissed, IsNextAt, IsNextIn, IsNumberAt, MemoryStands, RowStands, RunStands, TablesStand};
 
 use crate::asked::Asked;
 use crate::choice::Choice;
@@ -27,9 +27,10 @@ use crate::runs::{Run, Runs, Search, holds};
 use crate::syntax::Syntax;
 use crate::tables::{ANY, Row};
 use crate::wandering::wanders;
+use pattern_needs::LineNeed;
 use pattern_screens::{
-    are_within, begins_behind, fails_after, fails_at, fails_past_first, longest_behind,
-    number_line, rest_fails, takes_first, two_lines,
+    are_within, begins_behind, fails_after, fails_at, fails_past_first, number_line, takes_first,
+    two_lines,
 };
 use region_ends::{EndAnswer, KeyAnswers, item_of};
 use slots::{Grid, Table};
@@ -53,7 +54,7 @@ pub struct PickMemory {
     /// Whether attempts by the first start pattern of an item are in vain.
     vains: KeyAnswers,
     /// Whether what follows the first piece of that pattern is in vain.
-    behinds: KeyAnswers,
+    pub(crate) behinds: KeyAnswers,
     /// Whether they are in vain one column before.
     afters: KeyAnswers,
     /// Whether an item can't start one column before.
@@ -65,7 +66,11 @@ pub struct PickMemory {
     /// Of how many characters a line and the one before may be together, so that attempts by that
     /// pattern, which begins with a look behind, are within the budget where what follows is in vain,
     /// by the number of the item.
-    longest: Table<Option<u64>>,
+    pub(crate) longest: Table<Option<u64>>,
+    /// What a line must hold so that an item has a match in it, by the number of the item.
+    pub(crate) needs: Table<Option<LineNeed>>,
+    /// How many times it was asked for, of those of which it isn't known.
+    pub(crate) times: Table<u8>,
     pub(crate) numbers: Vec<u16>,
     pub(crate) runs: Runs,
 }
@@ -87,6 +92,8 @@ impl PickMemory {
             shut: KeyAnswers::new(alloc),
             anchors: Table::new(alloc),
             longest: Table::new(alloc),
+            needs: Table::new(alloc),
+            times: Table::new(alloc),
             numbers: Vec::new(alloc),
             runs: Runs::new(alloc),
         }
@@ -99,7 +106,7 @@ impl PickMemory {
             TablesStand (rules_in parts.now budget) self.old →
             IfOk result (λ _. MemoryStands (rules_in parts.now budget) t l self.new) }
     {
-        self.runs.clear();
+        self.runs.enter(line);
         number_line(parts.sets, line, &mut self.numbers)
     }
 
@@ -171,23 +178,29 @@ impl PickMemory {
     }
 
     /// Whether an item is known to have no match with its item start at a column.
-    fn is_settled(&self, id: u32, search: &Search<'_>) -> bool
-        ensures { IsTrue result → (r : Rules) (t : Text) (l : ℕ) → MemoryStands r t l self.now →
+    fn is_settled(&self, _asked: &Asked, id: u32, search: &Search<'_>) -> bool
+        ensures { IsTrue result → (t : Text) (l : ℕ) →
+            MemoryStands (rules_in _asked.now.parts.now _asked.now.budget) t l self.now →
             HoldsLine search.now.looked l →
-            IsQuiet r t (place_at l search.now.at) search.now.floor search.now.looked
-            (item_numbered id) }
+            IsQuiet (rules_in _asked.now.parts.now _asked.now.budget) t (place_at l search.now.at)
+            search.now.floor search.now.looked (item_numbered id) }
     {
+        if self.is_lacked(id) {
+            return true;
+        }
         self.runs.covers(ItemId(id), search, self.numbers.len())
     }
 
     /// Whether an item has started at a column, or is known not to.
-    fn is_passed(&self, id: u32, search: &Search<'_>) -> bool
-        ensures { IsTrue result → (r : Rules) (t : Text) (l : ℕ) → MemoryStands r t l self.now →
+    fn is_passed(&self, asked: &Asked, id: u32, search: &Search<'_>) -> bool
+        ensures { IsTrue result → (t : Text) (l : ℕ) →
+            MemoryStands (rules_in asked.now.parts.now asked.now.budget) t l self.now →
             HoldsLine search.now.looked l →
-            IsPassed r t (place_at l search.now.at) search.now.floor search.now.looked
-            (reverse search.now.tried.now) (item_numbered id) }
+            IsPassed (rules_in asked.now.parts.now asked.now.budget) t (place_at l search.now.at)
+            search.now.floor search.now.looked (reverse search.now.tried.now)
+            (item_numbered id) }
     {
-        search.tried.has(ItemId(id)) || self.is_settled(id, search)
+        search.tried.has(ItemId(id)) || self.is_settled(asked, id, search)
     }
 
     /// Whether an item is known not to start at a column by what stands one column behind.
@@ -223,7 +236,7 @@ impl PickMemory {
             search.now.floor search.now.looked (reverse search.now.tried.now)
             (item_numbered id) }
     {
-        if self.is_passed(id, search) {
+        if self.is_passed(asked, id, search) {
             return true;
         }
         self.is_idle(asked, id, search)
@@ -547,62 +560,6 @@ impl PickMemory {
     }
 }
 
-impl PickMemory {
-    /// Of how many characters a line and the one before may be together, so that attempts by the first
-    /// start pattern of an item, which begins with a look behind, are within the budget where what
-    /// follows is in vain. The answer is kept.
-    fn longest_behind(
-        &mut self,
-        asked: &Asked,
-        id: ItemId,
-        pattern: &Pattern,
-    ) -> Result<Option<u64>, Memory>
-        requires first { IsFirst (rules_in asked.now.parts.now asked.now.budget) id pattern.now }
-        requires stands { TablesStand (rules_in asked.now.parts.now asked.now.budget) self.old }
-        ensures stands { TablesStand (rules_in asked.now.parts.now asked.now.budget) self.new }
-        ensures numbers { self.new.numbers ≡ self.old.numbers }
-        ensures runs { self.new.runs ≡ self.old.runs }
-        ensures cheap { IfOk result (λ longest. IfSome longest
-            (IsCheapWithin (rules_in asked.now.parts.now asked.now.budget) id)) }
-    {
-        match self.longest.get(id.0 as usize) {
-            Some(longest) => return Ok(longest),
-            None => {}
-        }
-        let longest = longest_behind(&pattern.tree, asked.budget);
-        self.longest.put(id.0 as usize, longest)?;
-        Ok(longest)
-    }
-
-    /// Whether what follows the first piece of the first start pattern of an item is in vain at a column
-    /// whose key has a number. The answer is kept.
-    fn is_vain_behind(
-        &mut self,
-        asked: &Asked,
-        id: ItemId,
-        pattern: &Pattern,
-        number: u16,
-    ) -> Result<bool, Memory>
-        requires item { IsItem (rules_in asked.now.parts.now asked.now.budget) id }
-        requires first { IsFirst (rules_in asked.now.parts.now asked.now.budget) id pattern.now }
-        requires stands { TablesStand (rules_in asked.now.parts.now asked.now.budget) self.old }
-        ensures stands { TablesStand (rules_in asked.now.parts.now asked.now.budget) self.new }
-        ensures numbers { self.new.numbers ≡ self.old.numbers }
-        ensures runs { self.new.runs ≡ self.old.runs }
-        ensures vain { IfOk result (λ vain. IsTrue vain →
-            IsToldOfFirst rest_asked (rules_in asked.now.parts.now asked.now.budget) number id) }
-    {
-        match self.behinds.known(number, id) {
-            Some(vain) => return Ok(vain),
-            None => {}
-        }
-        let ignore = item_of(asked.parts.items, id).ignore;
-        let is = rest_fails(&pattern.tree, asked.parts.sets, ignore, number);
-        self.behinds.keep(number, id, is)?;
-        Ok(is)
-    }
-}
-
 impl Memo<Asked<'_>> for PickMemory {
     ghost stands = { λ memory a t l. MemoryStands (rules_in a.parts.now a.budget) t l memory };
 
@@ -615,6 +572,9 @@ impl Memo<Asked<'_>> for PickMemory {
         col: usize,
         looked: Looked,
     ) -> Result<usize, Memory> {
+        if self.lacks_need(picking.syntax, id)? {
+            return Ok(col.max(picking.last() + 1));
+        }
         if start != 0 || !wanders(pattern) {
             return Ok(col);
         }

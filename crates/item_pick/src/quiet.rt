@@ -272,7 +272,7 @@ impl<T: Lines> Picking<'_, T, Asked<'_>> {
     {
         let choice = self.allowed(stack);
         let last = self.last();
-        let settled = memory.settled_until(choice, &self.search(looked));
+        let settled = memory.settled_until(self.syntax, choice, &self.search(looked));
         for col in self.at.col..last {
             let quiet = self.is_quiet(choice, col, looked, settled, memory)?;
             if !quiet {

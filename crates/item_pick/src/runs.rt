@@ -1,6 +1,8 @@
 //! What is known of the line that is painted: from which columns an item isn't matched, and where
 //! regions end.
-ghost use Rattle.std.specs.Prelude.{◌≡◌, ◌<◌, ◌≤◌, ◌-◌, ◌+◌, ◌^◌, ℕ, length, IfSome, IsTrue};
+ghost use Rattle.std.specs.Prelude.{◌≡◌, ◌<◌, ◌≤◌, ◌-◌, ◌+◌, ◌^◌, ℕ, length, true, IfSome, IsTrue};
+ghost use Rattle.std.specs.List.{All};
+ghost use Rattle.pattern_needs.specs.Held.{holds};
 ghost use Rattle.match_rules.specs.Ways.{Text, line_at};
 ghost use Rattle.paint_rules.specs.Rules.{Rules, item_of, place_at};
 ghost use Rattle.item_pick.specs.PartsSeen.{rules_in};
@@ -13,6 +15,7 @@ ghost use Rattle.item_pick.specs.Screens.{HoldsLine, HoldsLines};
 use crate::asked::Asked;
 use crate::columns::Columns;
 use crate::tried::Tried;
+use pattern_needs::Held;
 use region_ends::{EndMemo, item_of};
 use slots::Slots;
 use std::alloc::Global;
@@ -60,6 +63,8 @@ pub(crate) struct Runs {
     /// By the number of the item.
     list: Slots<Run>,
     pub(crate) ends: EndMemo,
+    /// The characters of the line.
+    pub(crate) held: Held,
 }
 
 impl Run {
@@ -153,16 +158,19 @@ impl Runs {
         Runs {
             list: Slots::new(alloc),
             ends: EndMemo::new(alloc),
+            held: Held::none(),
         }
     }
 
-    /// Forgets what was known.
-    pub(crate) fn clear(&mut self)
+    /// Forgets what was known, and begins a line.
+    pub(crate) fn enter(&mut self, line: &[char])
         ensures list { (r : Rules) (t : Text) (l : ℕ) → RunsStand r t l self.new }
         ensures ends { (r : Rules) (t : Text) (l : ℕ) → EndsStand r t l self.new }
+        ensures held { All (λ c. holds self.new.held c ≡ true) line.now }
     {
         self.list.clear();
         self.ends.clear();
+        self.held = Held::of(line);
     }
 
     /// The run of an item that holds a column or ends there, and tells of a place.
@@ -217,6 +225,7 @@ impl Runs {
     /// Keeps a run at the place of its item, unless it is empty.
     pub(crate) fn keep(&mut self, run: Run) -> Result<(), Memory>
         ensures ends { self.new.ends ≡ self.old.ends }
+        ensures held { self.new.held ≡ self.old.held }
         ensures list { (r : Rules) (t : Text) (l : ℕ) → RunsStand r t l self.old →
             RunStands r t l run → RunsStand r t l self.new }
     {

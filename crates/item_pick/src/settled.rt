@@ -18,19 +18,36 @@ use crate::tables::ANY;
 use syn_base::ItemId;
 
 impl PickMemory {
+    /// The first column from that of a search on at which an item isn't known to have no match, at most
+    /// the line's end and one.
+    fn settled_to(&self, _asked: &Asked, id: u32, search: &Search<'_>) -> usize
+        ensures { (t : Text) (l : ℕ) →
+            MemoryStands (rules_in _asked.now.parts.now _asked.now.budget) t l self.now →
+            HoldsLine search.now.looked l → (c : ℕ) → search.now.at ≤ c → c < result →
+            IsQuiet (rules_in _asked.now.parts.now _asked.now.budget) t (place_at l c)
+            search.now.floor search.now.looked (item_numbered id) }
+    {
+        if self.is_lacked(id) {
+            return self.numbers.len();
+        }
+        self.runs
+            .covers_until(ItemId(id), search, self.numbers.len())
+    }
+
     /// The first column from that of a search on at which it isn't known of all items of a list that
     /// they have no match there.
-    fn list_settled_until(&self, list: &[u32], search: &Search<'_>) -> usize
-        ensures { (r : Rules) (t : Text) (l : ℕ) → MemoryStands r t l self.now →
+    fn list_settled_until(&self, asked: &Asked, list: &[u32], search: &Search<'_>) -> usize
+        ensures { (t : Text) (l : ℕ) →
+            MemoryStands (rules_in asked.now.parts.now asked.now.budget) t l self.now →
             HoldsLine search.now.looked l → (k : ℕ) → k < length list.now →
             (c : ℕ) → search.now.at ≤ c → c < result →
-            IsQuiet r t (place_at l c) search.now.floor search.now.looked
-            (item_numbered (get_or list.now k 0)) }
+            IsQuiet (rules_in asked.now.parts.now asked.now.budget) t (place_at l c)
+            search.now.floor search.now.looked (item_numbered (get_or list.now k 0)) }
     {
         let count = self.numbers.len();
         let mut end = count;
         for id in list {
-            let to = self.runs.covers_until(ItemId(*id), search, count);
+            let to = self.settled_to(asked, *id, search);
             if to <= search.at {
                 return search.at;
             }
@@ -40,16 +57,18 @@ impl PickMemory {
     }
 
     /// The same of those items of a choice that wander.
-    pub(crate) fn settled_until(&self, choice: Choice, search: &Search<'_>) -> usize
-        ensures { (r : Rules) (t : Text) (l : ℕ) → MemoryStands r t l self.now →
+    pub(crate) fn settled_until(&self, asked: &Asked, choice: Choice, search: &Search<'_>) -> usize
+        ensures { (t : Text) (l : ℕ) →
+            MemoryStands (rules_in asked.now.parts.now asked.now.budget) t l self.now →
             HoldsLine search.now.looked l →
-            AreSettled r t l choice search.now.floor search.now.looked search.now.at result }
+            AreSettled (rules_in asked.now.parts.now asked.now.budget) t l choice search.now.floor
+            search.now.looked search.now.at result }
     {
         let Some(all) = self.row(choice, ANY) else {
             return search.at;
         };
         match &all.wandering {
-            Some(list) => self.list_settled_until(list.as_slice(), search),
+            Some(list) => self.list_settled_until(asked, list.as_slice(), search),
             None => search.at,
         }
     }

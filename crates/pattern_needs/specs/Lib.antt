@@ -3,5 +3,7 @@ pub mod Needs
 pub mod LineRooms
 pub mod Lacking
 pub mod NeedsLaw
+pub mod Held
+pub mod LineNeeds
 -- what only code and proofs cite
 pub mod Asking

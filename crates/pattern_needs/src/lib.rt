@@ -10,12 +10,16 @@ ghost use Rattle.pattern_needs.specs.NeedsLaw.{AreNeedsSound};
 mod asked;
 mod atoms;
 mod by;
+mod held;
+mod line_need;
 mod longest;
 mod needs;
 mod piece;
 mod room;
 mod rooms;
 
+pub use held::Held;
+pub use line_need::LineNeed;
 pub use longest::longest_cheap;
 pub use needs::Needs;
 

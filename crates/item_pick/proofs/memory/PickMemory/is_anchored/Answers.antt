@@ -26,6 +26,7 @@ returns-in_err-put-clause-stands c =
       anchors = anchors_still r c.args.self.now.anchors c.put.new.self c.args.id c.fails_past_first-is.result c.put.ensures.kept stands.anchors
           (λ e. anchored_by r c.args.id c.item_of.result.now.ignore (ap (λ (x : Item). x.ignore) c.item_of.ensures) c.args.pattern.now c.requires.first (c.fails_past_first-is.ensures e));
       longest = stands.longest;
+      needs = stands.needs;
     }
 
 pub returns-clause-stands : goal.returns-clause-stands
@@ -43,6 +44,7 @@ returns-clause-stands c =
       anchors = anchors_still r c.args.self.now.anchors c.put.new.self c.args.id c.fails_past_first-is.result c.put.ensures.kept stands.anchors
           (λ e. anchored_by r c.args.id c.item_of.result.now.ignore (ap (λ (x : Item). x.ignore) c.item_of.ensures) c.args.pattern.now c.requires.first (c.fails_past_first-is.ensures e));
       longest = stands.longest;
+      needs = stands.needs;
     }
 
 pub returns-clause-anchored : goal.returns-clause-anchored

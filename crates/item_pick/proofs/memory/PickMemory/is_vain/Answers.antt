@@ -26,6 +26,7 @@ returns-in_err-keep-clause-stands c =
       shut = c.requires.stands.shut;
       anchors = c.requires.stands.anchors;
       longest = c.requires.stands.longest;
+      needs = c.requires.stands.needs;
     }
 
 pub returns-clause-stands : goal.returns-clause-stands
@@ -42,6 +43,7 @@ returns-clause-stands c =
       shut = c.requires.stands.shut;
       anchors = c.requires.stands.anchors;
       longest = c.requires.stands.longest;
+      needs = c.requires.stands.needs;
     }
 
 pub returns-clause-vain : goal.returns-clause-vain

@@ -27,6 +27,7 @@ returns-in_err-keep-clause-stands c =
       shut = c.requires.stands.shut;
       anchors = c.requires.stands.anchors;
       longest = c.requires.stands.longest;
+      needs = c.requires.stands.needs;
     }
 
 pub returns-in_err-keep-2-clause-stands : goal.returns-in_err-keep-2-clause-stands
@@ -46,6 +47,7 @@ returns-in_err-keep-2-clause-stands c =
       shut = c.requires.stands.shut;
       anchors = c.requires.stands.anchors;
       longest = c.requires.stands.longest;
+      needs = c.requires.stands.needs;
     }
 
 pub returns-clause-stands : goal.returns-clause-stands
@@ -65,6 +67,7 @@ returns-clause-stands c =
       shut = c.requires.stands.shut;
       anchors = c.requires.stands.anchors;
       longest = c.requires.stands.longest;
+      needs = c.requires.stands.needs;
     }
 
 pub returns-clause-vain : goal.returns-clause-vain

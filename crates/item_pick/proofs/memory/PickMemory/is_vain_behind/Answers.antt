@@ -25,6 +25,7 @@ returns-in_err-keep-clause-stands c =
       shut = c.requires.stands.shut;
       anchors = c.requires.stands.anchors;
       longest = c.requires.stands.longest;
+      needs = c.requires.stands.needs;
     }
 
 pub returns-clause-stands : goal.returns-clause-stands
@@ -41,6 +42,7 @@ returns-clause-stands c =
       shut = c.requires.stands.shut;
       anchors = c.requires.stands.anchors;
       longest = c.requires.stands.longest;
+      needs = c.requires.stands.needs;
     }
 
 pub returns-clause-vain : goal.returns-clause-vain

@@ -17,4 +17,5 @@ returns-clause-stands c r tables row = record {
   shut = tables.shut;
   anchors = tables.anchors;
   longest = tables.longest;
+  needs = tables.needs;
 }

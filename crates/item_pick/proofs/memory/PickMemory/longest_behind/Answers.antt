@@ -25,6 +25,7 @@ returns-in_err-put-clause-stands c =
       anchors = stands.anchors;
       longest = longest_still r c.args.self.now.longest c.put.new.self c.args.id c.longest_behind-longest.result c.put.ensures.kept stands.longest
           (cheap_by r c.args.id c.args.pattern.now c.requires.first c.longest_behind-longest.result c.longest_behind-longest.ensures);
+      needs = stands.needs;
     }
 
 pub returns-clause-stands : goal.returns-clause-stands
@@ -42,6 +43,7 @@ returns-clause-stands c =
       anchors = stands.anchors;
       longest = longest_still r c.args.self.now.longest c.put.new.self c.args.id c.longest_behind-longest.result c.put.ensures.kept stands.longest
           (cheap_by r c.args.id c.args.pattern.now c.requires.first c.longest_behind-longest.result c.longest_behind-longest.ensures);
+      needs = stands.needs;
     }
 
 pub returns-clause-cheap : goal.returns-clause-cheap

@@ -20,6 +20,7 @@ returns-in_err-row-in-Some-row_at-clause-stands c = record {
   shut = c.make_whole.ensures.stands.shut;
   anchors = c.make_whole.ensures.stands.anchors;
   longest = c.make_whole.ensures.stands.longest;
+  needs = c.make_whole.ensures.stands.needs;
 }
 
 pub returns-clause-stands : goal.returns-clause-stands
@@ -35,5 +36,6 @@ returns-clause-stands c =
       shut = c.make_whole.ensures.stands.shut;
       anchors = c.make_whole.ensures.stands.anchors;
       longest = c.make_whole.ensures.stands.longest;
+      needs = c.make_whole.ensures.stands.needs;
     })
     c.in_ok-row-in-Some-row_at.ensures.row

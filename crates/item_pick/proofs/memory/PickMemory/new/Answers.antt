@@ -20,4 +20,5 @@ returns c r = record {
   shut = c.new-8.ensures (is_shut_at r.items r.sets r.budget);
   anchors = record { told = λ item there. absurd (c.new-9.ensures item true there) };
   longest = record { told = λ item most there. absurd (c.new-10.ensures item (Some most) there) };
+  needs = record { told = λ item need there. absurd (c.new-11.ensures item need there) };
 }

@@ -1,13 +1,15 @@
 use Rattle.std.proofs.Common.{◌<◌, ◌≤◌, ℕ, List, get_or, length, subst}
 use Rattle.std.specs.Prelude.{IfSome, true}
 use Rattle.paint_rules.specs.Rules.{place_at}
+use Rattle.item_pick.specs.PartsSeen.{rules_in}
 use Rattle.item_pick.specs.Quiet.{IsQuiet, item_numbered}
 use Rattle.item_pick.specs.Tables.{HasThose, ListStands}
 use Rattle.item_pick.proofs.SettledLaws.{settled_by}
 use Rattle.item_pick.proofs.memory.PickMemory.settled_until.Goals as goal
 
 pub returns-in-Some-wandering : goal.returns-in-Some-wandering
-returns-in-Some-wandering c r t l memory held =
+returns-in-Some-wandering c t l memory held =
+    let r = rules_in c.args.asked.now.parts.now c.args.asked.now.budget in
     let sought = c.args.search.now in
     let row = c.in-Some.all.now in
     let told = c.in-Some.ensures in
@@ -18,4 +20,4 @@ returns-in-Some-wandering c r t l memory held =
     let has = subst (λ o. IfSome o (λ those. HasThose r true row.items.items those.items)) c.in-Some-wandering.is row-stands.wandering in
     settled_by r t l c.args.choice sought.floor sought.looked sought.at c.list_settled_until.result row.items.items c.in-Some-wandering.list.items stands has
     (subst (λ (list : List ℕ). (n : ℕ) → n < length list → (x : ℕ) → sought.at ≤ x → x < c.list_settled_until.result → IsQuiet r t (place_at l x) sought.floor sought.looked (item_numbered (get_or list n 0))) c.as_slice.ensures.value
-    (c.list_settled_until.ensures r t l memory held))
+    (c.list_settled_until.ensures t l memory held))

@@ -1,5 +1,7 @@
-use Rattle.std.proofs.Common.{arith, subst, sym}
+use Rattle.std.proofs.Common.{arith, length, subst, sym}
 use Rattle.item_pick.specs.PartsSeen.{rules_in}
+use Rattle.match_rules.specs.Ways.{line_at}
+use Rattle.pattern_needs.specs.LineNeeds.{AreHeld}
 use Rattle.region_ends.specs.EndMemo.{EndMemoStands}
 use Rattle.item_pick.proofs.TableLaws.{run_and}
 use Rattle.item_pick.proofs.memory.PickMemoryMemoAsked.note.Goals as goal
@@ -14,7 +16,7 @@ returns g c =
     let run = c.run_at-run.result in
     let first = c.requires.first (omega (arith, c.if-start-ne0.false)) in
     record {
-      tables = record { rows = stands.tables.rows; outs = stands.tables.outs; vains = stands.tables.vains; behinds = stands.tables.behinds; afters = stands.tables.afters; idles = stands.tables.idles; shut = stands.tables.shut; anchors = stands.tables.anchors; longest = stands.tables.longest };
+      tables = record { rows = stands.tables.rows; outs = stands.tables.outs; vains = stands.tables.vains; behinds = stands.tables.behinds; afters = stands.tables.afters; idles = stands.tables.idles; shut = stands.tables.shut; anchors = stands.tables.anchors; longest = stands.tables.longest; needs = stands.tables.needs };
       keys = stands.keys;
       runs = c.keep.ensures.list r t l stands.runs
           (run_and r t l c.args.id c.args.pattern.now first run c.args.col c.args.places.first c.args.places.end
@@ -22,4 +24,5 @@ returns g c =
           c.both-places.result.first c.both-places.result.end
           c.both-places.ensures.first.0 c.both-places.ensures.first.1 c.both-places.ensures.end.0 c.both-places.ensures.end.1);
       ends = subst (λ ends. EndMemoStands r.items r.sets r.budget t l ends) (sym c.keep.ensures.ends) stands.ends;
+      held = subst (λ held. AreHeld held (length c.args.self.now.numbers.items) (line_at t l)) (sym c.keep.ensures.held) stands.held;
     }
