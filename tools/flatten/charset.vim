@@ -7,6 +7,8 @@ import './tree.vim'
 
 const alphabet = join(map(range(1, 9) + range(11, 255) + [0x101, 0x3b1, 0x4e00, 0x1f600], (_, code) => nr2char(code)), '')
 
+const letters = split(alphabet, '\zs')
+
 var sets: dict<string> = {}    # of atoms as they are spelled, what they take
 
 # What an atom takes, with case ignored or not. An atom that takes no room takes nothing.
@@ -24,15 +26,19 @@ export def SetOf(pattern: string, atom: any, ignore: bool): string
   endif
   const spelled = (ignore ? '\c' : '\C') .. ['\V', '\M', '\m', '\v'][atom.level] .. text
   if !has_key(sets, spelled)
-    sets[spelled] = Without(alphabet, substitute(alphabet, spelled, '', 'g'))
+    sets[spelled] = Left(letters, substitute(alphabet, spelled, '', 'g'))
   endif
   return sets[spelled] .. (kind ==# 'line' ? "\n" : '')
 enddef
 
 # What is in one set and not in another.
 export def Without(set: string, other: string): string
+  return Left(split(set, '\zs'), other)
+enddef
+
+def Left(set: list<string>, other: string): string
   var left = ''
-  for c in split(set, '\zs')
+  for c in set
     if stridx(other, c) < 0
       left ..= c
     endif

@@ -66,41 +66,52 @@ enddef
 
 # A match or region: its patterns and lists in their usual spelling.
 def FlatItem(text: string): dict<list<string>>
-  var pieces = cut.KnownPieces(text)
+  const [sub, given, _] = cut.Head(text)
+  const group = given ==# '' ? '' : GroupName(given)
   var [parts, causes] = [[], []]
-  for i in range(len(pieces) - 1)
-    const piece = strpart(text, pieces[i].from, pieces[i].to - pieces[i].from)
-    const gap = strpart(text, pieces[i].to, pieces[i + 1].from - pieces[i].to)
-    final flat = FlatPiece(pieces[i].kind, piece)
-    extend(causes, flat[1 :])
-    add(parts, item.Part(pieces[i].kind, flat[0], gap))
+  var piece: any = {}
+  for next in cut.KnownPieces(text)
+    if has_key(piece, 'kind')
+      const flat = FlatPiece(piece.kind, strpart(text, piece.from, piece.to - piece.from), causes)
+      add(parts, item.Part(piece.kind, flat, strpart(text, piece.to, next.from - piece.to)))
+    endif
+    piece = next
   endfor
-  const [sub, group, _] = cut.Head(parts[0].text)
-  NoteGroup(group, WordsOf(text, pieces))
+  if group !=# ''
+    parts[0].text = HeadText(sub, group)
+  endif
+  NoteGroup(group, item.HasWord(parts, 'contained'))
   if causes != [] && match(causes, '^left out') >= 0
     return Form([], causes)
   endif
-  const made = cut.Trimmed(item.TextOf(item.Respell(sub, group, parts, causes)))
+  const made = cut.Trimmed(item.Respell(sub, group, parts, causes))
   return Form(long_match.Split(made), causes)
 enddef
 
-# A piece, and behind it the causes why it doesn't mean all that it means.
-def FlatPiece(kind: string, piece: string): list<string>
-  if kind ==# 'head'
-    return [FlatHead(piece)]
-  elseif kind ==# 'pattern'
-    const inner = strpart(piece, 1, len(piece) - 2)
-    const [usual, cause] = pattern.Respell(inner)
-    final counted = counts.Respell(usual)
-    final limited = behind.Respell(counted.pattern)
-    const made = limited.pattern ==# inner ? piece : pattern.Delimited(limited.pattern, piece[0])
-    return [made] + (cause ==# '' ? [] : [cause]) + counted.causes + limited.causes
+# A piece. The causes why it doesn't mean all that it means are added to a list.
+def FlatPiece(kind: string, piece: string, causes: list<string>): string
+  if kind ==# 'pattern'
+    return FlatPattern(piece, causes)
   elseif kind ==# 'list'
-    return [FlatList(piece)] + ListCauses(piece)
+    extend(causes, ListCauses(piece))
+    return FlatList(piece)
   elseif stridx(piece, '|') > 0 && piece =~? '^cchar\s*=\s*|'
-    return ['', 'this character can''t be told']
+    add(causes, 'this character can''t be told')
+    return ''
   endif
-  return [piece]
+  return piece
+enddef
+
+def FlatPattern(piece: string, causes: list<string>): string
+  const inner = strpart(piece, 1, len(piece) - 2)
+  const [usual, cause] = pattern.Respell(inner)
+  final counted = counts.Respell(usual)
+  final limited = behind.Respell(counted.pattern)
+  if cause !=# ''
+    add(causes, cause)
+  endif
+  extend(extend(causes, counted.causes), limited.causes)
+  return limited.pattern ==# inner ? piece : pattern.Delimited(limited.pattern, piece[0])
 enddef
 
 def ReservedCause(name: string): string
@@ -109,7 +120,11 @@ enddef
 
 def FlatHead(text: string): string
   const [sub, group, _] = cut.Head(text)
-  return group ==# '' ? text : 'syn ' .. sub .. ' ' .. GroupName(group) .. ' '
+  return group ==# '' ? text : HeadText(sub, GroupName(group))
+enddef
+
+def HeadText(sub: string, group: string): string
+  return 'syn ' .. sub .. ' ' .. group .. ' '
 enddef
 
 const reserved_words = {none: true, all: true, allbut: true, top: true, contained: true, contains: true}
@@ -123,11 +138,11 @@ def GroupName(name: string): string
   return get(reserved, key, name)
 enddef
 
-# Notes the group of an item, and whether 'contained' is among its words, which are in small letters.
-def NoteGroup(name: string, words: list<string>)
+# Notes the group of an item, and whether 'contained' is among its words.
+def NoteGroup(name: string, contained: bool)
   const key = tolower(name)
   cluster.groups[key] = name
-  frame.frames[-1][index(words, 'contained') < 0 ? 'tops' : 'contained'][key] = 1
+  frame.frames[-1][contained ? 'contained' : 'tops'][key] = 1
 enddef
 
 def WordsOf(text: string, pieces: list<dict<any>>): list<string>
@@ -142,10 +157,23 @@ enddef
 
 # A list of names without empty ones.
 def FlatList(text: string): string
+  if IsUsualList(text)
+    return text
+  endif
   const equals = stridx(text, '=')
   const key = trim(strpart(text, 0, equals))
   final names = Names(strpart(text, equals + 1))
   return key .. '=' .. join(key ==? 'nextgroup' ? names : scope.Scoped(names), ',')
+enddef
+
+# Whether a list is sure to stay as it is.
+def IsUsualList(text: string): bool
+  for other in [' ', "\t", ',,', '|', '=,', '=ALL', '=TOP']
+    if stridx(text, other) >= 0
+      return false
+    endif
+  endfor
+  return reserved == {} && text[-1] !=# ',' && stridx(tolower(text), 'none') < 0
 enddef
 
 def ListCauses(text: string): list<string>
@@ -178,12 +206,13 @@ enddef
 
 # Keywords: words that only Vim takes are put as matches where they can match at all.
 def FlatKeywords(text: string): dict<list<string>>
-  const rest = strpart(text, cut.Head(text)[2])
-  const all = split(tolower(rest))
-  if text !~# '[\\|"=]\|\s\[' && !HasOther(all)
-    const front = FlatHead(text)
-    NoteGroup(cut.Head(front)[1], all)
-    return Form([front .. rest], [])
+  const [sub, group, from] = cut.Head(text)
+  const rest = strpart(text, from)
+  final all = split(tr(tolower(rest), "\t", ' '), ' ')
+  if IsUsualWords(text) && !HasOther(all)
+    const name = GroupName(group)
+    NoteGroup(name, index(all, 'contained') >= 0)
+    return Form([HeadText(sub, name) .. rest], [])
   endif
   var pieces = cut.KnownPieces(text)
   var [head, options, words, others, causes] = ['', [], [], [], []]
@@ -199,10 +228,20 @@ def FlatKeywords(text: string): dict<list<string>>
       AddWord(words, others, substitute(word, '\\\(.\)', '\1', 'g'))
     endif
   endfor
-  NoteGroup(cut.Head(head)[1], WordsOf(text, pieces))
+  NoteGroup(cut.Head(head)[1], index(WordsOf(text, pieces), 'contained') >= 0)
   final texts = mapnew(item.FirstLists(options, causes), (_, part) => part.text)
   causes += WordMatches(matchstr(head, '^syn keyword\s\+\zs\S\+'), texts, others)
   return Form(words == [] ? [] : [head .. join(words + texts, ' ')], causes)
+enddef
+
+# Whether keywords have no character that may mean more than itself.
+def IsUsualWords(text: string): bool
+  for other in ['\', '|', '"', '=', ' [', "\t["]
+    if stridx(text, other) >= 0
+      return false
+    endif
+  endfor
+  return true
 enddef
 
 # Words that Vim takes for keywords, and vimsyn for options.
@@ -253,26 +292,33 @@ enddef
 
 # Links and styles: 'default' and 'link' in full, colours as numbers.
 def FlatHighlight(text: string): dict<list<string>>
-  final m = matchlist(text, '^\a\+\(!\=\)\s*\(.*\)$')
-  var words = split(m[2])
-  var front = 'hi' .. m[1]
-  if words != [] && words[0] =~# '^d\%[efault]$'
+  const behind_word = matchend(text, '^\a\+')
+  const bang = strpart(text, behind_word, 1) ==# '!' ? '!' : ''
+  const rest = strpart(text, behind_word + len(bang))
+  var words = split(rest)
+  var front = 'hi' .. bang
+  if words != [] && IsShort(words[0], 'default', 1)
     front ..= ' def'
     remove(words, 0)
   endif
-  if words != [] && words[0] =~# '^cl\%[ear]$'
+  if words != [] && IsShort(words[0], 'clear', 2)
     return Form([], ['not in this profile'])
   elseif len(words) < 2
     return Form([], [])
-  elseif words[0] =~# '^l\%[ink]$'
+  elseif IsShort(words[0], 'link', 1)
     words[1] = get(reserved, tolower(words[1]), words[1])
     const target = get(words, 2, '')
-    const flat = target ==# '' || target =~# '^NONE' ? target : GroupName(target)
+    const flat = target ==# '' || stridx(target, 'NONE') == 0 ? target : GroupName(target)
     return Form([join([front, 'link', words[1], flat] + words[3 :], ' ')], target ==# flat ? [] : [ReservedCause(flat)])
   endif
-  const [parts, causes] = StyleParts(matchstr(m[2], '^\%(d\%[efault]\s\+\)\=\S\+\s\+\zs.*'))
+  const [parts, causes] = StyleParts(matchstr(rest, '^\s*\%(d\%[efault]\s\+\)\=\S\+\s\+\zs.*'))
   words[0] = get(reserved, tolower(words[0]), words[0])
   return Form(parts == [] ? [] : [join([front, words[0]] + parts, ' ')], causes)
+enddef
+
+# Whether a word stands for another one, of which it has so many letters at least.
+def IsShort(word: string, whole: string, least: number): bool
+  return len(word) >= least && stridx(whole, word) == 0
 enddef
 
 def StyleParts(text: string): list<list<string>>

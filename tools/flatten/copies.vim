@@ -215,7 +215,7 @@ def IsKeywordOption(command: string): bool
 enddef
 
 def Quoted(text: string): string
-  return "'" .. substitute(text, "'", "''", 'g') .. "'"
+  return "'" .. (stridx(text, "'") < 0 ? text : substitute(text, "'", "''", 'g')) .. "'"
 enddef
 
 def Call(name: string, at: string, text: string): string

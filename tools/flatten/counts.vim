@@ -21,6 +21,9 @@ export def Respell(pattern: string): dict<any>
 enddef
 
 def HasCountedGroup(pattern: string): bool
+  if stridx(pattern, ')') < 0
+    return false
+  endif
   for counted in [')*', ')\+', ')\{', ')+', '){', ')\*']
     if stridx(pattern, counted) >= 0
       return true

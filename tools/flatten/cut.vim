@@ -61,19 +61,12 @@ enddef
 
 # The place behind the blanks at a place.
 export def BlankEnd(text: string, begin: number): number
-  var i = begin
-  var c = strpart(text, i, 1)
-  while c ==# ' ' || c ==# "\t"
-    i += 1
-    c = strpart(text, i, 1)
-  endwhile
-  return i
+  return len(text) - len(trim(strpart(text, begin), " \t", 1))
 enddef
 
 const blanks = [' ', "\t"]
 const blanks_and_bar = [' ', "\t", '|']
 const behind_option = [' ', "\t", '=', '|']
-const in_pattern = ['\', '[']
 
 # The place of the first of some characters, from a place up to another one.
 def FirstOf(text: string, characters: list<string>, from: number, to: number): number
@@ -202,6 +195,11 @@ def WordEnd(text: string, i: number, bar_ends: bool): number
 enddef
 
 export def ListEnd(text: string, i: number): number
+  const end = FirstOf(text, blanks, i, len(text))
+  const bar = stridx(text, '|', i)
+  if (bar < 0 || bar > end) && strpart(text, end - 1, 1) !=# ',' && strpart(text, BlankEnd(text, end), 1) !=# ','
+    return end
+  endif
   return matchend(text, '^\%([^ \t|,][^ \t,]*\)\=\%(\s*,\s*[^ \t|,][^ \t,]*\|,\)*', i)
 enddef
 
@@ -224,6 +222,10 @@ enddef
 def AddOption(pieces: list<dict<any>>, text: string, i: number, sub: string, has_pattern: bool): bool
   const end = FirstOf(text, behind_option, i, len(text))
   const word = tolower(strpart(text, i, end - i))
+  if has_key(flags, word) && strpart(text, end, 1) !=# '='
+    add(pieces, Piece('word', i, end))
+    return true
+  endif
   const equals = BlankEnd(text, end)
   const kind = strpart(text, equals, 1) ==# '=' ? get(keys, word, '') : ''
   const value = BlankEnd(text, equals + 1)
@@ -232,7 +234,7 @@ def AddOption(pieces: list<dict<any>>, text: string, i: number, sub: string, has
     AddPattern(pieces, text, value)
   elseif kind ==# 'list'
     add(pieces, Piece('list', i, ListEnd(text, value)))
-  elseif kind !=# '' || has_pattern || has_key(flags, word) && strpart(text, end, 1) !=# '='
+  elseif kind !=# '' || has_pattern
     add(pieces, Piece('word', i, WordEnd(text, kind ==# '' ? i : value, word !=# 'cchar')))
   elseif pieces[-1].kind ==# 'word' && strpart(text, pieces[-1].from) =~? '^group\%(here\|there\)'
     add(pieces, Piece('list', i, WordEnd(text, i, true)))
@@ -250,26 +252,25 @@ def AddPattern(pieces: list<dict<any>>, text: string, i: number)
     return
   endif
   add(pieces, Piece('pattern', i, close + 1))
-  const end = EndsHere(text, close + 1, false) ? close + 1 : WordEnd(text, close + 1, true)
-  if end > close + 1
-    add(pieces, Piece('offsets', close + 1, end))
+  const behind = strpart(text, close + 1, 1)
+  if behind !=# ' ' && behind !=# "\t" && !EndsHere(text, close + 1, false)
+    add(pieces, Piece('offsets', close + 1, WordEnd(text, close + 1, true)))
   endif
 enddef
 
 # The place of the delimiter that closes the pattern which opens at a place, as Vim finds it.
 export def PatternEnd(text: string, opening: number): number
   const delimiter = strpart(text, opening, 1)
-  var [i, level] = [opening + 1, 2]
+  var [i, level, close, backslash, bracket] = [opening + 1, 2, opening, opening, opening]
   while true
-    const close = stridx(text, delimiter, i)
-    if close < 0
-      return len(text)
+    close = close < i ? NextOf(text, delimiter, i) : close
+    backslash = backslash < i ? NextOf(text, '\', i) : backslash
+    bracket = bracket < i ? NextOf(text, '[', i) : bracket
+    if close <= backslash && close <= bracket
+      return close
     endif
-    i = FirstOf(text, in_pattern, i, close)
-    if i == close
-      return i
-    endif
-    const after = strpart(text, i, 1) ==# '\' ? strpart(text, i + 1, 1) : ''
+    const after = backslash < bracket ? strpart(text, backslash + 1, 1) : ''
+    i = backslash < bracket ? backslash : bracket
     if after ==# '' && level >= 2 || after ==# '[' && level < 2
       i = CollectionEnd(text, i + len(after) + 1)
     elseif after !=# ''
@@ -279,6 +280,12 @@ export def PatternEnd(text: string, opening: number): number
     i += 1
   endwhile
   return len(text)
+enddef
+
+# The place of a character from a place on, or the text's end.
+def NextOf(text: string, c: string, from: number): number
+  const at = stridx(text, c, from)
+  return at < 0 ? len(text) : at
 enddef
 
 # The place of the bracket that closes the collection whose members begin at i, or the text's end.

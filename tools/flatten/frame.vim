@@ -76,7 +76,7 @@ export def FlatLines(frame: dict<any>, files: list<string>): list<string>
   return lines
 enddef
 
-# A text whose bytes aren't UTF-8 is read as Latin-1.
+# A text whose bytes aren't UTF-8 is read as Latin-1. (Such a byte is wider than a character.)
 def Utf8(text: string): string
-  return text =~# '[^ -~\t]' ? list2str(str2list(text)) : text
+  return strchars(text) == len(text) && strwidth(text) == len(text) ? text : list2str(str2list(text))
 enddef

@@ -15,7 +15,7 @@ export def Part(kind: string, text: string, gap: string): dict<string>
   return {kind: kind, text: text, gap: gap}
 enddef
 
-export def TextOf(parts: list<dict<string>>): string
+def TextOf(parts: list<dict<string>>): string
   var text = ''
   for part in parts
     text ..= part.text .. part.gap
@@ -23,15 +23,15 @@ export def TextOf(parts: list<dict<string>>): string
   return text
 enddef
 
-# An item of a kind ('match', 'region') and a group. Causes are added to a list.
-export def Respell(sub: string, group: string, given: list<dict<string>>, causes: list<string>): list<dict<string>>
+# The text of an item of a kind ('match', 'region') and a group. Causes are added to a list.
+export def Respell(sub: string, group: string, given: list<dict<string>>, causes: list<string>): string
   var parts = FirstLists(given, causes)
   if sub ==# 'match'
-    return MatchEnds(MatchBegin(parts, causes), causes)
+    return TextOf(MatchEnds(MatchBegin(parts, causes), causes))
   endif
   var region = StartsWithin(RegionOf(parts), causes)
   var starts = StartsTurned(region, causes)
-  return PartsOf(EndAreas(OwnMatchgroups(starts, group, causes), causes))
+  return RegionText(EndAreas(OwnMatchgroups(starts, group, causes), causes))
 enddef
 
 # === Lists ===
@@ -40,17 +40,22 @@ enddef
 export def FirstLists(parts: list<dict<string>>, causes: list<string>): list<dict<string>>
   var [made, seen] = [[], {}]
   for part in parts
-    const key = part.kind ==# 'list' ? tolower(matchstr(part.text, '^\a\+')) : ''
-    if has_key(seen, key)
+    const key = part.kind ==# 'list' ? KeyOf(part.text) : ''
+    if key ==# ''
+      add(made, part)
+    elseif has_key(seen, key)
       add(causes, 'given twice, of which the first counts: ' .. part.text)
     else
       add(made, part)
-      if key !=# ''
-        seen[key] = true
-      endif
+      seen[key] = true
     endif
   endfor
   return made
+enddef
+
+# What stands before the '=' of a list or of a pattern, in small letters.
+def KeyOf(text: string): string
+  return tolower(trim(strpart(text, 0, stridx(text, '='))))
 enddef
 
 # === Offsets ===
@@ -84,7 +89,7 @@ def MatchBegin(parts: list<dict<string>>, causes: list<string>): list<dict<strin
   return parts
 enddef
 
-def HasWord(parts: list<dict<string>>, word: string): bool
+export def HasWord(parts: list<dict<string>>, word: string): bool
   for part in parts
     if part.kind ==# 'word' && part.text ==? word
       return true
@@ -111,7 +116,7 @@ def StartsWithin(region: list<dict<string>>, causes: list<string>): list<dict<st
   const oneline = HasWord(region, 'oneline')
   for part in region
     if part.kind ==# 'start'
-      if !oneline && part.matchgroup ==? 'NONE' && part.offsets !~# '=e'
+      if !oneline && part.matchgroup ==? 'NONE' && stridx(part.offsets, '=e') < 0
         const within = line_end.WithinLine(Inner(part.pattern))
         part.pattern = Changed(part.pattern, within, 'the end is sought from its first line on', causes)
       endif
@@ -128,13 +133,14 @@ enddef
 def RegionOf(parts: list<dict<string>>): list<dict<string>>
   var [made, matchgroup] = [[], 'NONE']
   for part in parts
-    const value = part.kind ==# 'word' ? matchstr(part.text, '\c^matchgroup\s*=\s*\zs.*') : ''
+    const may_be = part.kind ==# 'word' && strpart(part.text, 0, 1) ==? 'm'
+    const value = may_be ? matchstr(part.text, '\c^matchgroup\s*=\s*\zs.*') : ''
     if value !=# ''
       matchgroup = value
     elseif part.kind ==# 'pattern' || part.kind ==# 'offsets'
       made[-1][part.kind] = part.text
     elseif part.kind ==# 'key'
-      add(made, {kind: tolower(matchstr(part.text, '^\a\+')), matchgroup: matchgroup, pattern: '', offsets: ''})
+      add(made, {kind: KeyOf(part.text), matchgroup: matchgroup, pattern: '', offsets: ''})
     else
       add(made, part)
     endif
@@ -142,30 +148,31 @@ def RegionOf(parts: list<dict<string>>): list<dict<string>>
   return made
 enddef
 
-# The parts again, each matchgroup before the first pattern that has it.
-def PartsOf(region: list<dict<string>>): list<dict<string>>
-  var [made, matchgroup] = [[], 'NONE']
+# The text again, each matchgroup before the first pattern that has it.
+def RegionText(region: list<dict<string>>): string
+  var [made, matchgroup] = ['', 'NONE']
   for part in region
     if !has_key(part, 'matchgroup')
-      add(made, Part(part.kind, trim(part.text), ' '))
+      made ..= trim(part.text) .. ' '
       continue
     endif
     if part.kind !=# 'skip' && part.matchgroup !=? matchgroup
       matchgroup = part.matchgroup
-      add(made, Part('word', 'matchgroup=' .. matchgroup, ' '))
+      made ..= 'matchgroup=' .. matchgroup .. ' '
     endif
-    add(made, Part('key', part.kind .. '=', ''))
-    add(made, Part('pattern', part.pattern, part.offsets ==# '' ? ' ' : ''))
-    if part.offsets !=# ''
-      add(made, Part('offsets', part.offsets, ' '))
-    endif
+    made ..= part.kind .. '=' .. part.pattern .. part.offsets .. ' '
   endfor
   return made
 enddef
 
 # Of several starts at one place Vim takes the first one, and vimsyn the last: they stand the other way round.
 def StartsTurned(region: list<dict<string>>, causes: list<string>): list<dict<string>>
-  var starts = filter(region[:], (_, part) => part.kind ==# 'start')
+  var starts = []
+  for part in region
+    if part.kind ==# 'start'
+      add(starts, part)
+    endif
+  endfor
   if len(starts) < 2
     return region
   endif
@@ -179,7 +186,7 @@ enddef
 
 # A matchgroup of the region's own group counts for starts, in which nothing else may start then, and not for ends.
 def OwnMatchgroups(region: list<dict<string>>, group: string, causes: list<string>): list<dict<string>>
-  if index(mapnew(region, (_, part) => tolower(get(part, 'matchgroup', ''))), tolower(group)) < 0
+  if !HasMatchgroup(region, group)
     return region
   endif
   const other = OwnGroup(group)
@@ -192,11 +199,20 @@ def OwnMatchgroups(region: list<dict<string>>, group: string, causes: list<strin
   return made
 enddef
 
+def HasMatchgroup(region: list<dict<string>>, group: string): bool
+  for part in region
+    if has_key(part, 'matchgroup') && part.matchgroup ==? group
+      return true
+    endif
+  endfor
+  return false
+enddef
+
 # The area of an end goes to its 'he' in Vim, and to its 'me' in vimsyn. Where both count from one place, the nearer one
 # is told.
 def EndAreas(region: list<dict<string>>, causes: list<string>): list<dict<string>>
   for part in region
-    if part.kind ==# 'end' && part.matchgroup !=? 'NONE' && part.offsets =~# '[mh]e='
+    if part.kind ==# 'end' && part.offsets !=# '' && part.matchgroup !=? 'NONE' && part.offsets =~# '[mh]e='
       const made = AreaOffsets(part.offsets)
       if made !=# part.offsets
         add(causes, 'the end''s area goes to its highlight''s end: ' .. part.offsets)

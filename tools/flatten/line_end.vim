@@ -15,7 +15,7 @@ var not_at_end: dict<string> = {}    # of each pattern that was read for it, the
 # In Vim nothing begins at the end of a line that isn't empty. A pattern whose item may begin there asks for a character
 # or for the line's start. 'empty' says whether it counts where the item takes nothing.
 export def NotAtEnd(given: string, empty: bool): string
-  if empty ? given =~# plain_front && given !~# '\\|\|\\zs\|\\v' : stridx(given, '\n') < 0 && stridx(given, '\_') < 0
+  if empty ? IsPlain(given) : stridx(given, '\n') < 0 && stridx(given, '\_') < 0
     return given
   endif
   const key = given .. (empty ? '+' : '-')
@@ -23,6 +23,16 @@ export def NotAtEnd(given: string, empty: bool): string
     not_at_end[key] = Guarded(given, empty)
   endif
   return not_at_end[key]
+enddef
+
+# Whether a pattern of one branch has such a front. (The first character of most says it.)
+def IsPlain(given: string): bool
+  if stridx(given, '\|') >= 0 || stridx(given, '\zs') >= 0 || stridx(given, '\v') >= 0
+    return false
+  endif
+  const [first, second] = [strpart(given, 0, 1), strpart(given, 1, 1)]
+  const usual = first <# "\x7f" && stridx('\$*[~', first) < 0 && stridx('\*', second) < 0
+  return first ==# '^' || usual || given =~# plain_front
 enddef
 
 def Guarded(given: string, empty: bool): string

@@ -39,7 +39,7 @@ enddef
 
 # A text that is painted has no cursor and no visual area, so '\%#' and '\%V' never match.
 def Respelled(given: string, unfolds: bool): list<string>
-  const pattern = stridx(given, '\%') < 0 ? given : substitute(given, caret_behind_line, '\\_^', '')
+  const pattern = stridx(given, 'l^') < 0 ? given : substitute(given, caret_behind_line, '\\_^', '')
   if !unfolds && (IsPlain(pattern) || pattern !~# odd)
     return [pattern, '']
   endif
@@ -118,6 +118,9 @@ enddef
 export def Item(pattern: string, i: number, level: number): list<string>
   const item = Character(pattern, i)
   const c = item[-1]
+  if stridx('[%@zZ_vmMV', c) < 0
+    return [item, '']
+  endif
   const bare = item[0] !=# '\' || item ==# '\'
   if !bare && c =~# '[vmMV]'
     return [item, 'level']

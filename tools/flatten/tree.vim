@@ -77,7 +77,8 @@ enddef
 # The length of the token at the place, as of its first character.
 def Length(): number
   const escaped = strpart(text, at, 1) ==# '\' && at + 1 < len(text) ? 1 : 0
-  return escaped + len(matchstr(text, '.', at + escaped))
+  const c = strpart(text, at + escaped, 1)
+  return escaped + len(c <# "\x7f" ? c : matchstr(text, '.', at + escaped))
 enddef
 
 def Take(kind: string, length: number): dict<any>
@@ -126,17 +127,17 @@ def Row(): dict<any>
   node.parts = []
   var c = Peek()
   while c !=# '' && stridx('|&)', c) < 0
-    add(node.parts, Piece(node.parts == []))
-    SkipFlags()
-    c = Peek()
+    add(node.parts, Piece(node.parts == [], c))
+    c = SkipFlags()
   endwhile
   node.to = at
   return node
 enddef
 
-def Piece(first: bool): dict<any>
+# (The character is what stands at the place, as of Peek.)
+def Piece(first: bool, front: string): dict<any>
   const counts_before = counts
-  var node = Atom(first)
+  var node = Atom(first, front)
   node.atom_to = at
   const c = SkipFlags()
   node.multi_from = at
@@ -166,8 +167,7 @@ enddef
 
 const classes = 'iIkKfFpPsSdDxXoOwWhHaAlLuU'
 
-def Atom(first: bool): dict<any>
-  const c = Peek()
+def Atom(first: bool, c: string): dict<any>
   if c ==# ' '
     return Take('char', Length())
   elseif c ==# '('
@@ -236,7 +236,7 @@ def OptionalList(from: number): dict<any>
   var row = Node('row', at)
   row.parts = []
   while at < len(text) && strpart(text, at, 1) !=# ']'
-    var atom = Atom(false)
+    var atom = Atom(false, Peek())
     add(row.parts, extend(atom, {atom_to: atom.to, multi_from: atom.to}))
   endwhile
   row.to = at
