@@ -68,10 +68,11 @@ enddef
 def FlatItem(text: string): dict<list<string>>
   const [sub, given, _] = cut.Head(text)
   const group = given ==# '' ? '' : GroupName(given)
-  var [parts, causes] = [[], []]
-  var piece: any = {}
+  var parts: list<dict<string>> = []
+  var causes: list<string> = []
+  var piece: dict<any> = {}
   for next in cut.KnownPieces(text)
-    if has_key(piece, 'kind')
+    if piece != {}
       const flat = FlatPiece(piece.kind, strpart(text, piece.from, piece.to - piece.from), causes)
       add(parts, item.Part(piece.kind, flat, strpart(text, piece.to, next.from - piece.to)))
     endif

@@ -29,7 +29,9 @@ def Copy(path: string, room: string): string
   const below = matchstr(path, '.*/autoload/\zs.*')
   const copy = room .. '/' .. number .. '/' .. (below ==# '' ? fnamemodify(path, ':t') : below)
   mkdir(fnamemodify(copy, ':h'), 'p')
-  writefile(CopyLines(readfile(path), number), copy)
+  # (a list whose type Vim wasn't told is looked through at each call that has it)
+  final lines: list<string> = readfile(path)
+  writefile(CopyLines(lines, number), copy)
   return copy
 enddef
 

@@ -38,7 +38,8 @@ enddef
 
 # Of a list that is given twice Vim keeps the first one.
 export def FirstLists(parts: list<dict<string>>, causes: list<string>): list<dict<string>>
-  var [made, seen] = [[], {}]
+  var made: list<dict<string>> = []
+  var seen: dict<bool> = {}
   for part in parts
     const key = part.kind ==# 'list' ? KeyOf(part.text) : ''
     if key ==# ''
@@ -131,7 +132,8 @@ enddef
 
 # A region as its parts, in which a key, its pattern and offsets are one part, whose 'matchgroup' it has.
 def RegionOf(parts: list<dict<string>>): list<dict<string>>
-  var [made, matchgroup] = [[], 'NONE']
+  var matchgroup = 'NONE'
+  var made: list<dict<string>> = []
   for part in parts
     const may_be = part.kind ==# 'word' && strpart(part.text, 0, 1) ==? 'm'
     const value = may_be ? matchstr(part.text, '\c^matchgroup\s*=\s*\zs.*') : ''

@@ -16,7 +16,7 @@ export def Scoped(names: list<string>): list<string>
     return [here.cluster] + names[1 :]
   elseif first ==# 'ALL' || first ==# 'ALLBUT'
     here.has_all = true
-    return ['ALLBUT'] + names[1 :] + [OthersOf(here)]
+    return ['ALLBUT'] + names[1 :] + [OthersOf(here.number)]
   endif
   return names
 enddef
@@ -26,8 +26,8 @@ export def IsCluster(names: list<string>): bool
   return get(names, 0, '') ==# 'TOP' && frame.frames[-1].cluster !=# ''
 enddef
 
-def OthersOf(here: dict<any>): string
-  return '@OtherFiles' .. here.number
+def OthersOf(number: number): string
+  return '@OtherFiles' .. number
 enddef
 
 # At the end, the clusters of groups of other files: the commands that make them.
@@ -40,7 +40,7 @@ export def Settle(): list<string>
     if others == []
       TakeOut(here)
     else
-      commands += [Cluster(OthersOf(here)[1 :], mapnew(others, (_, name) => '@' .. name))]
+      commands += [Cluster(OthersOf(here.number)[1 :], mapnew(others, (_, name) => '@' .. name))]
       const [file, lnum, text] = here.asked == [] ? [-1, 0, here.name] : here.asked
       frame.LeaveOut(file, lnum, 'ALL and ALLBUT hold the groups of one file', text)
     endif
@@ -69,7 +69,7 @@ enddef
 
 # Takes the cluster of other files out of the lists of a flat file.
 def TakeOut(here: dict<any>)
-  const name = OthersOf(here)
+  const name = OthersOf(here.number)
   for entry in here.entries
     if stridx(entry[2], name) >= 0
       entry[2] = substitute(substitute(entry[2], '=ALLBUT,' .. name .. '\>', '=ALL', 'g'), ',' .. name .. '\>', '', 'g')

@@ -98,40 +98,38 @@ def SkipFlags(): string
   return c
 enddef
 
+# (Parts are lists whose type is told: else Vim looks through all below a node at each call that has it.)
 def Choice(): dict<any>
   var node = Node('choice', at)
-  node.parts = [Both()]
+  var parts: list<dict<any>> = [Both()]
   while Peek() ==# '|'
     at += Length()
-    add(node.parts, Both())
+    add(parts, Both())
   endwhile
-  node.to = at
-  return node
+  return extend(node, {parts: parts, to: at})
 enddef
 
 def Both(): dict<any>
   var node = Node('both', at)
   SkipFlags()
   node.flags = at
-  node.parts = [Row()]
+  var parts: list<dict<any>> = [Row()]
   while Peek() ==# '&'
     at += Length()
-    add(node.parts, Row())
+    add(parts, Row())
   endwhile
-  node.to = at
-  return node
+  return extend(node, {parts: parts, to: at})
 enddef
 
 def Row(): dict<any>
   var node = Node('row', at)
-  node.parts = []
+  var parts: list<dict<any>> = []
   var c = Peek()
   while c !=# '' && stridx('|&)', c) < 0
-    add(node.parts, Piece(node.parts == [], c))
+    add(parts, Piece(parts == [], c))
     c = SkipFlags()
   endwhile
-  node.to = at
-  return node
+  return extend(node, {parts: parts, to: at})
 enddef
 
 # (The character is what stands at the place, as of Peek.)
@@ -234,12 +232,12 @@ enddef
 def OptionalList(from: number): dict<any>
   at += 1
   var row = Node('row', at)
-  row.parts = []
+  var parts: list<dict<any>> = []
   while at < len(text) && strpart(text, at, 1) !=# ']'
     var atom = Atom(false, Peek())
-    add(row.parts, extend(atom, {atom_to: atom.to, multi_from: atom.to}))
+    add(parts, extend(atom, {atom_to: atom.to, multi_from: atom.to}))
   endwhile
-  row.to = at
+  extend(row, {parts: parts, to: at})
   at += 1
   return extend(Node('list', from), {inside: row})
 enddef
