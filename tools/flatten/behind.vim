@@ -53,7 +53,8 @@ def Look(pattern: string, node: any)
   const parts = get(node, 'parts', [])
   for i in range(len(parts))
     Look(pattern, parts[i])
-    if get(parts[i], 'multi', '') =~# '^@\d*<'
+    const multi = get(parts[i], 'multi', '')
+    if multi !=# '' && multi =~# '^@\d*<'
       Limit(pattern, parts[i])
       Ahead(pattern, parts, i)
     endif
@@ -97,13 +98,14 @@ def Most(pattern: string, node: any): number
 enddef
 
 def IsLook(node: any): bool
-  return get(node, 'multi', '') =~# '^@.*[=!]$'
+  const multi = get(node, 'multi', '')
+  return multi !=# '' && multi =~# '^@.*[=!]$'
 enddef
 
 # The most turns of a count, or -1.
 def Turns(multi: string): number
   if multi[0] !=# '{'
-    return multi =~# '^[*+]' ? -1 : 1
+    return multi[0] ==# '*' || multi[0] ==# '+' ? -1 : 1
   endif
   final m = matchlist(multi, '^{-\=\(\d*\),\=\(\d*\)}$')
   return empty(m) || tree.IsUnbounded(multi) ? -1 : max([str2nr(m[1]), str2nr(m[2])])
@@ -126,7 +128,10 @@ enddef
 const placed = ['start', 'stop', 'word', 'wordend', 'place']
 
 def MostOfParts(pattern: string, node: any): number
-  final each = mapnew(node.parts, (_, part) => Most(pattern, part))
+  var each: list<number> = []
+  for part in node.parts
+    add(each, Most(pattern, part))
+  endfor
   if min(each) < 0 || node.kind ==# 'both' && len(each) > 1
     return -1
   endif

@@ -139,7 +139,7 @@ export def Rewrite(line: string, file: number, lnum: number, vim9: bool): string
   const at = file .. ', ' .. lnum
   var [made, rest] = ['', stridx(line, '<s') < 0 ? line : WithoutScriptName(line, file)]
   while true
-    const lead = Lead(rest)
+    const lead = get(kinds, strpart(rest, 0, stridx(rest, ' ')), 'modifier') ==# 'modifier' ? Lead(rest) : ''
     rest = strpart(rest, len(lead))
     if rest ==# '' || rest[0] ==# (vim9 ? '#' : '"')
       return made .. lead
@@ -187,18 +187,21 @@ def RewriteCommand(lead: string, text: string, at: string, vim9: bool): list<str
   endif
   const end = CommandEnd(kind, word, text, vim9)
   const command = strpart(text, 0, end)
-  const made = kind ==# 'syntax' && stridx(command, 'include') > 0 && command =~# '^\a\+\s\+include\>' ? lead .. Call('FlattenInclude', at, command)
-    : kind ==# 'syntax' || kind ==# 'highlight' ? lead .. Call('FlattenCommand', at, command)
+  const made = kind ==# 'syntax' || kind ==# 'highlight' ? lead .. Call(IsInclude(command) ? 'FlattenInclude' : 'FlattenCommand', at, command)
     : kind ==# 'execute' ? lead .. Put(strpart(command, len(word)), lead, at)
     : kind ==# 'option' && !IsKeywordOption(command) ? Noted(lead, command, at, 'option') : lead .. command
   return [made, strpart(text, end, 1) ==# '|' ? strpart(text, end) : '']
 enddef
 
+def IsInclude(command: string): bool
+  return stridx(command, 'include') > 0 && command =~# '^sy\a*\s\+include\>'
+enddef
+
 def CommandEnd(kind: string, word: string, text: string, vim9: bool): number
-  if word >=# 'A' && word <# '[' && strpart(text, len(word), 1) !~# '[(:.\[]'
-    return has_key(plain_commands, word) ? cut.BarEnd(text, vim9) : len(text)
-  elseif kind ==# 'syntax'
+  if kind ==# 'syntax'
     return cut.SyntaxEnd(text, vim9)
+  elseif word >=# 'A' && word <# '[' && strpart(text, len(word), 1) !~# '[(:.\[]'
+    return has_key(plain_commands, word) ? cut.BarEnd(text, vim9) : len(text)
   elseif kind ==# 'execute'
     return cut.ExpressionEnd(text, len(word), true, vim9)
   elseif kind ==# 'expressions' || kind ==# '' && vim9 && text =~# '^[A-Za-z_][A-Za-z0-9_:.#]*\%(\s*=\|[(\[]\)'

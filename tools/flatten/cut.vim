@@ -6,6 +6,9 @@ vim9script
 
 # The bar or comment that ends a command without patterns and expressions, or the text's end.
 export def BarEnd(text: string, vim9: bool): number
+  if stridx(text, '|') < 0 && stridx(text, vim9 ? '#' : '"') < 0
+    return len(text)
+  endif
   const stop = vim9 ? '[|#\\\x16]' : '[|"\\\x16]'
   var i = match(text, stop)
   while i >= 0

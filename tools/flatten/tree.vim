@@ -19,6 +19,7 @@ vim9script
 import './cut.vim'
 
 var [text, at, level] = ['', 0, 2]    # the pattern that is read, how far, and the level of magic there
+var ahead = ''                        # what stands behind the piece that was read last, as of Peek
 var [counts, nested] = [0, false]     # the counts without a limit so far, and whether one stands in a part with another
 var read: dict<list<any>> = {}        # of each pattern that was read, its tree, 'level' and 'nested'
 
@@ -43,7 +44,7 @@ export def HasNested(): bool
 enddef
 
 export def IsUnbounded(multi: string): bool
-  return multi =~# '^[*+]\|^{-\=\d*,}\|^{-\=}'
+  return multi !=# '' && multi =~# '^[*+]\|^{-\=\d*,}\|^{-\=}'
 enddef
 
 # The level of magic at the end of the pattern that was read last.
@@ -127,7 +128,7 @@ def Row(): dict<any>
   var c = Peek()
   while c !=# '' && stridx('|&)', c) < 0
     add(parts, Piece(parts == [], c))
-    c = SkipFlags()
+    c = ahead
   endwhile
   return extend(node, {parts: parts, to: at})
 enddef
@@ -140,11 +141,12 @@ def Piece(first: bool, front: string): dict<any>
   const c = SkipFlags()
   node.multi_from = at
   node.multi = c ==# ' ' || c ==# '' || node.kind ==# 'start' && c ==# '*' ? '' : Multi(c)
-  if node.multi !=# '' && IsUnbounded(node.multi)
+  node.to = at
+  if IsUnbounded(node.multi)
     nested = nested || counts > counts_before
     counts += 1
   endif
-  node.to = at
+  ahead = node.multi ==# '' ? c : SkipFlags()
   return node
 enddef
 
