@@ -146,9 +146,11 @@ export def SyntaxEnd(text: string, vim9: bool): number
   return end
 enddef
 
+# A text without the blanks at its end, but for one behind a backslash.
 export def Trimmed(text: string): string
-  const last = strpart(text, len(text) - 1)
-  return last ==# ' ' || last ==# "\t" ? substitute(text, '\\\@<!\s\+$', '', '') : text
+  const made = trim(text, " \t", 2)
+  const escapes = len(made) < len(text) && strpart(made, len(made) - 1) ==# '\'
+  return escapes ? strpart(text, 0, len(made) + 1) : made
 enddef
 
 # The pieces of a command that ends where its text does.
