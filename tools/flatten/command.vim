@@ -209,10 +209,10 @@ enddef
 def FlatKeywords(text: string): dict<list<string>>
   const [sub, group, from] = cut.Head(text)
   const rest = strpart(text, from)
-  final all = split(tr(tolower(rest), "\t", ' '), ' ')
-  if IsUsualWords(text) && !HasOther(all)
+  const words_between_blanks = ' ' .. tr(tolower(rest), "\t", ' ') .. ' '
+  if IsUsualWords(text) && !HasOther(words_between_blanks)
     const name = GroupName(group)
-    NoteGroup(name, index(all, 'contained') >= 0)
+    NoteGroup(name, stridx(words_between_blanks, ' contained ') >= 0)
     return Form([HeadText(sub, name) .. rest], [])
   endif
   var pieces = cut.KnownPieces(text)
@@ -248,13 +248,21 @@ enddef
 # Words that Vim takes for keywords, and vimsyn for options.
 const option_words = {contains: true, display: true, fold: true, extend: true}
 
-# Whether one of the words may be none of vimsyn's keywords.
-def HasOther(words: list<string>): bool
-  for word in words
-    if len(word) > 80 || has_key(option_words, word)
+# Whether one of the words, which stand between blanks, may be none of vimsyn's keywords.
+def HasOther(words: string): bool
+  for option in keys(option_words)
+    if stridx(words, ' ' .. option .. ' ') >= 0
       return true
     endif
   endfor
+  var blank = 0
+  while blank + 81 < len(words)
+    const next = strridx(words, ' ', blank + 81)
+    if next == blank
+      return true
+    endif
+    blank = next
+  endwhile
   return false
 enddef
 

@@ -42,8 +42,10 @@ def CopyLines(lines: list<string>, file: number): list<string>
   var [begun, i, joined] = [false, 0, 0]
   while true
     const code = vim9 ? i : NextCode(lines, i)
-    made += repeat([''], code - i)
-    i = code
+    if code > i
+      made += repeat([''], code - i)
+      i = code
+    endif
     if i >= len(lines)
       break
     endif
@@ -56,7 +58,9 @@ def CopyLines(lines: list<string>, file: number): list<string>
     endif
     add(made, line)
     const kept = stridx(text, '<<') < 0 ? [] : HeredocLines(text, lines, next)
-    made += repeat([''], next - i - 1) + kept
+    if next + len(kept) > i + 1
+      made += repeat([''], next - i - 1) + kept
+    endif
     i = next + len(kept)
   endwhile
   return begun ? made : made + ['set eventignore-=SourceCmd']

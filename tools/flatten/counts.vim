@@ -244,12 +244,15 @@ def Ambiguous(pattern: string, node: any): list<string>
   endfor
   if node.kind ==# 'group'
     found = Ambiguous(pattern, node.inside)
-    const next = charset.FirstOfChoice(pattern, node.inside)[0]
-    if found == [] && tree.IsUnbounded(node.multi) && HasCount(node.inside) && MeetsNext(pattern, node.inside, next)
+    if found == [] && tree.IsUnbounded(node.multi) && HasCount(node.inside) && MeetsItself(pattern, node.inside)
       found = [TextOf(pattern, node)]
     endif
   endif
   return found
+enddef
+
+def MeetsItself(pattern: string, choice: any): bool
+  return MeetsNext(pattern, choice, charset.FirstOfChoice(pattern, choice)[0])
 enddef
 
 # Whether a count in a node may go on over a character with which what follows it begins as well: the rest of the turn, or
