@@ -174,7 +174,7 @@ def IsUsualList(text: string): bool
       return false
     endif
   endfor
-  return reserved == {} && text[-1] !=# ',' && stridx(tolower(text), 'none') < 0
+  return reserved == {} && strpart(text, len(text) - 1) !=# ',' && stridx(tolower(text), 'none') < 0
 enddef
 
 def ListCauses(text: string): list<string>

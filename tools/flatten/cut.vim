@@ -266,7 +266,11 @@ enddef
 # The place of the delimiter that closes the pattern which opens at a place, as Vim finds it.
 export def PatternEnd(text: string, opening: number): number
   const delimiter = strpart(text, opening, 1)
-  var [i, level, close, backslash, bracket] = [opening + 1, 2, opening, opening, opening]
+  var [i, level, backslash] = [opening + 1, 2, opening]
+  var [close, bracket] = [NextOf(text, delimiter, i), NextOf(text, '[', i)]
+  if close < bracket && strpart(text, close - 1, 1) !=# '\'
+    return close
+  endif
   while true
     close = close < i ? NextOf(text, delimiter, i) : close
     backslash = backslash < i ? NextOf(text, '\', i) : backslash

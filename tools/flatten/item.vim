@@ -41,10 +41,12 @@ export def FirstLists(parts: list<dict<string>>, causes: list<string>): list<dic
   var made: list<dict<string>> = []
   var seen: dict<bool> = {}
   for part in parts
-    const key = part.kind ==# 'list' ? KeyOf(part.text) : ''
-    if key ==# ''
+    if part.kind !=# 'list'
       add(made, part)
-    elseif has_key(seen, key)
+      continue
+    endif
+    const key = KeyOf(part.text)
+    if has_key(seen, key)
       add(causes, 'given twice, of which the first counts: ' .. part.text)
     else
       add(made, part)
