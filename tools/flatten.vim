@@ -113,7 +113,9 @@ endfunc
 # (Behind a command of the same file no include can have ended.)
 def Begin(file: number, lnum: number, text: string)
   if file == last_file
-    LeavePending()
+    if pending != []
+      LeavePending()
+    endif
   else
     LeaveIncludes()
     last_file = file

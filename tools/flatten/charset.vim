@@ -86,7 +86,7 @@ export def FirstOf(pattern: string, pieces: any): list<any>
 enddef
 
 def FirstOfPiece(pattern: string, piece: any): list<any>
-  if piece.multi =~# '^@.*[=!]$'
+  if piece.multi !=# '' && piece.multi =~# '^@.*[=!]$'
     return ['', true]
   elseif piece.kind ==# 'group' || piece.kind ==# 'list'
     const [set, empty] = piece.kind ==# 'group' ? FirstOfChoice(pattern, piece.inside) : FirstOf(pattern, piece.inside.parts)
@@ -110,5 +110,5 @@ enddef
 
 # Whether a count may be none.
 export def MayBeNone(piece: any): bool
-  return piece.multi =~# '^[*=?]\|^{-\=0*\%(,\|}\)\|^{-\=}'
+  return piece.multi !=# '' && piece.multi =~# '^[*=?]\|^{-\=0*\%(,\|}\)\|^{-\=}'
 enddef

@@ -226,7 +226,7 @@ def FlatKeywords(text: string): dict<list<string>>
     elseif cut.IsFlag(word) && !has_key(option_words, tolower(word)) || word =~? '^cchar='
       add(options, item.Part('word', word, ''))
     else
-      AddWord(words, others, substitute(word, '\\\(.\)', '\1', 'g'))
+      AddWord(words, others, stridx(word, '\') < 0 ? word : substitute(word, '\\\(.\)', '\1', 'g'))
     endif
   endfor
   NoteGroup(cut.Head(head)[1], index(WordsOf(text, pieces), 'contained') >= 0)
@@ -268,16 +268,17 @@ enddef
 
 # Adds a word to those that are keywords, or to the others.
 def AddWord(words: list<string>, others: list<string>, word: string)
-  if word =~# '^\[.*\]$'
+  if strpart(word, 0, 1) ==# '[' && word =~# '^\[.*\]$'
     extend(words, mapnew(range(1, strchars(word) - 2), (_, count) => strcharpart(word, 1, count)))
   else
-    const plain = word !~# '|' && word !~# '^"' && !has_key(option_words, tolower(word)) && LongestWord(word) <= 80
+    const plain = stridx(word, '|') < 0 && stridx(word, '"') != 0 && !has_key(option_words, tolower(word)) && LongestWord(word) <= 80
     add(plain ? words : others, word)
   endif
 enddef
 
+# (Which is less than 81 where the whole word is.)
 def LongestWord(word: string): number
-  return strchars(substitute(word, '[][]', '', 'g'))
+  return len(word) <= 80 ? len(word) : strchars(substitute(word, '[][]', '', 'g'))
 enddef
 
 # Puts words as matches at the end of the flat file, so that they go before other matches as keywords do, and answers

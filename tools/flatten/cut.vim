@@ -231,16 +231,16 @@ def AddOption(pieces: list<dict<any>>, text: string, i: number, sub: string, has
     add(pieces, Piece('word', i, end))
     return true
   endif
-  const equals = BlankEnd(text, end)
+  const equals = strpart(text, end, 1) ==# '=' ? end : BlankEnd(text, end)
   const kind = strpart(text, equals, 1) ==# '=' ? get(keys, word, '') : ''
-  const value = BlankEnd(text, equals + 1)
+  const value = kind ==# '' ? i : BlankEnd(text, equals + 1)
   if kind ==# 'key' && sub ==# 'region'
     add(pieces, Piece('key', i, value))
     AddPattern(pieces, text, value)
   elseif kind ==# 'list'
     add(pieces, Piece('list', i, ListEnd(text, value)))
   elseif kind !=# '' || has_pattern
-    add(pieces, Piece('word', i, WordEnd(text, kind ==# '' ? i : value, word !=# 'cchar')))
+    add(pieces, Piece('word', i, WordEnd(text, value, word !=# 'cchar')))
   elseif pieces[-1].kind ==# 'word' && strpart(text, pieces[-1].from) =~? '^group\%(here\|there\)'
     add(pieces, Piece('list', i, WordEnd(text, i, true)))
   else

@@ -76,7 +76,9 @@ enddef
 
 def PieceAtEnd(piece: any): list<bool>
   const [passes, takes] = AtomAtEnd(piece)
-  if piece.multi =~# '!$\|<=$'
+  if piece.multi ==# ''
+    return [passes, takes]
+  elseif piece.multi =~# '!$\|<=$'
     return [true, false]
   elseif piece.multi ==# '@='
     return [passes || takes, false]
