@@ -1,6 +1,7 @@
 //! The keys of a table of keywords, and the last definition that each key finds.
-ghost use Rattle.std.specs.Prelude.{◌≡◌, ℕ, List, nat_eq, Some, OnOk, OnErr, IfOk, if◌then◌else◌};
+ghost use Rattle.std.specs.Prelude.{◌≡◌, ◌<◌, ℕ, List, nat_eq, Some, OnOk, OnErr, IfOk, if◌then◌else◌};
 ghost use Rattle.std.specs.Cmp.Lexicographic.{pointwise};
+ghost use Rattle.unicode.specs.CaseFolding.{simple_fold};
 ghost use Rattle.keyword_table.specs.Candidates.{folded};
 ghost use Rattle.keyword_table.specs.Chains.{last_at};
 
@@ -37,5 +38,20 @@ pub(crate) fn put_last(
 pub(crate) fn fold_word(alloc: Global, word: &[char]) -> Result<Vec<char>, AllocError>
     ensures { IfOk result (λ key. key.items ≡ folded word.now) }
 {
-    word.iter().map(|c| fold(*c)).collect(alloc)
+    word.iter().map(|c| fold_one(*c)).collect(alloc)
+}
+
+/// The fold of a character, with a short way for those of ASCII.
+fn fold_one(c: char) -> char
+    ensures { result ≡ simple_fold c }
+{
+    if c.is_ascii() { fold_ascii(c) } else { fold(c) }
+}
+
+/// The fold of a character of ASCII.
+fn fold_ascii(c: char) -> char
+    requires { c < 128 }
+    ensures { result ≡ simple_fold c }
+{
+    c.to_ascii_lowercase()
 }

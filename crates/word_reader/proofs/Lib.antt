@@ -1,1 +1,2 @@
 pub mod VainLaws
+pub mod RunLaws

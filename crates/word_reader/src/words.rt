@@ -1,5 +1,5 @@
 //! Runs of characters, and comparing words.
-ghost use Rattle.std.specs.Prelude.{◌≡◌, [], ◌∷◌, Some, None, IfOk, IfSome, MatchOption};
+ghost use Rattle.std.specs.Prelude.{◌≡◌, ◌≤◌, length, [], ◌∷◌, Some, None, IfOk, IfSome, MatchOption};
 ghost use Rattle.word_reader.specs.Vain.{Keeps};
 ghost use Rattle.word_reader.specs.Words as spec;
 
@@ -35,14 +35,22 @@ pub(crate) fn stops(until: Until, c: char) -> bool
 pub fn run(alloc: Global, until: Until, text: &[char]) -> Result<List<char>, Memory>
     ensures { IfOk result (λ word. word ≡ spec.run until text.now) }
 {
-    let mut word = List::new(alloc);
+    List::from_slice(alloc, &text[..run_length(until, text)])
+}
+
+/// How many characters the run at the front of a text has.
+fn run_length(until: Until, text: &[char]) -> usize
+    ensures length { result ≡ length (spec.run until text.now) }
+    ensures within { result ≤ length text.now }
+{
+    let mut count = 0;
     for c in text {
         if stops(until, *c) {
             break;
         }
-        word.push(*c)?;
+        count += 1;
     }
-    Ok(word)
+    count
 }
 
 /// What follows that run.
