@@ -17,7 +17,7 @@ both : (a b : Bool) → (a && b) ≡ true → (a ≡ true) × (b ≡ true)
 both true b e = (refl, e)
 both false b e = absurd (cc)
 
-holds_in : (p : ℕ → Bool) (a n c : ℕ) → list_all p (range_with_len a n) ≡ true → a ≤ c → c < a + n → p c ≡ true
+pub holds_in : (p : ℕ → Bool) (a n c : ℕ) → list_all p (range_with_len a n) ≡ true → a ≤ c → c < a + n → p c ≡ true
 holds_in p a zero c all from to = absurd (omega arith)
 holds_in p a (suc n) c all from to =
     let parts = both (p a) (list_all p (range_with_len (a + 1) n)) all in

@@ -14,6 +14,7 @@ pub mod LookingBehind
 pub mod Visiting
 pub mod WalkLaws
 pub mod TextLaws
+mod ToldLaws
 pub mod TriedLaws
 pub mod FirstAtomLaws
 pub mod NoteLaws
@@ -22,6 +23,7 @@ mod KnownWays
 pub mod CodeLaws
 pub mod TableLaws
 pub mod CaseLaws
+pub mod BoundLaws
 pub mod AnswerLaws
 pub mod ScreenLaws
 pub mod StandsLaws

@@ -1,5 +1,6 @@
 -- Laws of the parts of a collection.
-use Rattle.std.proofs.Common.{◌≡◌, IsOk, ℕ, Bool, true, false, ◌&&◌, ◌||◌, not, List, [], ◌∷◌, refl, sym, ap, ◌∙◌}
+use Rattle.std.proofs.Common.{◌≡◌, inl, inr, IsOk, ℕ, ◌+◌, ◌<◌, Bool, true, false, ◌&&◌, ◌||◌, not, eqb, ltb, List, [], ◌∷◌, refl, sym, ap, ◌∙◌, arith}
+use Rattle.std.proofs.lemmas.Bool.{cases_order, eq-eqb, le-ltb, lt-ltb, ne_eqb}
 use Rattle.std.specs.List.{list_any}
 use Rattle.std.specs.Str.{chars}
 use Rattle.char_class.specs.OptionValue.{set_of}
@@ -9,6 +10,7 @@ use Rattle.syn_base.specs.declared.class.Class.TheVariants.{White, Digit, Hex, O
 use Rattle.pattern_items.specs.declared.atom.SetPart.{SetPart}
 use Rattle.pattern_items.specs.declared.atom.SetPart.TheVariants.{Range, Of, Punct, Cntrl, Graph, Space}
 use Rattle.match_rules.specs.Collections.{part_holds, class_in_set}
+use Rattle.pattern_match.specs.Bounds.{LieIn}
 use Rattle.pattern_match.specs.ReadyParts.{is_optional, is_optional_class, some_part_holds, some_fixed_holds, some_optional_holds}
 
 pub underscore_is_read : IsOk (set_of (chars (95 ∷ [])))
@@ -84,3 +86,35 @@ pub by_option : (parts : List SetPart) (c : ℕ) (sets : Sets) (ignore : Bool) (
 by_option parts c sets ignore table result is missing e =
     let fixed : some_fixed_holds parts c sets ignore ≡ false = sym is ∙ missing in
     e ∙ sym (some_part_holds-split parts c sets ignore ∙ ap (λ b. b || some_optional_holds parts c sets ignore) fixed)
+
+-- ---- a table of one part, code by code
+
+-- none of the part's codes is below the first one
+pub none_before : (holds : ℕ → Bool) (low high c : ℕ) (old : Bool) → LieIn holds low high → c < 256 → old ≡ (holds c && ltb c low || old)
+none_before holds low high c old lie within =
+    elim (holds c) as (λ b. holds c ≡ b → old ≡ (b && ltb c low || old)) [
+      | true ↦ λ e. rw (le-ltb c low (lie.from c within e)) refl
+      | false ↦ λ e. refl
+    ] refl
+
+-- all are in once the last one has been asked for
+pub all_in : (holds : ℕ → Bool) (low high code c : ℕ) (old : Bool) → LieIn holds low high → c < 256 → high < code → (holds c && ltb c code || old) ≡ (holds c || old)
+all_in holds low high code c old lie within past =
+    elim (holds c) as (λ b. holds c ≡ b → (b && ltb c code || old) ≡ (b || old)) [
+      | true ↦ λ e. let upto = lie.to c within e in rw (lt-ltb c code (omega (arith, upto, past))) refl
+      | false ↦ λ e. refl
+    ] refl
+
+-- one more code is asked for
+pub one_more : (holds : ℕ → Bool) (wanted old : Bool) (c code : ℕ) → wanted ≡ holds code → (wanted && eqb c code || (holds c && ltb c code || old)) ≡ (holds c && ltb c (code + 1) || old)
+one_more holds wanted old c code e = elim (cases_order c code) [
+  | inl same ↦
+      rw (same, e, eq-eqb code code refl, le-ltb code code (omega arith), lt-ltb code (code + 1) (omega arith))
+      (elim (holds code) as (λ b. (b && true || (b && false || old)) ≡ (b && true || old)) [ true ↦ refl | false ↦ refl ])
+  | inr (inl below) ↦
+      rw (ne_eqb c code (λ k. omega arith), lt-ltb c code below, lt-ltb c (code + 1) (omega arith))
+      (elim wanted as (λ b. (b && false || (holds c && true || old)) ≡ (holds c && true || old)) [ true ↦ refl | false ↦ refl ])
+  | inr (inr above) ↦
+      rw (ne_eqb c code (λ k. omega arith), le-ltb c code (omega arith), le-ltb c (code + 1) (omega arith))
+      (elim wanted as (λ b. (b && false || (holds c && false || old)) ≡ (holds c && false || old)) [ true ↦ refl | false ↦ refl ])
+]

@@ -20,8 +20,10 @@ pub mod Runs
 pub mod Starts
 pub mod Standing
 pub mod Walks
+pub mod Told
 pub mod Tried
 pub mod FirstAtom
 pub mod Glance
 pub mod Programs
 pub mod ReadyParts
+pub mod Bounds

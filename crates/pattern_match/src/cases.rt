@@ -11,7 +11,9 @@ use char_class::same;
 pub(crate) fn is_one(c: char, d: char, ignore: bool) -> bool
     ensures { result ≡ is_same c d ignore }
 {
-    if ignore && c.is_ascii() && d.is_ascii() {
+    if !ignore {
+        c == d
+    } else if c.is_ascii() && d.is_ascii() {
         ascii_fold(c) == ascii_fold(d)
     } else {
         same(c, d, ignore)

@@ -21,6 +21,7 @@ use crate::runs::{less_by, run_length};
 use crate::spent::Spent;
 use crate::step::{Step, Test};
 use crate::task::Turns;
+use crate::told::{Told, tell};
 use crate::turns::{is_after, next_turns, one_less};
 use pattern_screens::is_spent;
 use syn_base::{Lines, Looked, Place};
@@ -113,8 +114,44 @@ fn asks_for_group(test: &Test) -> bool
     }
 }
 
-/// A short look at an atom.
+/// A short look at an atom. Mostly the character here tells of it.
+#[inline(always)]
 fn look_at_atom<T: Lines>(lines: &T, context: &Context<'_>, test: &Test, sight: &mut Sight) -> Saw
+    requires { Stands (T.lines lines.now) sight.old }
+    ensures seen { (w : Way) → w.at ≡ sight.old.at →
+        IsAtomSeen (context_in (T.lines lines.now) context.now) (atom_of test.now) w sight.old
+        sight.new result }
+    ensures goes { GoesOn (T.lines lines.now) sight.old sight.new }
+{
+    if sight.spent.cost >= sight.spent.budget {
+        return Saw::TooFar;
+    }
+    match tell(lines, context, test, sight.at) {
+        Told::To(place) => {
+            sight
+                .spent
+                .tick(Looked::one(numbered(lines, sight.at.line)));
+            sight.at = place;
+            Saw::Reached
+        }
+        Told::Nowhere => {
+            sight
+                .spent
+                .tick(Looked::one(numbered(lines, sight.at.line)));
+            Saw::InVain
+        }
+        Told::Nothing => look_at_any_atom(lines, context, test, sight),
+    }
+}
+
+/// A short look at an atom, which is tried.
+#[inline(never)]
+fn look_at_any_atom<T: Lines>(
+    lines: &T,
+    context: &Context<'_>,
+    test: &Test,
+    sight: &mut Sight,
+) -> Saw
     requires { Stands (T.lines lines.now) sight.old }
     ensures seen { (w : Way) → w.at ≡ sight.old.at →
         IsAtomSeen (context_in (T.lines lines.now) context.now) (atom_of test.now) w sight.old
@@ -161,6 +198,28 @@ fn look_at<T: Lines>(
         Step::One(test) => look_at_one(lines, context, test, rest, sight),
         Step::Seq(first, second) => look_at_both(lines, context, first, second, rest, sight),
         Step::Or(first, second) => look_at_either(lines, context, first, second, rest, sight),
+        step => look_at_other(lines, context, step, rest, sight),
+    }
+}
+
+/// The same, at a node that is no atom, no two parts and no choice of two.
+#[cycle(look)]
+#[inline(never)]
+fn look_at_other<T: Lines>(
+    lines: &T,
+    context: &Context<'_>,
+    step: &Step,
+    rest: &Rest<'_>,
+    sight: &mut Sight,
+) -> Saw
+    requires { Stands (T.lines lines.now) sight.old }
+    ensures seen { (w : Way) → w.at ≡ sight.old.at →
+        let x = context_in (T.lines lines.now) context.now in
+        IsSeen (followed (visits x (shape_of step.now) w) (marks_behind x rest.now))
+        sight.old sight.new result }
+    ensures goes { GoesOn (T.lines lines.now) sight.old sight.new }
+{
+    match step {
         Step::Optional(part) => look_at_optional(lines, context, part, rest, sight),
         Step::Group(part, number) => {
             let rest = Rest::Close(*number, sight.at, &*rest);
@@ -229,11 +288,31 @@ fn look_at_both<T: Lines>(
             Saw::Reached => look_at(lines, context, second, rest, sight),
             saw => saw,
         },
-        first => {
-            let rest = Rest::Then(&*second, &*rest);
-            look_at(lines, context, first, &rest, sight)
-        }
+        first => look_at_first(lines, context, first, second, rest, sight),
     }
+}
+
+/// The same, where the first part is no atom.
+#[cycle(look)]
+#[inline(never)]
+fn look_at_first<T: Lines>(
+    lines: &T,
+    context: &Context<'_>,
+    first: &Step,
+    second: &Step,
+    rest: &Rest<'_>,
+    sight: &mut Sight,
+) -> Saw
+    requires { Stands (T.lines lines.now) sight.old }
+    ensures seen { (w : Way) → w.at ≡ sight.old.at →
+        let x = context_in (T.lines lines.now) context.now in
+        IsSeen (followed (visits x (seq (shape_of first.now) (shape_of second.now)) w)
+        (marks_behind x rest.now))
+        sight.old sight.new result }
+    ensures goes { GoesOn (T.lines lines.now) sight.old sight.new }
+{
+    let rest = Rest::Then(&*second, &*rest);
+    look_at(lines, context, first, &rest, sight)
 }
 
 /// A short look at one part or the other.
@@ -392,7 +471,12 @@ fn turns_at_once<T: Lines>(
 {
     let left = sight.spent.budget - sight.spent.cost;
     match turns.part {
-        Step::One(test) => run_length(lines, context, test, turns.most, sight.at, left),
+        Step::One(test) => {
+            if let Told::Nowhere = tell(lines, context, test, sight.at) {
+                return 0;
+            }
+            run_length(lines, context, test, turns.most, sight.at, left)
+        }
         _ => 0,
     }
 }

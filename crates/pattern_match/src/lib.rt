@@ -9,6 +9,7 @@
 mod answer;
 mod atoms;
 mod behind;
+mod bounds;
 mod cases;
 mod collection;
 mod context;
@@ -30,6 +31,7 @@ mod step;
 mod tables;
 mod task;
 mod tick;
+mod told;
 mod turns;
 mod walks;
 mod ways;

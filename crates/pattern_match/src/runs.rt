@@ -9,7 +9,7 @@ ghost use Rattle.pattern_match.specs.Runs.{AreAllowed, HasRun, IsRun};
 
 use crate::atoms::numbered;
 use crate::context::Context;
-use crate::screens::{is_plain, plain_takes};
+use crate::screens::takes_if_plain;
 use crate::spent::Spent;
 use crate::step::Test;
 use crate::task::Task;
@@ -39,6 +39,18 @@ fn turns_allowed(most: Option<u32>, left: u64) -> usize
     }
 }
 
+/// Whether an atom is one of characters, and takes this one.
+#[inline(always)]
+fn takes(test: &Test, sets: &Sets, ignore: bool, c: char) -> bool
+    ensures { IsTrue result → (is_plain (atom_of test.now) ≡ true)
+        × IsTrue (plain_takes sets.now ignore (atom_of test.now) c) }
+{
+    match takes_if_plain(test, sets, ignore, c) {
+        Some(takes) => takes,
+        None => false,
+    }
+}
+
 /// How many characters an atom takes one behind the other, from the first on.
 fn characters_taken(test: &Test, sets: &Sets, ignore: bool, characters: &[char]) -> usize
     ensures plain { 0 < result → is_plain (atom_of test.now) ≡ true }
@@ -46,12 +58,9 @@ fn characters_taken(test: &Test, sets: &Sets, ignore: bool, characters: &[char])
     ensures taken { All (λ c. IsTrue (plain_takes sets.now ignore (atom_of test.now) c))
         (take result characters.now) }
 {
-    if !is_plain(test) {
-        return 0;
-    }
     let mut count = 0;
     for c in characters {
-        if !plain_takes(test, sets, ignore, *c) {
+        if !takes(test, sets, ignore, *c) {
             return count;
         }
         count += 1;

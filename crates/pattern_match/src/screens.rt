@@ -1,5 +1,5 @@
 //! Screens by first atoms, over nodes that are ready.
-ghost use Rattle.std.specs.Prelude.{◌≡◌};
+ghost use Rattle.std.specs.Prelude.{◌≡◌, IfSome, true};
 ghost use Rattle.vim_pattern.specs.Shape.{one};
 ghost use Rattle.pattern_screens.specs.FirstAtoms.{first_passes};
 ghost use Rattle.pattern_screens.specs.PlainAtoms.{is_plain, plain_fits, plain_takes};
@@ -76,6 +76,35 @@ fn plain_fits(test: &Test, sets: &Sets, ignore: bool, next: Option<char>) -> boo
     match next {
         Some(c) => plain_takes(test, sets, ignore, c),
         None => false,
+    }
+}
+
+/// Whether an atom of characters takes this one. Of any other atom nothing is told.
+#[inline(always)]
+pub(crate) fn takes_if_plain(test: &Test, sets: &Sets, ignore: bool, c: char) -> Option<bool>
+    ensures { IfSome result (λ takes. (is_plain (atom_of test.now) ≡ true)
+        × (takes ≡ plain_takes sets.now ignore (atom_of test.now) c)) }
+{
+    match test {
+        Test::Char(d) => Some(is_one(*d, c, ignore)),
+        Test::Is {
+            class,
+            not,
+            line_end,
+        } => {
+            if *line_end {
+                return None;
+            }
+            Some(class_has(*class, c, sets) != *not)
+        }
+        Test::Set(collection) => {
+            if collection.takes_line_end() {
+                return None;
+            }
+            Some(collection.has(c, sets, ignore))
+        }
+        Test::Any { line_end } => if *line_end { None } else { Some(true) },
+        _ => None,
     }
 }
 

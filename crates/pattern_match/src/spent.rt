@@ -62,13 +62,20 @@ impl Spent {
         ensures { self.new ≡ looking_at_too looked self.old }
     {
         match self.looked {
-            None => self.looked = Some(looked),
-            Some(before) => {
-                if !holds(before, looked) {
-                    self.looked = Some(before.join(looked));
-                }
-            }
+            Some(before) if holds(before, looked) => {}
+            _ => self.look_further(looked),
         }
+    }
+
+    /// The same, of lines that weren't looked at before.
+    #[inline(never)]
+    fn look_further(&mut self, looked: Looked)
+        ensures { self.new ≡ looking_at_too looked self.old }
+    {
+        self.looked = match self.looked {
+            None => Some(looked),
+            Some(before) => Some(before.join(looked)),
+        };
     }
 }
 

@@ -42,13 +42,13 @@ look_at-returns-in-Or-clause-seen g t c =
     let x : AnyContext = context_in (g.T.Lines.lines c.args.lines.now) c.args.context.now in
     λ w e. rw c.in-Or.is (rw (c.deref-in-Or-2.ensures, c.deref-in-Or.ensures) at c.look_at_either.ensures.seen w e)
 
-pub look_at-returns-in-Optional-clause-seen : goal.look_at-returns-in-Optional-clause-seen
-look_at-returns-in-Optional-clause-seen g t c =
+pub look_at_other-returns-in-Optional-clause-seen : goal.look_at_other-returns-in-Optional-clause-seen
+look_at_other-returns-in-Optional-clause-seen g t c =
     let x : AnyContext = context_in (g.T.Lines.lines c.args.lines.now) c.args.context.now in
-    λ w e. rw c.in-Optional.is (rw c.deref-in-Optional.ensures at c.look_at_optional.ensures.seen w e)
+    λ w e. rw c.in-Optional.is (rw c.deref.ensures at c.look_at_optional.ensures.seen w e)
 
-pub look_at-returns-in-Group-clause-seen : goal.look_at-returns-in-Group-clause-seen
-look_at-returns-in-Group-clause-seen g t c =
+pub look_at_other-returns-in-Group-clause-seen : goal.look_at_other-returns-in-Group-clause-seen
+look_at_other-returns-in-Group-clause-seen g t c =
     let x : AnyContext = context_in (g.T.Lines.lines c.args.lines.now) c.args.context.now in
     let f = marks_behind x c.args.rest.now in
     let s : Shape = shape_of c.in-Group.part.value in
@@ -59,8 +59,8 @@ look_at-returns-in-Group-clause-seen g t c =
     c.args.sight.now c.look_at.new.sight c.look_at.result)
     (sym e) (rw c.deref-in-Group.ensures at c.look_at.ensures.seen w e)))
 
-pub look_at-returns-in-External-clause-seen : goal.look_at-returns-in-External-clause-seen
-look_at-returns-in-External-clause-seen g t c =
+pub look_at_other-returns-in-External-clause-seen : goal.look_at_other-returns-in-External-clause-seen
+look_at_other-returns-in-External-clause-seen g t c =
     let x : AnyContext = context_in (g.T.Lines.lines c.args.lines.now) c.args.context.now in
     let f = marks_behind x c.args.rest.now in
     let s : Shape = shape_of c.in-External.part.value in
@@ -71,13 +71,13 @@ look_at-returns-in-External-clause-seen g t c =
     c.args.sight.now c.look_at-in-External.new.sight c.look_at-in-External.result)
     (sym e) (rw c.deref-in-External.ensures at c.look_at-in-External.ensures.seen w e)))
 
-pub look_at-returns-in-Repeat-clause-seen : goal.look_at-returns-in-Repeat-clause-seen
-look_at-returns-in-Repeat-clause-seen g t c =
+pub look_at_other-returns-in-Repeat-clause-seen : goal.look_at_other-returns-in-Repeat-clause-seen
+look_at_other-returns-in-Repeat-clause-seen g t c =
     let x : AnyContext = context_in (g.T.Lines.lines c.args.lines.now) c.args.context.now in
     λ w e. rw c.in-Repeat.is (rw (c.new-turns.ensures, c.deref-in-Repeat.ensures) at c.look_at_count.ensures.seen w e)
 
-pub look_at-returns-in-Ahead-clause-seen : goal.look_at-returns-in-Ahead-clause-seen
-look_at-returns-in-Ahead-clause-seen g t c =
+pub look_at_other-returns-in-Ahead-clause-seen : goal.look_at_other-returns-in-Ahead-clause-seen
+look_at_other-returns-in-Ahead-clause-seen g t c =
     let x : AnyContext = context_in (g.T.Lines.lines c.args.lines.now) c.args.context.now in
     λ w e. rw c.in-Ahead.is (rw c.deref-in-Ahead.ensures at c.look_ahead.ensures.seen w e)
 
@@ -127,17 +127,13 @@ look_at_both-returns-in_default-look_at_atom g t c =
       goes = c.look_at_atom.ensures.goes;
     }
 
-pub look_at_both-returns-in_default : goal.look_at_both-returns-in_default
-look_at_both-returns-in_default g t c =
+pub look_at_first-returns-clause-seen : goal.look_at_first-returns-clause-seen
+look_at_first-returns-clause-seen g t c =
     let x : AnyContext = context_in (g.T.Lines.lines c.args.lines.now) c.args.context.now in
     let f = marks_behind x c.args.rest.now in
-    record {
-      seen = λ w e. seen_as _ _ c.args.sight.now c.look_at-in_default.new.sight
-          c.look_at-in_default.result
-          (both_is x (shape_of c.args.first.now) (shape_of c.args.second.now) w f)
-          (c.look_at-in_default.ensures.seen w e);
-      goes = c.look_at-in_default.ensures.goes;
-    }
+    λ w e. seen_as _ _ c.args.sight.now c.look_at.new.sight c.look_at.result
+    (both_is x (shape_of c.args.first.now) (shape_of c.args.second.now) w f)
+    (c.look_at.ensures.seen w e)
 
 pub look_at_either-returns-in-InVain-clause-seen : goal.look_at_either-returns-in-InVain-clause-seen
 look_at_either-returns-in-InVain-clause-seen g t c =

@@ -20,7 +20,13 @@ abbrev pub decreases-look_at_one : goal.decreases-look_at_one
 decreases-look_at_one g l = 8 * l.sight.now.left + 1
 
 abbrev pub decreases-look_at_both : goal.decreases-look_at_both
-decreases-look_at_both g l = 8 * l.sight.now.left + 1
+decreases-look_at_both g l = 8 * l.sight.now.left + 2
+
+abbrev pub decreases-look_at_first : goal.decreases-look_at_first
+decreases-look_at_first g l = 8 * l.sight.now.left + 1
+
+abbrev pub decreases-look_at_other : goal.decreases-look_at_other
+decreases-look_at_other g l = 8 * l.sight.now.left + 5
 
 abbrev pub decreases-look_at_either : goal.decreases-look_at_either
 decreases-look_at_either g l = 8 * l.sight.now.left + 1

@@ -9,12 +9,14 @@ pub loop-c-preserved : goal.loop-c-preserved
 loop-c-preserved c =
     let characters = c.args.characters.now in
     let count = c.loop-c.count in
-    let takes = λ (d : ℕ). plain_takes c.args.sets.now c.args.ignore (atom_of c.args.test.now) d in
+    let taken = λ (d : ℕ). plain_takes c.args.sets.now c.args.ignore (atom_of c.args.test.now) d in
     let within : count < length characters = omega arith in
     let item = c.c-item.result in
     let read : item ≡ get_or characters count item = c.c-item.is ∙ ap (λ i. get_or characters i item) (sym c.loop-c.invariant.each) in
+    let told = c.takes.ensures c.if-not-takes.false in
     record {
       each = omega arith;
       within = omega arith;
-      taken = All-more (λ d. IsTrue (takes d)) characters count item within c.loop-c.invariant.taken (subst (λ d. IsTrue (takes d)) read (sym c.plain_takes.ensures ∙ c.if-not-plain_takes.false));
+      plain = λ h. told.0;
+      taken = All-more (λ d. IsTrue (taken d)) characters count item within c.loop-c.invariant.taken (subst (λ d. IsTrue (taken d)) read told.1);
     }

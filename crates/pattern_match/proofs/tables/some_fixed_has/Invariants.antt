@@ -1,7 +1,0 @@
-use Rattle.std.proofs.Common.{◌≡◌, drop}
-use Rattle.pattern_match.specs.ReadyParts.{some_fixed_holds}
-use Rattle.pattern_match.proofs.tables.some_fixed_has.Given as goal
-
--- the parts before are none of these
-abbrev pub invariant-loop-part : goal.invariant-loop-part
-invariant-loop-part l = some_fixed_holds (drop l.part-index l.parts) l.c l.sets l.ignore ≡ some_fixed_holds l.parts l.c l.sets l.ignore
