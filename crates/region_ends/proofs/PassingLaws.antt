@@ -1,6 +1,6 @@
 -- The search goes on behind columns where neither the skip nor an end can fit.
 use Rattle.std.proofs.Common.{◌≡◌, ◌⊎◌, inl, inr, ◌∙◌, refl, sym, ap, subst, arith, ℕ, zero, suc, ◌+◌, ◌-◌, ◌<◌, ◌≤◌, Bool, true, false, List, [], ◌∷◌, length}
-use Rattle.std.specs.Prelude.{Option, Some, None, pos, nat_eq, nat_lt, not, ◌&&◌, ◌||◌, reverse, slice_get, is_some}
+use Rattle.std.specs.Prelude.{Option, Some, None, pos, nat_eq, nat_lt, not, ◌&&◌, ◌||◌, reverse, slice_get, is_some, if◌then◌else◌}
 use Rattle.std.specs.List.{All, list_all}
 use Rattle.std.specs.Option.{option_map}
 use Rattle.std.proofs.lemmas.Bool.Decides.{nat_tests}
@@ -14,8 +14,13 @@ use Rattle.match_rules.specs.Attempt.{ignores_case}
 use Rattle.pattern_match.specs.declared.answer.Attempt.TheVariants as tried
 use Rattle.pattern_match.specs.Answers.{match_of}
 use Rattle.pattern_screens.specs.Bounds.{failing_cost}
+use Rattle.char_class.specs.declared.sets.Sets.{Sets}
 use Rattle.pattern_screens.specs.declared.key.Key.{Key}
-use Rattle.pattern_screens.specs.Keys.{key_numbered, key_of}
+use Rattle.pattern_screens.specs.declared.key.Last.{Last}
+use Rattle.pattern_screens.specs.declared.key.Last.TheVariants as lasts
+use Rattle.pattern_screens.specs.declared.key.Next.{Next}
+use Rattle.pattern_screens.specs.declared.key.Next.TheVariants as nexts
+use Rattle.pattern_screens.specs.Keys.{key_numbered, key_of, next_of}
 use Rattle.pattern_screens.specs.Screens.{is_futile, verdict}
 use Rattle.pattern_screens.proofs.Screened.{futile}
 use Rattle.syntax_set.specs.declared.item.ItemKind.{ItemKind}
@@ -34,7 +39,7 @@ use Rattle.region_ends.specs.declared.passing.Passing.{Passing}
 use Rattle.region_ends.specs.declared.searching.Searching.{Searching}
 use Rattle.region_ends.specs.KeyAnswers.{AnswersStand}
 use Rattle.region_ends.specs.Opening.{IsToldOf, begins_elsewhere, begins_with, cannot_begin, differs, first_of, is_unopened}
-use Rattle.region_ends.specs.Passing.{IsOfRegion, IsPassedOver, IsPassing, are_cheap, are_shut, fails, is_end_passed, is_end_shut, is_idle, is_shut, is_shut_at, is_skip_shut, is_vain, is_skip_vain, is_cheap, is_skip_cheap}
+use Rattle.region_ends.specs.Passing.{IsOfRegion, IsPassedOver, IsPassing, are_cheap, are_shut, are_shut_anyway, are_shut_by, fails, is_end_passed, is_end_shut, is_idle, is_shut, is_shut_at, is_skip_shut, is_vain, is_skip_vain, is_cheap, is_skip_cheap}
 use Rattle.region_ends.specs.Steps.{HoldsLine, search_in}
 use Rattle.region_ends.proofs.OpeningLaws.{attempt_fails, begins_here, told_elsewhere}
 use Rattle.region_ends.proofs.SearchLaws.{tried_at_is, end_absent, to_later}
@@ -233,20 +238,67 @@ idle_passed a c few idle =
     let cheap = both (is_skip_cheap a.budget a.skip.now) (list_all (is_cheap a.budget) a.ends.now) few in
     record { skip = vain.0; cheap = cheap.0; ends = idle_ends a c a.ends.now vain.1 cheap.1 }
 
+-- what stands before doesn't matter
+after_any : (sets : Sets) (budget : ℕ) (ignore : Bool) (next : Next) (skip : Option Pattern) (ends : List Pattern) (last : Last) →
+    are_shut_anyway sets budget ignore next skip ends ≡ true → are_shut sets budget ignore (record { next = next; last = last }) skip ends ≡ true
+after_any sets budget ignore next skip ends last e =
+    let shut : Last → Bool = λ l. are_shut sets budget ignore (record { next = next; last = l }) skip ends in
+    let h = both (shut lasts.Nothing) (shut lasts.Keyword && shut lasts.Other) e in
+    let g = both (shut lasts.Keyword) (shut lasts.Other) h.1 in
+    elim last as (λ l. shut l ≡ true) [
+      | lasts.Nothing ↦ h.0
+      | lasts.Keyword ↦ g.0
+      | lasts.Other ↦ g.1
+    ]
+
+-- a column where what stands there shuts out the skip and the ends is passed over
+pub anyway_passed : (a : Passing) (c : ℕ) → are_shut_anyway a.sets.now a.budget a.ignore (next_of a.sets.now (slice_get a.line.now c)) a.skip.now a.ends.now ≡ true →
+    All (IsToldOf a.externals.now a.ignore a.opening) a.ends.now → is_unopened a.opening (slice_get a.line.now c) ≡ true → IsPassedOver a c
+anyway_passed a c e told unopened =
+    let key = key_of a.sets.now a.line.now c in
+    shut_passed a c key refl (after_any a.sets.now a.budget a.ignore key.next a.skip.now a.ends.now key.last e) told unopened
+
+-- behind the numbers of all keys stand those of characters
+pub coded : (sets : Sets) (budget : ℕ) (ignore : Bool) (code : ℕ) (skip : Option Pattern) (ends : List Pattern) →
+    are_shut_by sets budget ignore (777 + code) skip ends ≡ are_shut_anyway sets budget ignore (nexts.Code code) skip ends
+coded sets budget ignore code skip ends =
+    let none_less : nat_lt (777 + code) 777 ≡ false = grind (arith, nat_tests) in
+    let same : 777 + code - 777 ≡ code = omega arith in
+    ap (λ (b : Bool). if b then are_shut sets budget ignore (key_numbered (777 + code)) skip ends else are_shut_anyway sets budget ignore (nexts.Code (777 + code - 777)) skip ends) none_less
+    ∙ ap (λ (n : ℕ). are_shut_anyway sets budget ignore (nexts.Code n) skip ends) same
+
+-- the numbers of keys
+pub keyed : (sets : Sets) (budget : ℕ) (ignore : Bool) (number : ℕ) (key : Key) (skip : Option Pattern) (ends : List Pattern) →
+    number < 777 → key_numbered number ≡ key → are_shut_by sets budget ignore number skip ends ≡ true → are_shut sets budget ignore key skip ends ≡ true
+keyed sets budget ignore number key skip ends below is e =
+    let less : nat_lt number 777 ≡ true = grind (arith, nat_tests, below) in
+    let same = ap (λ (b : Bool). if b then are_shut sets budget ignore (key_numbered number) skip ends else are_shut_anyway sets budget ignore (nexts.Code (number - 777)) skip ends) less in
+    subst (λ (k : Key). are_shut sets budget ignore k skip ends ≡ true) is (sym same ∙ e)
+
+pub by_key : (sets : Sets) (budget : ℕ) (ignore : Bool) (number : ℕ) (skip : Option Pattern) (ends : List Pattern) →
+    number < 777 → are_shut sets budget ignore (key_numbered number) skip ends ≡ true → are_shut_by sets budget ignore number skip ends ≡ true
+by_key sets budget ignore number skip ends below e =
+    let less : nat_lt number 777 ≡ true = grind (arith, nat_tests, below) in
+    ap (λ (b : Bool). if b then are_shut sets budget ignore (key_numbered number) skip ends else are_shut_anyway sets budget ignore (nexts.Code (number - 777)) skip ends) less ∙ e
+
+pub by_code : (sets : Sets) (budget : ℕ) (ignore : Bool) (number : ℕ) (skip : Option Pattern) (ends : List Pattern) →
+    777 ≤ number → are_shut_anyway sets budget ignore (nexts.Code (number - 777)) skip ends ≡ true → are_shut_by sets budget ignore number skip ends ≡ true
+by_code sets budget ignore number skip ends above e =
+    let more : nat_lt number 777 ≡ false = grind (arith, nat_tests, above) in
+    ap (λ (b : Bool). if b then are_shut sets budget ignore (key_numbered number) skip ends else are_shut_anyway sets budget ignore (nexts.Code (number - 777)) skip ends) more ∙ e
+
 -- what is kept of a region tells of the patterns that a search has
-shut_is : (a : Passing) → IsOfRegion a → (number : ℕ) (key : Key) → key_numbered number ≡ key →
-    is_shut_at a.items.now a.sets.now a.budget number a.region.0 ≡ are_shut a.sets.now a.budget a.ignore key a.skip.now a.ends.now
-shut_is a of number key is =
-    let other : key ≡ key_numbered number = sym is in
-    sym (λ i. are_shut a.sets.now a.budget (of.ignore i) (other i) (of.skip i) (of.ends i))
+shut_is : (a : Passing) → IsOfRegion a → (number : ℕ) →
+    is_shut_at a.items.now a.sets.now a.budget number a.region.0 ≡ are_shut_by a.sets.now a.budget a.ignore number a.skip.now a.ends.now
+shut_is a of number = sym (λ i. are_shut_by a.sets.now a.budget (of.ignore i) number (of.skip i) (of.ends i))
 
-pub shut_by : (a : Passing) → IsOfRegion a → (number : ℕ) (key : Key) → key_numbered number ≡ key →
-    is_shut_at a.items.now a.sets.now a.budget number a.region.0 ≡ true → are_shut a.sets.now a.budget a.ignore key a.skip.now a.ends.now ≡ true
-shut_by a of number key is e = sym (shut_is a of number key is) ∙ e
+pub shut_by : (a : Passing) → IsOfRegion a → (number : ℕ) →
+    is_shut_at a.items.now a.sets.now a.budget number a.region.0 ≡ true → are_shut_by a.sets.now a.budget a.ignore number a.skip.now a.ends.now ≡ true
+shut_by a of number e = sym (shut_is a of number) ∙ e
 
-pub shut_told : (a : Passing) → IsOfRegion a → (number : ℕ) (key : Key) → key_numbered number ≡ key →
-    are_shut a.sets.now a.budget a.ignore key a.skip.now a.ends.now ≡ true → is_shut_at a.items.now a.sets.now a.budget number a.region.0 ≡ true
-shut_told a of number key is e = shut_is a of number key is ∙ e
+pub shut_told : (a : Passing) → IsOfRegion a → (number : ℕ) →
+    are_shut_by a.sets.now a.budget a.ignore number a.skip.now a.ends.now ≡ true → is_shut_at a.items.now a.sets.now a.budget number a.region.0 ≡ true
+shut_told a of number e = shut_is a of number ∙ e
 
 -- the answers that a search has are those of what its columns are asked
 module _ (a : Passing) (s : Searching) (text : Text) (skip : Option Pattern) (ends : List Pattern) (of : IsPassing a s text skip ends) (answers : KeyAnswers) where

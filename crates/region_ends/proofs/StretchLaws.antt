@@ -251,11 +251,11 @@ not_here_at looked None l e = cc
 not_here_at looked (Some x) l e = absurd (cc)
 
 -- what a search came to stands of its line
-pub kept_stands : (items : List AddedItem) (sets : Sets) (budget : ℕ) (text : Text) (region : ItemId) (externals : List (List ℕ)) (from : Place) (s : Searched) (known : Known) → externals ≡ no_externals →
-    IsKept region from.line s known → TellsColumns items sets budget text region externals from s → KnownStands items sets budget text from.line known
-kept_stands items sets budget text region externals from s known none kept tells c low high reached =
-    let whole : ItemId → List (List ℕ) → EndAnswer → Type 0 = λ i externals a. IsEnd a i (end_in_line (search_of items sets budget text i externals (place_at from.line c))) in
-    subst (λ (i : ItemId). whole i no_externals (answer_at known.end from.line)) (sym kept.same)
-    (subst (λ (externals : List (List ℕ)). whole region externals (answer_at known.end from.line)) none
-    (subst (λ (a : EndAnswer). whole region externals a) kept.answer
+pub kept_stands : (a : Searching) (text : Text) (s : Searched) (known : Known) → a.externals.now ≡ no_externals →
+    IsKept a.region a.from.line s known → TellsColumns a text s → KnownStands a.items.now a.matcher.sets.now a.matcher.budget text a.from.line known
+kept_stands a text s known none kept tells c low high reached =
+    let whole : ItemId → List (List ℕ) → EndAnswer → Type 0 = λ i externals x. IsEnd x i (end_in_line (search_of a.items.now a.matcher.sets.now a.matcher.budget text i externals (place_at a.from.line c))) in
+    subst (λ (i : ItemId). whole i no_externals (answer_at known.end a.from.line)) (sym kept.same)
+    (subst (λ (externals : List (List ℕ)). whole a.region externals (answer_at known.end a.from.line)) none
+    (subst (λ (x : EndAnswer). whole a.region a.externals.now x) kept.answer
     (tells known.end kept.answer c (omega (arith, low, kept.first)) (omega (arith, high, kept.to)) reached)))

@@ -5,4 +5,4 @@ use Rattle.region_ends.specs.declared.key_answers.KeyAnswers.{KeyAnswers}
 
 -- what was answered by yes is so; `is` says what is asked, of the number of a key and that of an item
 pub record AnswersStand (is : ℕ → ℕ → Bool) (answers : KeyAnswers) : Type 0 where
-  pub told : (number item : ℕ) → IsIn answers.answers number item true → is number item ≡ true
+  pub told : (number item : ℕ) → IsIn answers.answers item number true → is number item ≡ true

@@ -1,11 +1,14 @@
 -- Columns at which a search finds nothing, by what stands there.
-use Rattle.std.specs.Prelude.{◌≡◌, ◌≤◌, ℕ, ◌-◌, slice_get, is_some, Bool, true, nat_eq, nat_lt, ◌||◌, ◌&&◌, not, List, Option, Some, None}
+use Rattle.std.specs.Prelude.{◌≡◌, ◌≤◌, ℕ, ◌-◌, slice_get, is_some, Bool, true, nat_eq, nat_lt, ◌||◌, ◌&&◌, not, List, Option, Some, None, if◌then◌else◌}
 use Rattle.std.specs.List.{All, list_all}
 use Rattle.char_class.specs.declared.sets.Sets.{Sets}
 use Rattle.match_rules.specs.Ways.{Text, line_at}
 use Rattle.syntax_set.specs.declared.added_item.AddedItem.{AddedItem}
 use Rattle.syntax_set.specs.declared.item.Pattern.{Pattern}
 use Rattle.pattern_screens.specs.declared.key.Key.{Key}
+use Rattle.pattern_screens.specs.declared.key.Last.TheVariants as last
+use Rattle.pattern_screens.specs.declared.key.Next.{Next}
+use Rattle.pattern_screens.specs.declared.key.Next.TheVariants as next
 use Rattle.pattern_screens.specs.Bounds.{failing_cost}
 use Rattle.pattern_screens.specs.Keys.{key_numbered, key_of}
 use Rattle.pattern_screens.specs.Screens.{is_futile, verdict}
@@ -78,11 +81,24 @@ abbrev pub are_shut : Sets → ℕ → Bool → Key → Option Pattern → List 
 are_shut sets budget ignore key skip ends =
     is_skip_shut sets budget ignore key skip && list_all (is_end_shut sets budget ignore key) ends
 
--- the skip and all ends of a region that don't begin with the text of an external, by the number of a
--- key and that of the region
+-- the same where this stands, whatever stands before
+abbrev pub are_shut_anyway : Sets → ℕ → Bool → Next → Option Pattern → List Pattern → Bool
+are_shut_anyway sets budget ignore next skip ends =
+    are_shut sets budget ignore (record { next = next; last = last.Nothing }) skip ends
+    && (are_shut sets budget ignore (record { next = next; last = last.Keyword }) skip ends
+    && are_shut sets budget ignore (record { next = next; last = last.Other }) skip ends)
+
+-- the same by a number: that of a key, or behind those of all keys a character's code
+abbrev pub are_shut_by : Sets → ℕ → Bool → ℕ → Option Pattern → List Pattern → Bool
+are_shut_by sets budget ignore number skip ends =
+    if nat_lt number 777 then are_shut sets budget ignore (key_numbered number) skip ends
+    else are_shut_anyway sets budget ignore (next.Code (number - 777)) skip ends
+
+-- the skip and all ends of a region that don't begin with the text of an external, by such a number
+-- and that of the region
 abbrev pub is_shut_at : List AddedItem → Sets → ℕ → ℕ → ℕ → Bool
 is_shut_at items sets budget number region =
-    are_shut sets budget (item_of items (record { 0 = region })).ignore (key_numbered number)
+    are_shut_by sets budget (item_of items (record { 0 = region })).ignore number
     (skip_of (item_of items (record { 0 = region })).kind)
     (ends_of (item_of items (record { 0 = region })).kind)
 

@@ -1,12 +1,9 @@
 -- Columns of a line from which searches come to the same.
-use Rattle.std.specs.Prelude.{◌≡◌, ◌<◌, ◌≤◌, ◌⊎◌, ℕ, suc, List, length, Some, None, Option, pos, false}
-use Rattle.char_class.specs.declared.sets.Sets.{Sets}
-use Rattle.syn_base.specs.declared.places.ItemId.{ItemId}
+use Rattle.std.specs.Prelude.{◌≡◌, ◌<◌, ◌≤◌, ◌⊎◌, ℕ, suc, length, Some, None, Option, pos, false}
 use Rattle.syn_base.specs.declared.places.Place.{Place}
 use Rattle.syn_base.specs.declared.looked.Looked.{Looked}
 use Rattle.syn_base.specs.Looked.{one_line}
 use Rattle.match_rules.specs.Ways.{Text, is_after, line_at}
-use Rattle.syntax_set.specs.declared.added_item.AddedItem.{AddedItem}
 use Rattle.syntax_set.specs.declared.item.ItemKind.{ItemKind}
 use Rattle.paint_rules.specs.declared.RegionEnd.{RegionEnd}
 use Rattle.paint_rules.specs.Painted.{Painted, looked_first}
@@ -17,7 +14,7 @@ use Rattle.region_ends.specs.declared.searching.EndAnswer.{EndAnswer}
 use Rattle.region_ends.specs.declared.searching.EndAnswer.TheVariants.{Ends, NotHere}
 use Rattle.region_ends.specs.declared.searching.Searched.{Searched}
 use Rattle.region_ends.specs.declared.searching.Searching.{Searching}
-use Rattle.region_ends.specs.Searches.{search_of, IsEnd}
+use Rattle.region_ends.specs.Searches.{IsEnd}
 use Rattle.region_ends.specs.Steps.{search_in}
 
 -- an end or none, by a look at one line
@@ -56,10 +53,9 @@ pub record IsSearched (a : Searching) (text : Text) (kind : ItemKind) (s : Searc
 
 -- where a search looked at its line alone, searches from some columns on, unless these are behind the
 -- end that it found, come to the same
-abbrev pub TellsColumns : List AddedItem → Sets → ℕ → Text → ItemId → List (List ℕ) → Place →
-    Searched → Type 0
-TellsColumns items sets budget text region externals from s =
-    (found : Option RegionEnd) → s.answer ≡ answer_at found from.line → (d : ℕ) →
-    s.first ≤ d → d < s.to → ReachesEnd (place_at from.line d) found →
-    IsEnd s.answer region
-    (end_in_line (search_of items sets budget text region externals (place_at from.line d)))
+abbrev pub TellsColumns : Searching → Text → Searched → Type 0
+TellsColumns a text s =
+    (found : Option RegionEnd) → s.answer ≡ answer_at found a.from.line → (d : ℕ) →
+    s.first ≤ d → d < s.to → ReachesEnd (place_at a.from.line d) found →
+    IsEnd s.answer a.region
+    (end_in_line (search_in (record a { from = place_at a.from.line d }) text))

@@ -14,7 +14,8 @@ ghost use Rattle.region_ends.specs.KeyAnswers.{AnswersStand};
 ghost use Rattle.region_ends.specs.Passing.{is_shut_at};
 
 use crate::key_answers::KeyAnswers;
-use crate::searching::{EndAnswer, Searched, search_anew};
+use crate::matching::Matcher;
+use crate::searching::{EndAnswer, Searched, Searching};
 use char_class::Sets;
 use paint_rules::RegionEnd;
 use pattern_match::Programs;
@@ -179,10 +180,21 @@ pub fn find_end_by<T: Lines>(
         memo.new }
     ensures shut { AnswersStand (is_shut_at items.now sets.now budget) shut.new }
 {
+    let matcher = Matcher {
+        alloc,
+        programs,
+        sets,
+        budget,
+    };
+    let searching = Searching {
+        matcher,
+        items,
+        region,
+        externals,
+        from,
+    };
     if !externals.same(none) {
-        let searched = search_anew(
-            alloc, items, programs, sets, lines, region, externals, from, shut, budget,
-        )?;
+        let searched = searching.anew(lines, shut)?;
         return Ok(searched.answer);
     }
     // The proof needs the bounds that this call tells of the text.
@@ -191,9 +203,7 @@ pub fn find_end_by<T: Lines>(
         Some(end) => return Ok(answer_at(end, from.line)),
         None => {}
     }
-    let searched = search_anew(
-        alloc, items, programs, sets, lines, region, externals, from, shut, budget,
-    )?;
+    let searched = searching.anew(lines, shut)?;
     match known_by(region, from.line, searched) {
         Some(known) => memo.keep(known)?,
         None => {}

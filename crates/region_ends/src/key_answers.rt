@@ -7,7 +7,7 @@ use std::alloc::Global;
 use syn_base::{ItemId, Memory};
 
 /// Answers to a question of yes or no that is asked of an item at the columns with a key. They are
-/// kept by the number of the key and that of the item.
+/// kept by the number of the item and that of the key, so those of one item stand together.
 #[derive(Drop)]
 pub struct KeyAnswers {
     answers: Grid<bool>,
@@ -28,7 +28,7 @@ impl KeyAnswers {
         ensures { (is : ℕ → ℕ → Bool) → AnswersStand is self.now → result ≡ Some true →
             is number item.0 ≡ true }
     {
-        self.answers.get(number as usize, item.0 as usize)
+        self.answers.get(item.0 as usize, number as usize)
     }
 
     /// Keeps an answer.
@@ -36,6 +36,6 @@ impl KeyAnswers {
         ensures { (is : ℕ → ℕ → Bool) → AnswersStand is self.old →
             (yes ≡ true → is number item.0 ≡ true) → AnswersStand is self.new }
     {
-        self.answers.put(number as usize, item.0 as usize, yes)
+        self.answers.put(item.0 as usize, number as usize, yes)
     }
 }

@@ -1,15 +1,16 @@
 //! Columns that a search passes over: by what stands there, neither the skip nor an end can fit.
-ghost use Rattle.std.specs.Prelude.{◌≡◌, ◌≤◌, ◌<◌, ℕ, suc, true, length, slice_get, IsTrue};
+ghost use Rattle.std.specs.Prelude.{◌≡◌, ◌≤◌, ◌<◌, ◌+◌, ℕ, suc, true, length, slice_get, IsTrue};
 ghost use Rattle.std.specs.List.{list_all};
-ghost use Rattle.pattern_screens.specs.Keys.{key_of};
+ghost use Rattle.pattern_screens.specs.declared.key.Next.TheVariants as next;
+ghost use Rattle.pattern_screens.specs.Keys.{key_of, next_of};
 ghost use Rattle.region_ends.specs.KeyAnswers.{AnswersStand};
 ghost use Rattle.region_ends.specs.Opening.{is_unopened};
-ghost use Rattle.region_ends.specs.Passing.{are_cheap, are_shut, fails, is_cheap, is_end_shut, is_idle, is_shut, is_shut_at, is_skip_cheap, is_skip_shut, is_skip_vain, is_vain, IsOfRegion, IsPassedOver};
+ghost use Rattle.region_ends.specs.Passing.{are_cheap, are_shut, are_shut_anyway, are_shut_by, fails, is_cheap, is_end_shut, is_idle, is_shut, is_shut_at, is_skip_cheap, is_skip_shut, is_skip_vain, is_vain, IsOfRegion, IsPassedOver};
 
 use crate::key_answers::KeyAnswers;
 use crate::opening::{Opening, begins_with, stands};
 use char_class::Sets;
-use pattern_screens::{Key, failing_cost, screen};
+use pattern_screens::{KEYS, Key, Last, Next, failing_cost, screen};
 use syn_base::{Externals, ItemId, List, Memory};
 use syntax_set::{ItemSet, Pattern};
 
@@ -139,24 +140,72 @@ impl Passing<'_> {
         self.is_skip_shut(key) && self.are_all_shut(self.ends.as_slice(), key)
     }
 
+    /// The same where this stands, whatever stands before.
+    fn are_shut_anyway(&self, next: Next) -> bool
+        ensures { IsTrue result → are_shut_anyway self.now.sets.now self.now.budget self.now.ignore
+            next self.now.skip.now self.now.ends.now ≡ true }
+    {
+        let at_first = Key {
+            next,
+            last: Last::Nothing,
+        };
+        let after_word = Key {
+            next,
+            last: Last::Keyword,
+        };
+        let after_other = Key {
+            next,
+            last: Last::Other,
+        };
+        self.are_shut(at_first) && self.are_shut(after_word) && self.are_shut(after_other)
+    }
+
+    /// The same at the columns for which an answer is kept by a number.
+    fn are_shut_by(&self, number: u16) -> bool
+        requires { number < 777 + 256 }
+        ensures { IsTrue result → are_shut_by self.now.sets.now self.now.budget self.now.ignore
+            number self.now.skip.now self.now.ends.now ≡ true }
+    {
+        if number < KEYS {
+            return self.are_shut(Key::numbered(number));
+        }
+        self.are_shut_anyway(Next::Code((number - KEYS) as u8))
+    }
+
     /// The same, by the answers that are kept. This one is kept too, if there is memory.
-    fn are_known_shut(&self, key: Key, answers: &mut KeyAnswers) -> bool
+    fn are_known_shut(&self, number: u16, answers: &mut KeyAnswers) -> bool
+        requires number { number < 777 + 256 }
         requires of { IsOfRegion self.now }
         requires answers { AnswersStand (is_shut_at self.now.items.now self.now.sets.now
             self.now.budget) answers.old }
         ensures answers { AnswersStand (is_shut_at self.now.items.now self.now.sets.now
             self.now.budget) answers.new }
-        ensures shut { IsTrue result → are_shut self.now.sets.now self.now.budget self.now.ignore
-            key self.now.skip.now self.now.ends.now ≡ true }
+        ensures shut { IsTrue result → are_shut_by self.now.sets.now self.now.budget
+            self.now.ignore number self.now.skip.now self.now.ends.now ≡ true }
     {
-        let number = key.number();
         match answers.known(number, self.region) {
             Some(shut) => return shut,
             None => {}
         }
-        let shut = self.are_shut(key);
+        let shut = self.are_shut_by(number);
         match answers.keep(number, self.region, shut) {
             Ok(()) | Err(Memory) => shut,
+        }
+    }
+
+    /// The same where a character below 256 stands, whatever stands before.
+    fn are_known_anyway(&self, next: Next, answers: &mut KeyAnswers) -> bool
+        requires of { IsOfRegion self.now }
+        requires answers { AnswersStand (is_shut_at self.now.items.now self.now.sets.now
+            self.now.budget) answers.old }
+        ensures answers { AnswersStand (is_shut_at self.now.items.now self.now.sets.now
+            self.now.budget) answers.new }
+        ensures shut { IsTrue result → are_shut_anyway self.now.sets.now self.now.budget
+            self.now.ignore next self.now.skip.now self.now.ends.now ≡ true }
+    {
+        match next {
+            Next::Code(code) => self.are_known_shut(KEYS + code as u16, answers),
+            _ => false,
         }
     }
 
@@ -185,10 +234,67 @@ impl Passing<'_> {
             return false;
         }
         let key = Key::of(self.sets, self.line, c);
-        if self.are_known_shut(key, answers) {
+        if self.are_known_anyway(key.next, answers) {
+            return true;
+        }
+        if self.are_known_shut(key.number(), answers) {
             return true;
         }
         self.cheap && self.is_idle(c)
+    }
+
+    /// Whether a kept answer tells so of a character, by its code.
+    fn is_told_of(&self, code: u8, answers: &KeyAnswers) -> bool
+        requires of { IsOfRegion self.now }
+        requires answers { AnswersStand (is_shut_at self.now.items.now self.now.sets.now
+            self.now.budget) answers.now }
+        ensures { IsTrue result → are_shut_anyway self.now.sets.now self.now.budget self.now.ignore
+            (next.Code code) self.now.skip.now self.now.ends.now ≡ true }
+    {
+        match answers.known(KEYS + code as u16, self.region) {
+            Some(shut) => shut,
+            None => false,
+        }
+    }
+
+    /// Whether one does of what stands at a column.
+    fn is_told(&self, c: usize, answers: &KeyAnswers) -> bool
+        requires of { IsOfRegion self.now }
+        requires answers { AnswersStand (is_shut_at self.now.items.now self.now.sets.now
+            self.now.budget) answers.now }
+        ensures { IsTrue result → are_shut_anyway self.now.sets.now self.now.budget self.now.ignore
+            (next_of self.now.sets.now (slice_get self.now.line.now c)) self.now.skip.now
+            self.now.ends.now ≡ true }
+    {
+        match self.line.get(c).copied() {
+            None => false,
+            Some(next) => match u8::try_from(next) {
+                Ok(code) => self.is_told_of(code, answers),
+                Err(_) => false,
+            },
+        }
+    }
+
+    /// The first column from one on of which none does, or at which an end that begins with the text of
+    /// an external may begin, or the line's end. This costs little a column.
+    fn told_until(&self, c: usize, answers: &KeyAnswers) -> usize
+        requires column { c ≤ length self.now.line.now }
+        requires of { IsOfRegion self.now }
+        requires answers { AnswersStand (is_shut_at self.now.items.now self.now.sets.now
+            self.now.budget) answers.now }
+        ensures from { c ≤ result }
+        ensures within { result ≤ length self.now.line.now }
+        ensures idle { (k : ℕ) → c ≤ k → k < result → IsPassedOver self.now k }
+    {
+        for col in c..self.line.len() {
+            if !self.is_unopened(col) {
+                return col;
+            }
+            if !self.is_told(col, answers) {
+                return col;
+            }
+        }
+        self.line.len()
     }
 
     /// The first column from one on that isn't passed over; where all are, that behind the line's
@@ -204,12 +310,15 @@ impl Passing<'_> {
         ensures within { result ≤ suc (length self.now.line.now) }
         ensures idle { (k : ℕ) → c ≤ k → k < result → IsPassedOver self.now k }
     {
-        for col in c..=self.line.len() {
-            if !self.passes(col, answers) {
-                return col;
+        let mut col = c;
+        'columns: while col <= self.line.len() {
+            let asked = self.told_until(col, answers);
+            if !self.passes(asked, answers) {
+                return asked;
             }
+            col = asked + 1;
         }
-        self.line.len() + 1
+        col
     }
 }
 

@@ -337,55 +337,37 @@ impl Searching<'_> {
         }
         Ok(without_end(looked, first, c))
     }
-}
 
-/// A search for the end of a region in the line of a place, from that place on. `shut` tells where no
-/// pattern of a region fits.
-pub(crate) fn search_anew<T: Lines>(
-    alloc: Global,
-    items: &ItemSet,
-    programs: &Programs,
-    sets: &Sets,
-    lines: &T,
-    region: ItemId,
-    externals: &Externals,
-    from: Place,
-    shut: &mut KeyAnswers,
-    budget: u64,
-) -> Result<Searched, Memory>
-    requires sound { AreSound items.now programs.now }
-    requires item { region.0 < length items.now }
-    requires region { is_region (item_of items.now region).kind ≡ true }
-    requires present { from.line < length (T.lines lines.now) }
-    requires budget { 1 ≤ budget }
-    requires shut { AnswersStand (is_shut_at items.now sets.now budget) shut.old }
-    ensures shut { AnswersStand (is_shut_at items.now sets.now budget) shut.new }
-    ensures answer { IfOk result (λ s. IsEnd s.answer region (end_in_line (search_of items.now
-        sets.now budget (T.lines lines.now) region externals.now from))) }
-    ensures columns { IfOk result (TellsColumns items.now sets.now budget (T.lines lines.now) region
-        externals.now from) }
-{
-    // The proof needs the bounds that this call tells of the text.
-    let _count = lines.len();
-    let searching = Searching {
-        matcher: Matcher {
-            alloc,
-            programs,
-            sets,
-            budget,
-        },
-        items,
-        region,
-        externals,
-        from,
-    };
-    match &item_of(items, region).kind {
-        ItemKind::Region {
-            starts: _,
-            skip,
-            ends,
-        } => searching.search(lines, skip, ends, shut),
-        ItemKind::Keyword | ItemKind::Match(_) => unreachable!(),
+    /// The search for the end of the region in the line of its place. `shut` tells where no pattern of
+    /// a region fits.
+    pub(crate) fn anew<T: Lines>(
+        &self,
+        lines: &T,
+        shut: &mut KeyAnswers,
+    ) -> Result<Searched, Memory>
+        requires sound { AreSound self.now.items.now self.now.matcher.programs.now }
+        requires item { self.now.region.0 < length self.now.items.now }
+        requires region { is_region (item_of self.now.items.now self.now.region).kind ≡ true }
+        requires present { self.now.from.line < length (T.lines lines.now) }
+        requires budget { 1 ≤ self.now.matcher.budget }
+        requires shut { AnswersStand (is_shut_at self.now.items.now self.now.matcher.sets.now
+            self.now.matcher.budget) shut.old }
+        ensures shut { AnswersStand (is_shut_at self.now.items.now self.now.matcher.sets.now
+            self.now.matcher.budget) shut.new }
+        ensures answer { IfOk result (λ s. IsEnd s.answer self.now.region (end_in_line
+            (search_in self.now (T.lines lines.now)))) }
+        ensures columns { IfOk result (TellsColumns self.now (T.lines lines.now)) }
+    {
+        // The proof needs the bounds that this call tells of the text.
+        let _count = lines.len();
+        match &item_of(self.items, self.region).kind {
+            ItemKind::Region {
+                starts: _,
+                skip,
+                ends,
+            } => self.search(lines, skip, ends, shut),
+            ItemKind::Keyword | ItemKind::Match(_) => unreachable!(),
+        }
     }
 }
 
@@ -410,9 +392,20 @@ pub fn find_end<T: Lines>(
     ensures { IfOk result (λ a. IsEnd a region (end_in_line (search_of items.now sets.now budget
         (T.lines lines.now) region externals.now from))) }
 {
+    let matcher = Matcher {
+        alloc,
+        programs,
+        sets,
+        budget,
+    };
+    let searching = Searching {
+        matcher,
+        items,
+        region,
+        externals,
+        from,
+    };
     let mut shut = KeyAnswers::new(alloc);
-    let searched = search_anew(
-        alloc, items, programs, sets, lines, region, externals, from, &mut shut, budget,
-    )?;
+    let searched = searching.anew(lines, &mut shut)?;
     Ok(searched.answer)
 }
