@@ -2,6 +2,7 @@ pub mod BehindLaws
 pub mod FoundLaws
 pub mod FutileLaws
 pub mod KeptLaws
+pub mod LineLaws
 pub mod ListLaws
 pub mod MatchLaws
 pub mod MemoLaws
@@ -15,5 +16,6 @@ pub mod ScreenLaws
 pub mod SettledLaws
 pub mod StackLaws
 pub mod TableLaws
+pub mod TablesKept
 pub mod ToldLaws
 pub mod WordLaws

@@ -8,13 +8,11 @@ use Rattle.syn_base.specs.declared.places.Place.{Place}
 use Rattle.match_rules.specs.Ways.{Text, line_at}
 use Rattle.pattern_needs.specs.LineNeeds.{LacksNeed}
 use Rattle.pattern_needs.proofs.NeedsLaws.{needs-law}
-use Rattle.syntax_set.specs.declared.item.Pattern.{Pattern}
 use Rattle.paint_rules.specs.Rules.{Rules, item_of, no_externals, place_at}
 use Rattle.paint_rules.specs.Syntax.{attempt_by, context_of}
 use Rattle.item_pick.specs.Attempts.{IsFutile}
 use Rattle.item_pick.specs.Quiet.{IsQuiet}
-use Rattle.item_pick.specs.Screens.{HoldsLine, IsLater}
-use Rattle.item_pick.specs.Standing.{IsPatternOf}
+use Rattle.item_pick.specs.Screens.{HoldsLine}
 use Rattle.item_pick.specs.Tables.{IsLackedIn}
 use Rattle.item_pick.proofs.FutileLaws.{futile_in}
 use Rattle.item_pick.proofs.ScreenLaws.{futile_idle}
@@ -32,15 +30,6 @@ IsNeedLaw r =
     (tree : PatternTree) (t : Text) (ignore : Bool) (l c : ℕ) → c ≤ length (line_at t l) → LacksNeed r.sets ignore r.budget tree (line_at t l) →
     IsFutile (r.attempt t tree ignore no_externals (place_at l c)) r.budget l
 
-module _ (r : Rules) (law : IsNeedLaw r) (t : Text) (p : Place) (i : ItemId) (lacked : IsLackedIn r (line_at t p.line) i) (k : Looked) (held : HoldsLine k p.line) where
-  pub lacked_quiet : (floor : ℕ) → IsQuiet r t p floor k i
-  lacked_quiet floor pattern its c from within =
-      futile_idle r t i pattern p c r.budget k held (law pattern.tree t (item_of r.items i).ignore p.line c within (lacked pattern its)) (omega arith)
-
-  -- so it may be sought from any later column
-  pub lacked_later : (pattern : Pattern) → IsPatternOf (item_of r.items i).kind pattern → (col next : ℕ) → col ≤ next → IsLater r t i pattern p k col next
-  lacked_later pattern its col next ahead = record {
-    ahead = ahead;
-    idle = λ c from below within.
-        futile_idle r t i pattern p c r.budget k held (law pattern.tree t (item_of r.items i).ignore p.line c within (lacked pattern its)) (omega arith);
-  }
+pub lacked_quiet : (r : Rules) → IsNeedLaw r → (t : Text) (p : Place) (i : ItemId) → IsLackedIn r (line_at t p.line) i → (k : Looked) → HoldsLine k p.line → (floor : ℕ) → IsQuiet r t p floor k i
+lacked_quiet r law t p i lacked k held floor pattern its c from within =
+    futile_idle r t i pattern p c r.budget k held (law pattern.tree t (item_of r.items i).ignore p.line c within (lacked pattern its)) (omega arith)

@@ -6,7 +6,6 @@ use Rattle.match_rules.specs.Ways.{Text, line_at}
 use Rattle.paint_rules.specs.Rules.{Rules, place_at}
 use Rattle.item_pick.specs.declared.choice.Choice.{Choice}
 use Rattle.item_pick.specs.declared.runs.Run.{Run}
-use Rattle.item_pick.specs.declared.runs.Search.{Search}
 use Rattle.item_pick.specs.Quiet.{IsQuiet, item_numbered}
 use Rattle.item_pick.specs.Runs.{Covers}
 use Rattle.item_pick.specs.Screens.{HoldsLine}
@@ -16,10 +15,10 @@ use Rattle.item_pick.specs.Tables.{HasThose, IsNextAt, IsNumberAt, Lacks, ListSt
 use Rattle.item_pick.proofs.TableLaws.{covered_quiet, has_or_lacks, IsLaw, no_key, stays_quiet}
 
 -- an item that a run covers has no match up to the end of the run's places
-pub covered_on : (r : Rules) (t : Text) (l : ℕ) (search : Search) (end : ℕ) (i : ItemId) (run : Run) → HoldsLine search.looked l → RunStands r t l run → Covers run i search end →
-    end ≡ length (line_at t l) + 1 → (c : ℕ) → search.at ≤ c → c < run.places.end → IsQuiet r t (place_at l c) search.floor search.looked i
-covered_on r t l search end i run held stands covers is c from below =
-    covered_quiet r t l (record search { at = c }) end i run held stands
+pub covered_on : (r : Rules) (t : Text) (l at floor : ℕ) (k : Looked) (end : ℕ) (i : ItemId) (run : Run) → HoldsLine k l → RunStands r t l run → Covers run i at floor k end →
+    end ≡ length (line_at t l) + 1 → (c : ℕ) → at ≤ c → c < run.places.end → IsQuiet r t (place_at l c) floor k i
+covered_on r t l at floor k end i run held stands covers is c from below =
+    covered_quiet r t l c floor k end i run held stands
     (record {
       same = covers.same;
       to = covers.to;

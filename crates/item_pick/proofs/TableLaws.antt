@@ -29,15 +29,12 @@ use Rattle.match_rules.specs.Atoms.{has_keyword}
 use Rattle.pattern_screens.specs.Behind.{is_cheap_behind}
 use Rattle.pattern_screens.specs.Failing.{fails, fails_at}
 use Rattle.pattern_screens.specs.Following.{fails_after, takes_first}
-use Rattle.pattern_screens.specs.Keys.{AreNumbers, is_first, key_numbered, key_of, last_of}
+use Rattle.pattern_screens.specs.Keys.{is_first, key_numbered, key_of, last_of}
 use Rattle.pattern_screens.specs.declared.key.Key.{Key}
 use Rattle.pattern_screens.proofs.Stands.{both_true}
 use Rattle.item_pick.specs.declared.choice.Choice.{Choice}
-use Rattle.pattern_needs.specs.LineNeeds.{AreHeld}
-use Rattle.pattern_needs.specs.declared.line_need.LineNeed.{LineNeed}
-use Rattle.item_pick.specs.declared.memory.PickMemory.{PickMemory}
+use Rattle.item_pick.specs.declared.line_known.LineKnown.{LineKnown}
 use Rattle.item_pick.specs.declared.runs.Run.{Run}
-use Rattle.item_pick.specs.declared.runs.Search.{Search}
 use Rattle.item_pick.specs.Attempts.{IsFutile}
 use Rattle.item_pick.specs.Columns.{may_start_at}
 use Rattle.item_pick.specs.Quiet.{IsEarlier, IsNextItem, IsPassed, IsQuiet, item_numbered}
@@ -46,7 +43,7 @@ use Rattle.item_pick.specs.Screens.{HoldsLine, HoldsLines, IsIdle, IsLater, IsSe
 use Rattle.item_pick.specs.Standing.{first_pattern, has_one_start, IsFirst, IsPatternOf}
 use Rattle.item_pick.specs.Started.{admits, is_free}
 use Rattle.item_pick.specs.Firsts.{idles_before, IsToldOfFirst, sits_by, some_idle}
-use Rattle.item_pick.specs.Tables.{AnchorsStand, EndsStand, IsAnchored, IsCheapWithin, IsEnough, IsMissed, IsNeededBy, IsNextAt, IsNextIn, IsNumberAt, Lacks, ListStands, LongestStand, MemoryStands, NeedsStand, passes, RisesTo, RunsStand, RunStands, StaysOut, TablesStand}
+use Rattle.item_pick.specs.Tables.{AnchorsStand, IsAnchored, IsCheapWithin, IsEnough, IsMissed, IsNextAt, IsNextIn, IsNumberAt, Lacks, LineStands, ListStands, LongestStand, passes, RisesTo, RunStands, StaysOut}
 use Rattle.syn_base.specs.Looked.{one_line}
 use Rattle.item_pick.proofs.BehindLaws.{futile_vain}
 use Rattle.item_pick.proofs.MatchLaws.{no_start}
@@ -264,33 +261,22 @@ later_by r t p i pattern first run col tells to more k held all stands = record 
 }
 
 -- an item that a run covers has no match
-pub covered_quiet : (r : Rules) (t : Text) (l : ℕ) (search : Search) (end : ℕ) (i : ItemId) (run : Run) → HoldsLine search.looked l → RunStands r t l run → Covers run i search end →
-    end ≡ length (line_at t l) + 1 → IsQuiet r t (place_at l search.at) search.floor search.looked i
-covered_quiet r t l search end i run held stands covers is pattern its c from within =
+pub covered_quiet : (r : Rules) (t : Text) (l at floor : ℕ) (k : Looked) (end : ℕ) (i : ItemId) (run : Run) → HoldsLine k l → RunStands r t l run → Covers run i at floor k end →
+    end ≡ length (line_at t l) + 1 → IsQuiet r t (place_at l at) floor k i
+covered_quiet r t l at floor k end i run held stands covers is pattern its c from within =
     let own : IsPatternOf (item_of r.items run.item).kind pattern = subst (λ n. IsPatternOf (item_of r.items n).kind pattern) (sym covers.same) its in
     let enough : IsEnough r run.item run.from covers.enough.0 = subst (λ o. IfSome o (IsEnough r run.item run.from)) covers.enough.1 stands.enough in
     let e = enough pattern own in
-    subst (λ n. IsIdle (match_from r t n pattern (place_at l search.at)) search.looked c) covers.same
-    (stands.settled pattern e.0 c (omega (arith, e.1 search.floor covers.enough.2, from)) (omega (arith, within, covers.to, is)) within search.at covers.above covers.below search.looked held covers.held)
+    subst (λ n. IsIdle (match_from r t n pattern (place_at l at)) k c) covers.same
+    (stands.settled pattern e.0 c (omega (arith, e.1 floor covers.enough.2, from)) (omega (arith, within, covers.to, is)) within at covers.above covers.below k held covers.held)
 
 -- missed by what stands one column behind
-pub missed_after : (r : Rules) (memory : PickMemory) (i : ItemId) (pattern : Pattern) → IsFirst r i pattern → (col number : ℕ) → takes_first (nat_lt 0 col) pattern.tree.node ≡ true →
-    ((t : Text) (l : ℕ) → MemoryStands r t l memory → IsNumberAt r (line_at t l) (col + 1) number) → (result : Result Bool Memory) →
+pub missed_after : (r : Rules) (line : LineKnown) (i : ItemId) (pattern : Pattern) → IsFirst r i pattern → (col number : ℕ) → takes_first (nat_lt 0 col) pattern.tree.node ≡ true →
+    ((t : Text) (l : ℕ) → LineStands r t l line → IsNumberAt r (line_at t l) (col + 1) number) → (result : Result Bool Memory) →
     IfOk result (λ vain. IsTrue vain → IsToldOfFirst fails_after r number i) →
-    IfOk result (λ missed. IsTrue missed → (t : Text) (l : ℕ) → MemoryStands r t l memory → IsMissed r (line_at t l) i pattern col)
-missed_after r memory i pattern first col number takes key (Ok vain) h = λ e t l stands. inr (takes, (number, (key t l stands, h e pattern first)))
-missed_after r memory i pattern first col number takes key (Err m) h = tt
-
--- what stands of a line stands where only tables were made
-pub still_stands : (r : Rules) (t : Text) (l : ℕ) (a b : PickMemory) → TablesStand r b → b.numbers ≡ a.numbers → b.runs ≡ a.runs → MemoryStands r t l a → MemoryStands r t l b
-still_stands r t l a b tables numbers runs stands = record {
-  tables = tables;
-  keys = subst (λ v. AreNumbers r.sets (line_at t l) (length (line_at t l) + 1) v.items) (sym numbers) stands.keys;
-  runs = subst (RunsStand r t l) (sym runs) stands.runs;
-  ends = subst (EndsStand r t l) (sym runs) stands.ends;
-  held = subst (λ many. AreHeld b.runs.held many (line_at t l)) (sym (ap (λ v. length v.items) numbers))
-      (subst (λ known. AreHeld known.held (length a.numbers.items) (line_at t l)) (sym runs) stands.held);
-}
+    IfOk result (λ missed. IsTrue missed → (t : Text) (l : ℕ) → LineStands r t l line → IsMissed r (line_at t l) i pattern col)
+missed_after r line i pattern first col number takes key (Ok vain) h = λ e t l stands. inr (takes, (number, (key t l stands, h e pattern first)))
+missed_after r line i pattern first col number takes key (Err m) h = tt
 
 -- ---- lists
 
@@ -380,29 +366,15 @@ not_first sets line zero h = absurd (omega (arith, h))
 not_first sets line (suc col) h = elim (has_keyword sets (slice_get line col)) as (λ b. is_first (last_of b) ≡ false) [ true ↦ refl | false ↦ refl ]
 
 -- so it is missed from each column but a line's first one
-pub anchored_missed : (r : Rules) (t : Text) (l : ℕ) (memory : PickMemory) → MemoryStands r t l memory → (i : ItemId) → IsAnchored r i → (pattern : Pattern) → IsFirst r i pattern →
-    (col : ℕ) → 0 < col → col < length memory.numbers.items → IsMissed r (line_at t l) i pattern col
-anchored_missed r t l memory stands i anchored pattern first col behind within =
+pub anchored_missed : (r : Rules) (t : Text) (l : ℕ) (known : LineKnown) → LineStands r t l known → (i : ItemId) → IsAnchored r i → (pattern : Pattern) → IsFirst r i pattern →
+    (col : ℕ) → 0 < col → col < length known.numbers.items → IsMissed r (line_at t l) i pattern col
+anchored_missed r t l known stands i anchored pattern first col behind within =
     let line = line_at t l in
-    let number = slice_index memory.numbers.items col in
+    let number = slice_index known.numbers.items col in
     let below : col < length line + 1 = omega (arith, within, stands.keys.many) in
     let is : key_numbered number ≡ key_of r.sets line col = stands.keys.are col below in
     let h : is_first (key_numbered number).last ≡ false = subst (λ (k : Key). is_first k.last ≡ false) (sym is) (not_first r.sets line col behind) in
     vain_is_missed r line col number (omega (arith, below), is) i (anchored number (stands.keys.below col below) h) pattern first
-
--- what is missed by what stood of a line, is so where only tables were made
-pub missed_still : (r : Rules) (a b : PickMemory) → TablesStand r b → b.numbers ≡ a.numbers → b.runs ≡ a.runs → (i : ItemId) (pattern : Pattern) (from : ℕ) (result : Result ℕ Memory) →
-    IfOk result (λ to. (t : Text) (l : ℕ) → MemoryStands r t l b → (c : ℕ) → from ≤ c → c < to → IsMissed r (line_at t l) i pattern c) →
-    IfOk result (λ to. (t : Text) (l : ℕ) → MemoryStands r t l a → (c : ℕ) → from ≤ c → c < to → IsMissed r (line_at t l) i pattern c)
-missed_still r a b tables numbers runs i pattern from (Ok to) h = λ t l stands. h t l (still_stands r t l a b tables numbers runs stands)
-missed_still r a b tables numbers runs i pattern from (Err memory) h = tt
-
--- the same of a memory in which only tables were made
-pub missed_later : (r : Rules) (a b : PickMemory) → TablesStand r b → b.numbers ≡ a.numbers → b.runs ≡ a.runs → (i : ItemId) (pattern : Pattern) (col : ℕ) (result : Result Bool Memory) →
-    IfOk result (λ missed. IsTrue missed → (t : Text) (l : ℕ) → MemoryStands r t l b → IsMissed r (line_at t l) i pattern col) →
-    IfOk result (λ missed. IsTrue missed → (t : Text) (l : ℕ) → MemoryStands r t l a → IsMissed r (line_at t l) i pattern col)
-missed_later r a b tables numbers runs i pattern col (Ok missed) h = λ e t l stands. h e t l (still_stands r t l a b tables numbers runs stands)
-missed_later r a b tables numbers runs i pattern col (Err m) h = tt
 
 -- where an item is missed from a column, an attempt there finds nothing, and its line is looked at
 missed_futile : (r : Rules) → IsLaw r → IsAfterLaw r → (t : Text) (i : ItemId) (pattern : Pattern) (l c : ℕ) → c ≤ length (line_at t l) → IsMissed r (line_at t l) i pattern c → IsFutile (r.attempt t pattern.tree (item_of r.items i).ignore no_externals (place_at l c)) r.budget l
@@ -440,12 +412,4 @@ longest_by r longest i stands (Some most) there = stands.told i.0 most there
 pub longest_still : (r : Rules) (old new : Table (Option ℕ)) (i : ItemId) (o : Option ℕ) → IsPut (IsAt old) (IsAt new) i.0 o → LongestStand r old → IfSome o (IsCheapWithin r i) → LongestStand r new
 longest_still r old new i o put stands own = record {
   told = λ item most there. all_still (λ k e. IfSome e (IsCheapWithin r (item_numbered k))) (IsAt old) (IsAt new) i.0 o put (λ k e was. longest_by r old (item_numbered k) stands e was) own item (Some most) there;
-}
-
--- ---- what lines need
-
--- an answer that is kept
-pub needs_still : (r : Rules) (old new : Table (Option LineNeed)) (i : ItemId) (o : Option LineNeed) → IsPut (IsAt old) (IsAt new) i.0 o → NeedsStand r old → IfSome o (IsNeededBy r i) → NeedsStand r new
-needs_still r old new i o put stands own = record {
-  told = λ item need there. all_still (λ k e. IfSome e (IsNeededBy r (item_numbered k))) (IsAt old) (IsAt new) i.0 o put (λ k e was. stands.told k e was) own item need there;
 }

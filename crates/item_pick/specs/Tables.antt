@@ -1,5 +1,5 @@
 -- Which items of a choice may start at a column, by the key of the column.
-use Rattle.std.specs.Prelude.{◌≡◌, ◌<◌, ◌≤◌, ◌+◌, ◌-◌, ◌⊎◌, ℕ, Bool, true, not, ◌&&◌, false, nat_lt, is_none, List, length, slice_index, Option, Some, IfSome}
+use Rattle.std.specs.Prelude.{◌≡◌, ◌<◌, ◌≤◌, ◌+◌, ◌-◌, ◌⊎◌, ⊤, ℕ, Bool, true, not, ◌&&◌, false, nat_lt, is_none, List, length, slice_index, Option, Some, IfSome}
 use Rattle.std.specs.List.{All, list_all}
 use Rattle.std.specs.List.Sorted.{IsNonDecreasing}
 use Rattle.char_class.specs.declared.sets.Sets.{Sets}
@@ -13,7 +13,7 @@ use Rattle.match_rules.specs.Ways.{Text, line_at}
 use Rattle.syntax_set.specs.declared.item.ItemKind.{ItemKind}
 use Rattle.syntax_set.specs.declared.item.ItemKind.TheVariants.{Keyword, Match, Region}
 use Rattle.syntax_set.specs.declared.item.Pattern.{Pattern}
-use Rattle.paint_rules.specs.Rules.{Rules, item_of}
+use Rattle.paint_rules.specs.Rules.{Rules, item_of, place_at}
 use Rattle.pattern_needs.specs.LineNeeds.{AreHeld, IsLineNeedOf, LacksNeed}
 use Rattle.pattern_needs.specs.declared.line_need.LineNeed.{LineNeed}
 use Rattle.pattern_screens.specs.Behind.{is_cheap_behind}
@@ -24,13 +24,15 @@ use Rattle.region_ends.specs.EndMemo.{EndMemoStands}
 use Rattle.region_ends.specs.KeyAnswers.{AnswersStand}
 use Rattle.region_ends.specs.Passing.{is_shut_at}
 use Rattle.item_pick.specs.declared.choice.Choice.{Choice}
+use Rattle.item_pick.specs.declared.line_known.LineKnown.{LineKnown}
 use Rattle.item_pick.specs.declared.memory.PickMemory.{PickMemory}
+use Rattle.item_pick.specs.declared.needs.Wanted.{Wanted}
 use Rattle.item_pick.specs.declared.runs.Run.{Run}
-use Rattle.item_pick.specs.declared.runs.Runs.{Runs}
-use Rattle.item_pick.specs.declared.tables.Row.{Row}
+use Rattle.item_pick.specs.declared.rows.Row.{Row}
+use Rattle.item_pick.specs.declared.tables.Tables.{Tables}
 use Rattle.item_pick.specs.Firsts.{first_asked, idles_before, IsToldOfFirst, rest_asked}
-use Rattle.item_pick.specs.Quiet.{item_numbered, IsPassed}
-use Rattle.item_pick.specs.Screens.{IsSettled}
+use Rattle.item_pick.specs.Quiet.{item_numbered, IsPassed, IsQuiet}
+use Rattle.item_pick.specs.Screens.{HoldsLine, IsSettled}
 use Rattle.item_pick.specs.Settled.{item_wanders}
 use Rattle.item_pick.specs.Standing.{IsFirst, IsPatternOf}
 use Rattle.item_pick.specs.Started.{admits}
@@ -131,10 +133,9 @@ IsNeededBy r i need =
     (pattern : Pattern) → IsPatternOf (item_of r.items i).kind pattern →
     IsLineNeedOf r.sets (item_of r.items i).ignore r.budget pattern.tree need
 
--- of which items it was told
-pub record NeedsStand (r : Rules) (needs : Table (Option LineNeed)) : Type 0 where
-  pub told : (item : ℕ) (need : Option LineNeed) → IsAt needs item need →
-      IfSome need (IsNeededBy r (item_numbered item))
+-- so it was told
+abbrev pub IsWanted : Rules → Wanted → Type 0
+IsWanted r wanted = IsNeededBy r wanted.item wanted.need
 
 -- the line lacks what each pattern needs by which an item starts
 abbrev pub IsLackedIn : Rules → List ℕ → ItemId → Type 0
@@ -156,17 +157,20 @@ IsMissed r line i pattern c =
     × (fails_after r.sets r.budget (item_of r.items i).ignore number pattern.tree ≡ true))))
 
 -- what is kept is true of these rules
-pub record TablesStand (r : Rules) (memory : PickMemory) : Type 0 where
-  pub rows : All (RowStands r) memory.rows.items
-  pub outs : AnswersStand (stays_out r) memory.outs
-  pub vains : AnswersStand (first_asked fails_at r) memory.vains
-  pub behinds : AnswersStand (first_asked rest_asked r) memory.behinds
-  pub afters : AnswersStand (first_asked fails_after r) memory.afters
-  pub idles : AnswersStand (idles_before r) memory.idles
-  pub shut : AnswersStand (is_shut_at r.items r.sets r.budget) memory.shut
-  pub anchors : AnchorsStand r memory.anchors
-  pub longest : LongestStand r memory.longest
-  pub needs : NeedsStand r memory.needs
+pub record AreTablesOf (r : Rules) (tables : Tables) : Type 0 where
+  pub rows : All (RowStands r) tables.rows.items
+  pub outs : AnswersStand (stays_out r) tables.outs
+  pub vains : AnswersStand (first_asked fails_at r) tables.vains
+  pub behinds : AnswersStand (first_asked rest_asked r) tables.behinds
+  pub afters : AnswersStand (first_asked fails_after r) tables.afters
+  pub idles : AnswersStand (idles_before r) tables.idles
+  pub shut : AnswersStand (is_shut_at r.items r.sets r.budget) tables.shut
+  pub anchors : AnchorsStand r tables.anchors
+  pub longest : LongestStand r tables.longest
+  pub wanted : All (IsWanted r) tables.wanted.items
+
+abbrev pub TablesStand : Rules → PickMemory → Type 0
+TablesStand r memory = AreTablesOf r memory.tables
 
 -- ---- what is known of the line
 
@@ -182,18 +186,24 @@ pub record RunStands (r : Rules) (t : Text) (l : ℕ) (run : Run) : Type 0 where
       IsSettled r t l run.item pattern run.places.first run.places.end run.looked c
   pub enough : IfSome run.least (IsEnough r run.item run.from)
 
--- each run that is kept does
-pub record RunsStand (r : Rules) (t : Text) (l : ℕ) (runs : Runs) : Type 0 where
-  pub each : (k : ℕ) (run : Run) → Has runs.list k run → RunStands r t l run
+-- an item starts nowhere in the line, and no other line is looked at to tell so
+abbrev pub IsBarren : Rules → Text → ℕ → ItemId → Type 0
+IsBarren r t l i =
+    (at floor : ℕ) (k : Looked) → at ≤ length (line_at t l) → HoldsLine k l →
+    IsQuiet r t (place_at l at) floor k i
 
--- what is known of where regions end in the line
-abbrev pub EndsStand : Rules → Text → ℕ → Runs → Type 0
-EndsStand r t l runs = EndMemoStands r.items r.sets r.budget t l runs.ends
+pub record LineStands (r : Rules) (t : Text) (l : ℕ) (line : LineKnown) : Type 0 where
+  pub keys : AreNumbers r.sets (line_at t l) (length (line_at t l) + 1) line.numbers.items
+  pub held : AreHeld line.held (length line.numbers.items) (line_at t l)
+  pub runs : (k : ℕ) (run : Run) → Has line.runs k run → RunStands r t l run
+  pub barren : (k : ℕ) (it : ⊤) → Has line.barren k it → IsBarren r t l (item_numbered k)
+  pub ends : EndMemoStands r.items r.sets r.budget t l line.ends
 
--- besides, the line is entered
-pub record MemoryStands (r : Rules) (t : Text) (l : ℕ) (memory : PickMemory) : Type 0 where
-  pub tables : TablesStand r memory
-  pub keys : AreNumbers r.sets (line_at t l) (length (line_at t l) + 1) memory.numbers.items
-  pub runs : RunsStand r t l memory.runs
-  pub ends : EndsStand r t l memory.runs
-  pub held : AreHeld memory.runs.held (length memory.numbers.items) (line_at t l)
+-- ---- both
+
+pub record AreKnown (r : Rules) (t : Text) (l : ℕ) (kept : Tables) (known : LineKnown) : Type 0 where
+  pub tables : AreTablesOf r kept
+  pub line : LineStands r t l known
+
+abbrev pub MemoryStands : Rules → Text → ℕ → PickMemory → Type 0
+MemoryStands r t l memory = AreKnown r t l memory.tables memory.line

@@ -51,8 +51,8 @@ pub fn end_with<T: Lines>(
         externals,
         none,
         from,
-        &mut memory.runs.ends,
-        &mut memory.shut,
+        &mut memory.line.ends,
+        &mut memory.tables.shut,
         budget,
     )
 }

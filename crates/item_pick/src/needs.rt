@@ -1,17 +1,17 @@
 //! What a line must hold so that an item has a match in it.
 ghost use Rattle.std.specs.Prelude.{◌≡◌, ℕ, slice_get, Some, IfOk, IfSome, IsTrue};
 ghost use Rattle.syn_base.specs.declared.places.ItemId.{ItemId as ItemIdOf};
-ghost use Rattle.match_rules.specs.Ways.{Text, line_at};
+ghost use Rattle.match_rules.specs.Ways.{Text};
 ghost use Rattle.syntax_set.specs.declared.item.Pattern.{Pattern as PatternOf};
 ghost use Rattle.paint_rules.specs.Rules.{Rules};
 ghost use Rattle.pattern_needs.specs.LineNeeds.{IsLineNeedOf};
 ghost use Rattle.item_pick.specs.PartsSeen.{rules_in};
-ghost use Rattle.item_pick.specs.Quiet.{item_numbered};
 ghost use Rattle.item_pick.specs.Standing.{IsItem};
-ghost use Rattle.item_pick.specs.Tables.{IsLackedIn, IsNeededBy, MemoryStands, TablesStand};
+ghost use Rattle.item_pick.specs.Tables.{AreTablesOf, IsBarren, IsNeededBy, IsWanted, MemoryStands};
 
 use crate::asked::Asked;
 use crate::memory::PickMemory;
+use crate::tables::Tables;
 use pattern_needs::LineNeed;
 use region_ends::item_of;
 use syn_base::{ItemId, Memory};
@@ -19,6 +19,13 @@ use syntax_set::{ItemKind, Pattern};
 
 /// From so many times on it pays to find out what an item needs.
 const OFTEN: u8 = 100;
+
+/// What a line must hold so that an item has a match in it.
+#[derive(Clone, Copy)]
+pub(crate) struct Wanted {
+    pub(crate) item: ItemId,
+    pub(crate) need: LineNeed,
+}
 
 impl Asked<'_> {
     /// What a line must hold so that a pattern has a way in it.
@@ -61,64 +68,54 @@ impl Asked<'_> {
     }
 }
 
-impl PickMemory {
-    /// Whether the line is known to lack what each pattern needs by which an item starts.
-    pub(crate) fn is_lacked(&self, id: u32) -> bool
-        ensures { IsTrue result → (r : Rules) (t : Text) (l : ℕ) → MemoryStands r t l self.now →
-            IsLackedIn r (line_at t l) (item_numbered id) }
-    {
-        match self.needs.get(id as usize) {
-            Some(need) => self.is_need_lacked(need),
-            None => false,
-        }
-    }
-
-    /// Whether the line lacks what some patterns need, where that is known.
-    fn is_need_lacked(&self, need: Option<LineNeed>) -> bool
-        ensures { IsTrue result → (r : Rules) (t : Text) (l : ℕ) → MemoryStands r t l self.now →
-            (i : ItemIdOf) → IfSome need (IsNeededBy r i) → IsLackedIn r (line_at t l) i }
-    {
-        match need {
-            Some(need) => need.is_lacked(&self.runs.held, self.numbers.len()),
-            None => false,
-        }
-    }
-
-    /// Whether it was asked so many times what an item needs that it pays to find it out.
-    fn is_often_asked(&mut self, id: ItemId) -> Result<bool, Memory>
-        ensures stands { (r : Rules) → TablesStand r self.old → TablesStand r self.new }
-        ensures numbers { self.new.numbers ≡ self.old.numbers }
-        ensures runs { self.new.runs ≡ self.old.runs }
+impl Tables {
+    /// Whether it was asked so many times what an item needs that it pays to find it out: so once.
+    fn is_due(&mut self, id: ItemId) -> Result<bool, Memory>
+        ensures { (r : Rules) → AreTablesOf r self.old → AreTablesOf r self.new }
     {
         let times = self.times.get(id.0 as usize).unwrap_or(0);
-        if times >= OFTEN {
-            return Ok(true);
-        }
-        self.times.put(id.0 as usize, times + 1)?;
-        Ok(false)
-    }
-
-    /// The same of an item. What it needs is kept, once it was asked for often.
-    pub(crate) fn lacks_need(&mut self, asked: &Asked, id: ItemId) -> Result<bool, Memory>
-        requires item { IsItem (rules_in asked.now.parts.now asked.now.budget) id }
-        requires stands { TablesStand (rules_in asked.now.parts.now asked.now.budget) self.old }
-        ensures stands { TablesStand (rules_in asked.now.parts.now asked.now.budget) self.new }
-        ensures numbers { self.new.numbers ≡ self.old.numbers }
-        ensures runs { self.new.runs ≡ self.old.runs }
-        ensures lacked { IfOk result (λ lacked. IsTrue lacked → (t : Text) (l : ℕ) →
-            MemoryStands (rules_in asked.now.parts.now asked.now.budget) t l self.old →
-            IsLackedIn (rules_in asked.now.parts.now asked.now.budget) (line_at t l) id) }
-    {
-        match self.needs.get(id.0 as usize) {
-            Some(need) => return Ok(self.is_need_lacked(need)),
-            None => {}
-        }
-        if !self.is_often_asked(id)? {
+        if times > OFTEN {
             return Ok(false);
         }
-        let need = asked.need_of(id);
-        let is = self.is_need_lacked(need);
-        self.needs.put(id.0 as usize, need)?;
-        Ok(is)
+        self.times.put(id.0 as usize, times + 1)?;
+        Ok(times == OFTEN)
+    }
+
+    /// Keeps what an item needs.
+    fn want(&mut self, wanted: Wanted) -> Result<(), Memory>
+        ensures { (r : Rules) → IsWanted r wanted → AreTablesOf r self.old → AreTablesOf r self.new }
+    {
+        self.wanted.push(wanted)?;
+        Ok(())
+    }
+}
+
+impl PickMemory {
+    /// Whether an item is known to start nowhere in the line. What it needs is found once it was asked
+    /// for often, and kept.
+    pub(crate) fn starts_nowhere(&mut self, asked: &Asked, id: ItemId) -> Result<bool, Memory>
+        requires item { IsItem (rules_in asked.now.parts.now asked.now.budget) id }
+        ensures stands { (t : Text) (l : ℕ) →
+            MemoryStands (rules_in asked.now.parts.now asked.now.budget) t l self.old →
+            MemoryStands (rules_in asked.now.parts.now asked.now.budget) t l self.new }
+        ensures nowhere { IfOk result (λ nowhere. IsTrue nowhere → (t : Text) (l : ℕ) →
+            MemoryStands (rules_in asked.now.parts.now asked.now.budget) t l self.old →
+            IsBarren (rules_in asked.now.parts.now asked.now.budget) t l id) }
+    {
+        if self.line.is_barren(id.0) {
+            return Ok(true);
+        }
+        let due = self.tables.is_due(id)?;
+        if !due {
+            return Ok(false);
+        }
+        match asked.need_of(id) {
+            Some(need) => {
+                let wanted = Wanted { item: id, need };
+                self.tables.want(wanted)?;
+                self.line.note_lacking(&wanted)
+            }
+            None => Ok(false),
+        }
     }
 }

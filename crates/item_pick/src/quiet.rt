@@ -4,7 +4,7 @@ ghost use Rattle.syn_base.specs.declared.looked.Looked.{Looked as LookedOf};
 ghost use Rattle.match_rules.specs.Ways.{Text, line_at};
 ghost use Rattle.keyword_table.specs.ItemNumbers.{AreItemsBelow};
 ghost use Rattle.keyword_table.specs.Words.{begins_word};
-ghost use Rattle.paint_rules.specs.Rules.{no_externals, place_at};
+ghost use Rattle.paint_rules.specs.Rules.{Rules, no_externals, place_at};
 ghost use Rattle.paint_rules.specs.States.{Fits, StateFits};
 ghost use Rattle.state_stack.specs.TopFirst.{top_first};
 ghost use Rattle.syntax_set.specs.Soundness.{AreSound};
@@ -12,7 +12,7 @@ ghost use Rattle.item_pick.specs.PartsSeen.{rules_in};
 ghost use Rattle.item_pick.specs.QuietPlaces.{IsQuietAt};
 ghost use Rattle.item_pick.specs.QuietUntil.{IsQuietUntil};
 ghost use Rattle.item_pick.specs.Screens.{HoldsLine};
-ghost use Rattle.item_pick.specs.Settled.{ArePassed};
+ghost use Rattle.item_pick.specs.Settled.{ArePassed, AreSettled};
 ghost use Rattle.item_pick.specs.Standing.{ChoiceFits, IsPlace};
 ghost use Rattle.item_pick.specs.Tables.{IsNumberAt, MemoryStands};
 ghost use Rattle.item_pick.specs.Valid.{IsSound};
@@ -177,7 +177,9 @@ impl<T: Lines> Picking<'_, T, Asked<'_>> {
         if settled <= col {
             return false;
         }
-        memory.is_still(self.syntax, choice, number, col)
+        memory
+            .tables
+            .is_still(&memory.line, self.syntax, choice, number, col)
     }
 
     /// The same: no word begins there, and no item of the row of the choice is left. Up to `settled`,
@@ -214,7 +216,7 @@ impl<T: Lines> Picking<'_, T, Asked<'_>> {
         if begins_word(self.line(), col, &self.syntax.parts.sets.keyword) {
             return Ok(false);
         }
-        match memory.number_at(col) {
+        match memory.line.number_at(col) {
             Some(number) => {
                 if self.is_still(choice, number, col, settled, memory) {
                     return Ok(true);
@@ -224,27 +226,32 @@ impl<T: Lines> Picking<'_, T, Asked<'_>> {
                     floor: self.floor,
                     looked,
                     tried: self.tried,
+                    line: &memory.line,
                 };
                 let count = self.syntax.parts.items.added();
-                let left = memory.left_in(self.syntax, choice, number, &search, count)?;
+                let left = memory
+                    .tables
+                    .left_in(self.syntax, choice, number, &search, count)?;
                 Ok(left == 0)
             }
             None => Ok(false),
         }
     }
 
-    /// Where items are sought here.
-    fn search(&self, looked: Looked) -> Search<'_>
-        ensures at { result.at ≡ self.now.at.col }
-        ensures floor { result.floor ≡ self.now.floor }
-        ensures looked { result.looked ≡ looked }
+    /// Up to which column it is known that no items of a choice start that wander.
+    fn settled_until(&self, choice: Choice, looked: Looked, memory: &PickMemory) -> usize
+        ensures { (r : Rules) (t : Text) (l : ℕ) → MemoryStands r t l memory.now →
+            HoldsLine looked l →
+            AreSettled r t l choice self.now.floor looked self.now.at.col result }
     {
-        Search {
+        let search = Search {
             at: self.at.col,
             floor: self.floor,
             looked,
             tried: self.tried,
-        }
+            line: &memory.line,
+        };
+        memory.tables.settled_until(choice, &search)
     }
 
     /// The first column at which something may start on a stack.
@@ -272,7 +279,7 @@ impl<T: Lines> Picking<'_, T, Asked<'_>> {
     {
         let choice = self.allowed(stack);
         let last = self.last();
-        let settled = memory.settled_until(self.syntax, choice, &self.search(looked));
+        let settled = self.settled_until(choice, looked, memory);
         for col in self.at.col..last {
             let quiet = self.is_quiet(choice, col, looked, settled, memory)?;
             if !quiet {

@@ -1,25 +1,20 @@
-//! What is known of the line that is painted: from which columns an item isn't matched, and where
-//! regions end.
-ghost use Rattle.std.specs.Prelude.{◌≡◌, ◌<◌, ◌≤◌, ◌-◌, ◌+◌, ◌^◌, ℕ, length, true, IfSome, IsTrue};
-ghost use Rattle.std.specs.List.{All};
-ghost use Rattle.pattern_needs.specs.Held.{holds};
+//! From which columns of a line an item isn't matched.
+ghost use Rattle.std.specs.Prelude.{◌≡◌, ◌<◌, ◌≤◌, ◌-◌, ◌^◌, ℕ, length, reverse, IfSome, IsTrue};
 ghost use Rattle.match_rules.specs.Ways.{Text, line_at};
 ghost use Rattle.paint_rules.specs.Rules.{Rules, item_of, place_at};
 ghost use Rattle.item_pick.specs.PartsSeen.{rules_in};
 ghost use Rattle.item_pick.specs.Standing.{has_one_start, IsFirst, IsItem};
-ghost use Rattle.item_pick.specs.Tables.{EndsStand, IsEnough, RunsStand, RunStands};
-ghost use Rattle.item_pick.specs.Runs.{Covers, TellsOf};
-ghost use Rattle.item_pick.specs.Quiet.{IsQuiet};
+ghost use Rattle.item_pick.specs.Tables.{IsEnough, LineStands, RunStands};
+ghost use Rattle.item_pick.specs.Runs.{Covers, IsWhole, TellsOf};
+ghost use Rattle.item_pick.specs.Quiet.{IsPassed, item_numbered};
 ghost use Rattle.item_pick.specs.Screens.{HoldsLine, HoldsLines};
 
 use crate::asked::Asked;
 use crate::columns::Columns;
+use crate::line_known::LineKnown;
 use crate::tried::Tried;
-use pattern_needs::Held;
-use region_ends::{EndMemo, item_of};
-use slots::Slots;
-use std::alloc::Global;
-use syn_base::{ItemId, Looked, Memory};
+use region_ends::item_of;
+use syn_base::{ItemId, Looked};
 use syntax_set::{ItemKind, Pattern};
 
 /// No match of an item by its first start pattern, from a column up to, and without, another, has its
@@ -48,6 +43,21 @@ pub(crate) struct Search<'a> {
     pub(crate) looked: Looked,
     /// The items that have started there.
     pub(crate) tried: &'a Tried<'a>,
+    /// What is known of the line.
+    pub(crate) line: &'a LineKnown,
+}
+
+impl Search<'_> {
+    /// Whether an item has started at the column, or is known to have no match there.
+    pub(crate) fn is_passed(&self, id: u32) -> bool
+        ensures { IsTrue result → (r : Rules) (t : Text) (l : ℕ) →
+            LineStands r t l self.now.line.now → self.now.at ≤ length (line_at t l) →
+            HoldsLine self.now.looked l →
+            IsPassed r t (place_at l self.now.at) self.now.floor self.now.looked
+            (reverse self.now.tried.now) (item_numbered id) }
+    {
+        self.line.is_settled(id, self) || self.tried.has(ItemId(id))
+    }
 }
 
 /// Whether some lines are among those looked at, and a number where one was looked at there.
@@ -57,21 +67,12 @@ pub(crate) fn holds(looked: Looked, lines: Looked) -> bool
     looked.low <= lines.low && lines.high <= looked.high && (looked.numbered || !lines.numbered)
 }
 
-/// What is known of a line.
-#[derive(Drop)]
-pub(crate) struct Runs {
-    /// By the number of the item.
-    list: Slots<Run>,
-    pub(crate) ends: EndMemo,
-    /// The characters of the line.
-    pub(crate) held: Held,
-}
-
 impl Run {
     /// Whether an item isn't matched where it is sought from any column before an end, and the lines
     /// that tell so were looked at.
     pub(crate) fn covers(&self, item: ItemId, search: &Search<'_>, end: usize) -> bool
-        ensures { IsTrue result → Covers self.now item search.now end }
+        ensures { IsTrue result → Covers self.now item search.now.at search.now.floor
+            search.now.looked end }
     {
         let enough = match self.least {
             Some(least) => least <= search.floor,
@@ -83,6 +84,19 @@ impl Run {
             && self.places.first <= search.at
             && search.at < self.places.end
             && holds(search.looked, self.looked)
+    }
+
+    /// Whether it tells of all places of its line, which has so many columns, its end included, whatever
+    /// the floor, and by that line alone.
+    pub(crate) fn is_whole(&self, line: usize, count: usize) -> bool
+        requires { line < 2 ^ 63 }
+        ensures { IsTrue result → IsWhole self.now line count }
+    {
+        self.least == Some(0)
+            && self.places.first == 0
+            && count <= self.places.end
+            && count <= self.to
+            && self.looked == Looked::one(line as i64)
     }
 }
 
@@ -148,90 +162,4 @@ fn floor_for(col: usize, context: u32) -> Option<usize>
         return Some(0);
     }
     col.checked_add(context as usize)
-}
-
-impl Runs {
-    /// Nothing is known.
-    pub(crate) fn new(alloc: Global) -> Runs
-        ensures { (r : Rules) (t : Text) (l : ℕ) → RunsStand r t l result }
-    {
-        Runs {
-            list: Slots::new(alloc),
-            ends: EndMemo::new(alloc),
-            held: Held::none(),
-        }
-    }
-
-    /// Forgets what was known, and begins a line.
-    pub(crate) fn enter(&mut self, line: &[char])
-        ensures list { (r : Rules) (t : Text) (l : ℕ) → RunsStand r t l self.new }
-        ensures ends { (r : Rules) (t : Text) (l : ℕ) → EndsStand r t l self.new }
-        ensures held { All (λ c. holds self.new.held c ≡ true) line.now }
-    {
-        self.list.clear();
-        self.ends.clear();
-        self.held = Held::of(line);
-    }
-
-    /// The run of an item that holds a column or ends there, and tells of a place.
-    pub(crate) fn known(&self, item: ItemId, col: usize, at: usize) -> Option<Run>
-        ensures tells { IfSome result (TellsOf item col at) }
-        ensures stands { (r : Rules) (t : Text) (l : ℕ) →
-            RunsStand r t l self.now →
-            IfSome result (RunStands r t l) }
-    {
-        let run = self.list.get(item.0 as usize)?;
-        let holds = run.item == item && run.from <= col && col <= run.to;
-        if holds && run.places.first <= at && at < run.places.end {
-            Some(*run)
-        } else {
-            None
-        }
-    }
-
-    /// Whether it is known that an item isn't matched where it is sought from any column before an
-    /// end.
-    pub(crate) fn covers(&self, item: ItemId, search: &Search<'_>, end: usize) -> bool
-        ensures { IsTrue result → (r : Rules) (t : Text) (l : ℕ) →
-            RunsStand r t l self.now →
-            (run : Run) × RunStands r t l run × Covers run item search.now end }
-    {
-        match self.list.get(item.0 as usize) {
-            Some(run) => run.covers(item, search, end),
-            None => false,
-        }
-    }
-
-    /// The first column from that of a search on at which it isn't known that an item isn't matched
-    /// where it is sought from any column before an end.
-    pub(crate) fn covers_until(&self, item: ItemId, search: &Search<'_>, end: usize) -> usize
-        ensures { (r : Rules) (t : Text) (l : ℕ) → RunsStand r t l self.now →
-            HoldsLine search.now.looked l → end ≡ length (line_at t l) + 1 →
-            (c : ℕ) → search.now.at ≤ c → c < result →
-            IsQuiet r t (place_at l c) search.now.floor search.now.looked item }
-    {
-        match self.list.get(item.0 as usize) {
-            Some(run) => {
-                if run.covers(item, search, end) {
-                    run.places.end
-                } else {
-                    search.at
-                }
-            }
-            None => search.at,
-        }
-    }
-
-    /// Keeps a run at the place of its item, unless it is empty.
-    pub(crate) fn keep(&mut self, run: Run) -> Result<(), Memory>
-        ensures ends { self.new.ends ≡ self.old.ends }
-        ensures held { self.new.held ≡ self.old.held }
-        ensures list { (r : Rules) (t : Text) (l : ℕ) → RunsStand r t l self.old →
-            RunStands r t l run → RunsStand r t l self.new }
-    {
-        if run.from == run.to {
-            return Ok(());
-        }
-        self.list.put(run.item.0 as usize, run)
-    }
 }

@@ -1,257 +1,158 @@
-//! Which items of a choice may start at a column, by the key of the column.
-ghost use Rattle.std.specs.Prelude.{◌≡◌, ◌<◌, ◌≤◌, ℕ, length, slice_get, slice_index, Some, IfOk, IfSome, IsTrue, true};
-ghost use Rattle.std.specs.List.Sorted.{IsNonDecreasing};
-ghost use Rattle.syntax_set.specs.declared.item.Pattern.{Pattern as PatternOf};
-ghost use Rattle.paint_rules.specs.Rules.{item_of};
+//! What is kept of a syntax: which items may start by what stands at a column.
+ghost use Rattle.std.specs.Prelude.{◌≡◌, IfOk, IfSome, true};
+ghost use Rattle.std.specs.List.{All};
+ghost use Rattle.paint_rules.specs.Rules.{Rules};
 ghost use Rattle.item_pick.specs.PartsSeen.{rules_in};
-ghost use Rattle.item_pick.specs.Quiet.{item_numbered};
-ghost use Rattle.item_pick.specs.Standing.{ChoiceFits, IsItem};
-ghost use Rattle.item_pick.specs.Started.{admits};
-ghost use Rattle.region_ends.specs.KeyAnswers.{AnswersStand};
-ghost use Rattle.item_pick.specs.Tables.{is_screened, Lacks, ListStands, RisesTo, RowStands, stays_out, StaysOut};
+ghost use Rattle.item_pick.specs.Standing.{ChoiceFits};
+ghost use Rattle.item_pick.specs.Tables.{AreTablesOf, RowStands};
 
 use crate::asked::Asked;
-use crate::choice::{Choice, admits};
-use pattern_screens::{KEYS, Key, fails};
-use region_ends::{KeyAnswers, item_of};
+use crate::choice::Choice;
+use crate::needs::Wanted;
+use crate::rows::{ANY, Row};
+use region_ends::KeyAnswers;
+use slots::{Grid, Table};
 use std::alloc::Global;
-use syn_base::{ItemId, Memory};
-use syntax_set::{ItemKind, Pattern};
+use syn_base::Memory;
 
-/// In place of the number of a key: the row has all items that start by a pattern.
-pub(crate) const ANY: u16 = KEYS;
-
-/// The admitted items of a choice that may start at a column whose key has a number, in the order in
-/// which they were defined.
+/// What is kept of a syntax and a budget from line to line: for what is allowed, and what stands at a
+/// column, the items that may start there, and those that can't be matched from there. It is made as
+/// it is asked.
 #[derive(Drop)]
-pub(crate) struct Row {
-    pub(crate) choice: Choice,
-    pub(crate) number: u16,
-    pub(crate) items: Vec<u32>,
-    /// Those of them that don't wander.
-    pub(crate) resting: Vec<u32>,
-    /// Those of them that do; only of the row of all items.
-    pub(crate) wandering: Option<Vec<u32>>,
+pub(crate) struct Tables {
+    alloc: Global,
+    /// Each says itself of what it is.
+    rows: Vec<Row>,
+    /// Where a row stands in them, by the number of its choice and that of its key.
+    places: Grid<u32>,
+    /// Whether an item can't start.
+    outs: KeyAnswers,
+    /// Whether attempts by the first start pattern of an item are in vain.
+    pub(crate) vains: KeyAnswers,
+    /// Whether what follows the first piece of that pattern is in vain.
+    pub(crate) behinds: KeyAnswers,
+    /// Whether they are in vain one column before.
+    pub(crate) afters: KeyAnswers,
+    /// Whether an item can't start one column before.
+    pub(crate) idles: KeyAnswers,
+    /// Whether no skip or end of a region fits.
+    pub(crate) shut: KeyAnswers,
+    /// Whether it has no match but from a line's first column, by the number of the item.
+    pub(crate) anchors: Table<bool>,
+    /// Of how many characters a line and the one before may be together, so that attempts by that
+    /// pattern, which begins with a look behind, are within the budget where what follows is in vain,
+    /// by the number of the item.
+    pub(crate) longest: Table<Option<u64>>,
+    /// What lines must hold so that some items have a match in them.
+    pub(crate) wanted: Vec<Wanted>,
+    /// How many times it was asked for, by the number of the item.
+    pub(crate) times: Table<u8>,
 }
 
-impl Asked<'_> {
-    /// Whether an item can't start by a pattern at a column whose key has a number.
-    fn is_screened(&self, ignore: bool, pattern: &Pattern, number: u16) -> bool
-        ensures { IsTrue result → is_screened self.now.parts.now.sets.now self.now.budget ignore
-            number pattern.now ≡ true }
+impl Tables {
+    /// Nothing is kept. It takes no memory.
+    pub(crate) fn new(alloc: Global) -> Tables
+        ensures { (r : Rules) → AreTablesOf r result }
     {
-        number < KEYS
-            && !pattern.tree.moves_start
-            && pattern.ms.is_none()
-            && fails(
-                &pattern.tree,
-                self.parts.sets,
-                ignore,
-                Key::numbered(number),
-                self.budget,
-            )
-    }
-
-    /// Whether it can't start by any of some patterns.
-    fn are_screened(&self, ignore: bool, patterns: &[Pattern], number: u16) -> bool
-        ensures { IsTrue result → (n : ℕ) (p : PatternOf) → Some p ≡ slice_get patterns.now n →
-            is_screened self.now.parts.now.sets.now self.now.budget ignore number p ≡ true }
-    {
-        for pattern in patterns {
-            if !self.is_screened(ignore, pattern, number) {
-                return false;
-            }
-        }
-        true
-    }
-
-    /// Whether an item can't start at a column whose key has a number.
-    fn stays_out(&self, id: ItemId, number: u16) -> bool
-        requires { IsItem (rules_in self.now.parts.now self.now.budget) id }
-        ensures { IsTrue result →
-            StaysOut (rules_in self.now.parts.now self.now.budget) number id }
-    {
-        let item = item_of(self.parts.items, id);
-        match &item.kind {
-            ItemKind::Keyword => true,
-            ItemKind::Match(pattern) => self.is_screened(item.ignore, pattern, number),
-            ItemKind::Region {
-                starts,
-                skip: _,
-                ends: _,
-            } => self.are_screened(item.ignore, starts.as_slice(), number),
+        Tables {
+            alloc,
+            rows: Vec::new(alloc),
+            places: Grid::new(alloc),
+            outs: KeyAnswers::new(alloc),
+            vains: KeyAnswers::new(alloc),
+            behinds: KeyAnswers::new(alloc),
+            afters: KeyAnswers::new(alloc),
+            idles: KeyAnswers::new(alloc),
+            shut: KeyAnswers::new(alloc),
+            anchors: Table::new(alloc),
+            longest: Table::new(alloc),
+            wanted: Vec::new(alloc),
+            times: Table::new(alloc),
         }
     }
 
-    /// Puts an item on a list, unless it can't start.
-    fn put(&self, id: u32, number: u16, items: &mut Vec<u32>) -> Result<(), Memory>
-        requires { id < length (rules_in self.now.parts.now self.now.budget).items }
-        ensures kept { (j : ℕ) → Lacks items.new.items j → Lacks items.old.items j }
-        ensures rises { RisesTo id items.old.items → RisesTo id items.new.items }
-        ensures here { IfOk result (λ _. Lacks items.new.items id →
-            StaysOut (rules_in self.now.parts.now self.now.budget) number (item_numbered id)) }
+    /// The place of a row.
+    fn place(&self, choice: Choice, number: u16) -> Option<usize> {
+        let place = self.places.get(number_of(choice), number as usize)?;
+        Some(place as usize)
+    }
+
+    /// A row, if it was made.
+    pub(crate) fn row(&self, choice: Choice, number: u16) -> Option<&Row>
+        ensures choice { IfSome result (λ row. row.now.choice ≡ choice) }
+        ensures number { IfSome result (λ row. row.now.number ≡ number) }
+        ensures stands { (r : Rules) → AreTablesOf r self.now →
+            IfSome result (λ row. RowStands r row.now) }
     {
-        if !self.stays_out(ItemId(id), number) {
-            items.push(id)?;
-        }
+        let place = self.place(choice, number)?;
+        row_at(self.rows.as_slice(), place, choice, number)
+    }
+
+    /// Keeps a row.
+    fn keep(&mut self, row: Row) -> Result<(), Memory>
+        ensures { (r : Rules) → AreTablesOf r self.old → RowStands r row → AreTablesOf r self.new }
+    {
+        let Ok(place) = u32::try_from(self.rows.len()) else {
+            return Err(Memory);
+        };
+        self.places
+            .put(number_of(row.choice), row.number as usize, place)?;
+        self.rows.push(row)?;
         Ok(())
     }
 
-    /// The same of an item of a choice.
-    fn put_admitted(
-        &self,
-        choice: Choice,
-        id: u32,
-        number: u16,
-        items: &mut Vec<u32>,
-    ) -> Result<(), Memory>
-        requires item { id < length (rules_in self.now.parts.now self.now.budget).items }
-        requires choice { ChoiceFits (rules_in self.now.parts.now self.now.budget) choice }
-        ensures kept { (j : ℕ) → Lacks items.new.items j → Lacks items.old.items j }
-        ensures rises { RisesTo id items.old.items → RisesTo id items.new.items }
-        ensures here { IfOk result (λ _.
-            admits (rules_in self.now.parts.now self.now.budget) choice (item_numbered id) ≡ true →
-            Lacks items.new.items id →
-            StaysOut (rules_in self.now.parts.now self.now.budget) number (item_numbered id)) }
+    /// Makes the row of all items of a choice, unless it was made.
+    fn make_whole(&mut self, asked: &Asked, choice: Choice) -> Result<(), Memory>
+        requires choice { ChoiceFits (rules_in asked.now.parts.now asked.now.budget) choice }
+        requires stands { AreTablesOf (rules_in asked.now.parts.now asked.now.budget) self.old }
+        ensures { AreTablesOf (rules_in asked.now.parts.now asked.now.budget) self.new }
     {
-        if admits(self, choice, ItemId(id)) {
-            self.put(id, number, items)?;
-        }
-        Ok(())
-    }
-
-    /// The same as `stays_out`. The answer is kept.
-    fn is_out(&self, id: ItemId, number: u16, outs: &mut KeyAnswers) -> Result<bool, Memory>
-        requires item { IsItem (rules_in self.now.parts.now self.now.budget) id }
-        requires outs { AnswersStand (stays_out (rules_in self.now.parts.now self.now.budget))
-            outs.old }
-        ensures outs { AnswersStand (stays_out (rules_in self.now.parts.now self.now.budget))
-            outs.new }
-        ensures out { IfOk result (λ out. IsTrue out →
-            StaysOut (rules_in self.now.parts.now self.now.budget) number id) }
-    {
-        match outs.known(number, id) {
-            Some(out) => return Ok(out),
-            None => {}
-        }
-        let out = self.stays_out(id, number);
-        outs.keep(number, id, out)?;
-        Ok(out)
-    }
-
-    /// Puts an item on a list, unless it isn't there or can't start, by the answers that are kept.
-    fn put_known(
-        &self,
-        id: u32,
-        number: u16,
-        count: usize,
-        outs: &mut KeyAnswers,
-        items: &mut Vec<u32>,
-    ) -> Result<(), Memory>
-        requires count { count ≡ length (rules_in self.now.parts.now self.now.budget).items }
-        requires outs { AnswersStand (stays_out (rules_in self.now.parts.now self.now.budget))
-            outs.old }
-        ensures outs { AnswersStand (stays_out (rules_in self.now.parts.now self.now.budget))
-            outs.new }
-        ensures kept { (j : ℕ) → Lacks items.new.items j → Lacks items.old.items j }
-        ensures rises { RisesTo id items.old.items → RisesTo id items.new.items }
-        ensures here { IfOk result (λ _.
-            id < length (rules_in self.now.parts.now self.now.budget).items →
-            Lacks items.new.items id →
-            StaysOut (rules_in self.now.parts.now self.now.budget) number (item_numbered id)) }
-    {
-        if id as usize >= count {
+        if self.row(choice, ANY).is_some() {
             return Ok(());
         }
-        if !self.is_out(ItemId(id), number, outs)? {
-            items.push(id)?;
-        }
-        Ok(())
+        let row = asked.whole_row(self.alloc, choice)?;
+        self.keep(row)
     }
 
-    /// The items of a choice that may start.
-    fn listed(&self, alloc: Global, choice: Choice, number: u16) -> Result<Vec<u32>, Memory>
-        requires { ChoiceFits (rules_in self.now.parts.now self.now.budget) choice }
-        ensures lists { IfOk result (λ list.
-            ListStands (rules_in self.now.parts.now self.now.budget) choice number list.items) }
-        ensures rises { IfOk result (λ list. IsNonDecreasing list.items) }
+    /// Makes a row that wasn't made yet.
+    pub(crate) fn make(&mut self, asked: &Asked, choice: Choice, number: u16) -> Result<(), Memory>
+        requires choice { ChoiceFits (rules_in asked.now.parts.now asked.now.budget) choice }
+        requires stands { AreTablesOf (rules_in asked.now.parts.now asked.now.budget) self.old }
+        ensures { AreTablesOf (rules_in asked.now.parts.now asked.now.budget) self.new }
     {
-        let count = self.parts.items.added() as u32;
-        let mut items = Vec::new(alloc);
-        for id in 0..count {
-            self.put_admitted(choice, id, number, &mut items)?;
-        }
-        Ok(items)
+        self.make_whole(asked, choice)?;
+        let Some(place) = self.place(choice, ANY) else {
+            return Ok(());
+        };
+        let row = match row_at(self.rows.as_slice(), place, choice, ANY) {
+            Some(all) => asked.row_of(self.alloc, all, number, &mut self.outs)?,
+            None => return Ok(()),
+        };
+        self.keep(row)
     }
+}
 
-    /// Those of all items of a choice that may start at a column whose key has a number.
-    fn narrowed(
-        &self,
-        alloc: Global,
-        all: &Row,
-        number: u16,
-        outs: &mut KeyAnswers,
-    ) -> Result<Vec<u32>, Memory>
-        requires number { all.now.number ≡ 777 }
-        requires stands { RowStands (rules_in self.now.parts.now self.now.budget) all.now }
-        requires outs { AnswersStand (stays_out (rules_in self.now.parts.now self.now.budget))
-            outs.old }
-        ensures outs { AnswersStand (stays_out (rules_in self.now.parts.now self.now.budget))
-            outs.new }
-        ensures lists { IfOk result
-            (λ list. ListStands (rules_in self.now.parts.now self.now.budget)
-            all.now.choice number list.items) }
-        ensures rises { IfOk result (λ list. IsNonDecreasing list.items) }
-    {
-        let count = self.parts.items.added();
-        let mut items = Vec::new(alloc);
-        for id in all.items.as_slice() {
-            self.put_known(*id, number, count, outs, &mut items)?;
-        }
-        Ok(items)
+/// A row, if it stands at a place of some rows.
+fn row_at(rows: &[Row], place: usize, choice: Choice, number: u16) -> Option<&Row>
+    ensures choice { IfSome result (λ row. row.now.choice ≡ choice) }
+    ensures number { IfSome result (λ row. row.now.number ≡ number) }
+    ensures stands { (r : Rules) → All (RowStands r) rows.now →
+        IfSome result (λ row. RowStands r row.now) }
+{
+    let row = rows.get(place)?;
+    if row.choice == choice && row.number == number {
+        Some(row)
+    } else {
+        None
     }
+}
 
-    /// The row of all items of a choice that start by a pattern.
-    pub(crate) fn whole_row(&self, alloc: Global, choice: Choice) -> Result<Row, Memory>
-        requires { ChoiceFits (rules_in self.now.parts.now self.now.budget) choice }
-        ensures { IfOk result (RowStands (rules_in self.now.parts.now self.now.budget)) }
-    {
-        let items = self.listed(alloc, choice, ANY)?;
-        let resting = self.those(alloc, items.as_slice(), false)?;
-        let wandering = self.those(alloc, items.as_slice(), true)?;
-        Ok(Row {
-            choice,
-            number: ANY,
-            items,
-            resting,
-            wandering: Some(wandering),
-        })
-    }
-
-    /// The row of a key, from that of all items of its choice.
-    pub(crate) fn row_of(
-        &self,
-        alloc: Global,
-        all: &Row,
-        number: u16,
-        outs: &mut KeyAnswers,
-    ) -> Result<Row, Memory>
-        requires number { all.now.number ≡ 777 }
-        requires stands { RowStands (rules_in self.now.parts.now self.now.budget) all.now }
-        requires outs { AnswersStand (stays_out (rules_in self.now.parts.now self.now.budget))
-            outs.old }
-        ensures outs { AnswersStand (stays_out (rules_in self.now.parts.now self.now.budget))
-            outs.new }
-        ensures row { IfOk result (RowStands (rules_in self.now.parts.now self.now.budget)) }
-    {
-        let items = self.narrowed(alloc, all, number, outs)?;
-        let resting = self.those(alloc, items.as_slice(), false)?;
-        Ok(Row {
-            choice: all.choice,
-            number,
-            items,
-            resting,
-            wandering: None,
-        })
+/// The number of a choice.
+fn number_of(choice: Choice) -> usize {
+    match choice {
+        Choice::Within(None) => 0,
+        Choice::NoItem => 1,
+        Choice::Within(Some(item)) => 2 * item.0 as usize + 2,
+        Choice::ListOf(item) => 2 * item.0 as usize + 3,
     }
 }

@@ -1,12 +1,12 @@
 use Rattle.std.proofs.Common.{◌≡◌, ◌∙◌, sym, arith, subst, true}
 use Rattle.std.specs.Prelude.{IfSome, Option, ℕ}
 use Rattle.item_pick.specs.Screens.{IsVainFrom}
-use Rattle.item_pick.specs.Tables.{IsCheapWithin, MemoryStands}
+use Rattle.item_pick.specs.Tables.{IsCheapWithin}
 use Rattle.item_pick.specs.Columns.{may_start_at}
 use Rattle.item_pick.specs.PartsSeen.{rules_in}
 use Rattle.item_pick.proofs.BehindLaws.{vain_behind}
 use Rattle.item_pick.proofs.FutileLaws.{futile_after, futile_behind, futile_by}
-use Rattle.item_pick.proofs.TableLaws.{missed_vain, still_stands}
+use Rattle.item_pick.proofs.TableLaws.{missed_vain}
 use Rattle.item_pick.proofs.memory.PickMemoryMemoAsked.vain.Goals as goal
 
 pub returns-then-branch-clause-vain : goal.returns-then-branch-clause-vain
@@ -18,10 +18,9 @@ returns-then-branch-clause-vain g c =
     let at-last : may_start_at c.args.pattern.now c.last.result p.at.col c.args.col ≡ true = sym c.may_start.ensures ∙ c.if-not-may_start.false in
     let may = subst (λ n. may_start_at c.args.pattern.now n p.at.col c.args.col ≡ true) c.last.ensures.is at-last in
     let told = c.in_ok-most.ensures in
-    let stands : MemoryStands r t p.at.line c.longest_behind.new.self = still_stands r t p.at.line c.args.self.now c.longest_behind.new.self told.stands told.numbers told.runs c.requires.stands in
     subst (λ lines. IsVainFrom r t p.at c.args.id c.args.pattern.now lines c.args.col) (sym c.two_lines.ensures)
     (vain_behind r (futile_behind s.parts.now.sets.now s.budget) t c.args.id c.args.pattern.now p.at c.in-Some.most c.args.col c.in-Some-number_at.number
-    may (c.requires.first (omega (arith, c.if-start-ne0.false))) (c.are_within.ensures c.if-not-are_within.false) (c.in-Some-number_at.ensures r t p.at.line stands) (c.in_ok-is_vain_behind-in-Some-number_at.ensures.vain c.if-branch.true)
+    may (c.requires.first (omega (arith, c.if-start-ne0.false))) (c.are_within.ensures c.if-not-are_within.false) (c.in-Some-number_at.ensures r t p.at.line c.requires.stands.line) (c.in_ok-is_vain_behind-in-Some-number_at.ensures.vain c.if-branch.true)
     (subst (λ (o : Option ℕ). IfSome o (IsCheapWithin r c.args.id)) c.in-Some.is told.cheap))
 
 pub returns-then-not-begins_behind-clause-vain : goal.returns-then-not-begins_behind-clause-vain
@@ -33,4 +32,4 @@ returns-then-not-begins_behind-clause-vain g c =
     let at-last : may_start_at c.args.pattern.now c.last.result p.at.col c.args.col ≡ true = sym c.may_start.ensures ∙ c.if-not-may_start.false in
     let may = subst (λ n. may_start_at c.args.pattern.now n p.at.col c.args.col ≡ true) c.last.ensures.is at-last in
     missed_vain r (futile_by s.parts.now.sets.now s.budget) (futile_after s.parts.now.sets.now s.budget) t c.args.id c.args.pattern.now p.at c.args.col
-    may c.requires.column c.in_ok-missed.missed (λ e. c.in_ok-missed.ensures.missed e t p.at.line c.requires.stands) c.own_line_if.result c.own_line_if.ensures
+    may c.requires.column c.in_ok-missed.missed (λ e. c.in_ok-missed.ensures.missed e t p.at.line c.requires.stands.line) c.own_line_if.result c.own_line_if.ensures

@@ -26,7 +26,7 @@ returns-in_ok-left-in-Some-clause-quiet g c e =
     (subst (λ (n : ℕ). IsNextAt r t p floor k [] c.args.choice n 0) c.added-count.ensures.number
     (subst (IsNextAt r t p floor k [] c.args.choice c.added-count.result) none
     (subst (λ (xs : List ItemId). IsNextAt r t p floor k (reverse xs) c.args.choice c.added-count.result c.in_ok-left-in-Some.left) c.requires.none_tried
-    (c.in_ok-left-in-Some.ensures.next t l c.requires.memory (c.in-Some.ensures r t l c.requires.memory) c.requires.held))))
+    (c.in_ok-left-in-Some.ensures.next t l c.requires.memory.line (c.in-Some.ensures r t l c.requires.memory.line) c.requires.held))))
 
 pub returns-then-is_still-clause-quiet : goal.returns-then-is_still-clause-quiet
 returns-then-is_still-clause-quiet g c _ =
@@ -41,4 +41,4 @@ returns-then-is_still-clause-quiet g c _ =
     row_empty r t (place_at l c.args.col) floor k c.args.choice
     (subst (λ (line : List ℕ). begins_word r.sets.keyword line c.args.col ≡ false) c.line.ensures word)
     (none_left r t l c.args.choice floor k c.args.col (c.requires.settled still.0)
-    (still.1 t l c.requires.memory (c.in-Some.ensures r t l c.requires.memory) floor k c.requires.held))
+    (still.1 t l c.requires.memory (c.in-Some.ensures r t l c.requires.memory.line) floor k c.requires.held))

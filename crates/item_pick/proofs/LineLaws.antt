@@ -1,0 +1,48 @@
+-- Items that start nowhere in a line.
+use Rattle.std.proofs.Common.{◌≡◌, refl, sym, subst, arith, ℕ, ◌+◌, ◌≤◌, length}
+use Rattle.std.specs.Prelude.{Result, Ok, Err, IfOk}
+use Rattle.syn_base.specs.declared.looked.Looked.{Looked}
+use Rattle.syn_base.specs.declared.places.ItemId.{ItemId}
+use Rattle.syn_base.specs.declared.places.Place.{Place}
+use Rattle.match_rules.specs.Ways.{Text, line_at}
+use Rattle.syntax_set.specs.declared.item.Pattern.{Pattern}
+use Rattle.paint_rules.specs.Rules.{Rules, item_of, place_at}
+use Rattle.item_pick.specs.declared.runs.Run.{Run}
+use Rattle.item_pick.specs.Runs.{IsWhole}
+use Rattle.item_pick.specs.Screens.{HoldsLine, HoldsLines, IsLater}
+use Rattle.item_pick.specs.Standing.{IsPatternOf}
+use Rattle.item_pick.specs.Tables.{IsBarren, IsLackedIn, RunStands}
+use Rattle.item_pick.proofs.NeedLaws.{IsNeedLaw, lacked_quiet}
+use Rattle.item_pick.proofs.TableLaws.{covered_quiet}
+
+-- what holds anyway
+pub ok_always : {A E : Type 0} (P : Type 0) (result : Result A E) → P → IfOk result (λ _. P)
+ok_always P (Ok x) p = p
+ok_always P (Err e) p = tt
+
+module _ (r : Rules) (t : Text) (l : ℕ) where
+  -- one whose need the line lacks
+  pub lacked_barren : IsNeedLaw r → (i : ItemId) → IsLackedIn r (line_at t l) i → IsBarren r t l i
+  lacked_barren law i lacked at floor k within held = lacked_quiet r law t (place_at l at) i lacked k held floor
+
+  -- one that a run tells of at all places
+  pub whole_barren : (run : Run) (count : ℕ) → count ≡ length (line_at t l) + 1 → RunStands r t l run → IsWhole run l count → IsBarren r t l run.item
+  whole_barren run count is stands whole at floor k within held =
+      covered_quiet r t l at floor k count run.item run held stands
+      (record {
+        same = refl;
+        to = whole.to;
+        above = omega (arith, whole.above);
+        below = omega (arith, whole.below, is, within);
+        held = subst (HoldsLines k) (sym whole.looked) held;
+        enough = (0, whole.least, omega arith);
+      })
+      is
+
+-- so it may be sought from any later column
+pub barren_later : (r : Rules) (t : Text) (p : Place) (i : ItemId) → IsBarren r t p.line i → p.col ≤ length (line_at t p.line) → (k : Looked) → HoldsLine k p.line →
+    (pattern : Pattern) → IsPatternOf (item_of r.items i).kind pattern → (col next : ℕ) → col ≤ next → IsLater r t i pattern p k col next
+barren_later r t p i barren present k held pattern its col next ahead = record {
+  ahead = ahead;
+  idle = λ c from below within. barren p.col 0 k present held pattern its c (omega arith) within;
+}

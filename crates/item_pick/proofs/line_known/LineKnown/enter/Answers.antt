@@ -1,0 +1,22 @@
+use Rattle.std.proofs.Common.{◌≡◌, ◌+◌, ap, arith, length, subst, sym, ℕ, List, true}
+use Rattle.std.specs.List.{All}
+use Rattle.std.proofs.lemmas.Result.{IfOk-weaker}
+use Rattle.pattern_needs.specs.Held.{holds}
+use Rattle.match_rules.specs.Ways.{line_at}
+use Rattle.pattern_screens.specs.Keys.{AreNumbers}
+use Rattle.char_class.specs.declared.sets.Sets.{Sets}
+use Rattle.item_pick.proofs.line_known.LineKnown.enter.Goals as goal
+
+pub returns : goal.returns
+returns c r t l same line =
+    IfOk-weaker c.number_line.result _ _ (λ _ keys. record {
+      keys = subst (λ (sets : Sets). AreNumbers sets (line_at t l) (length (line_at t l) + 1) c.number_line.new.numbers.items) (sym same)
+          (subst (λ (chars : List ℕ). AreNumbers c.args.sets.now chars (length chars + 1) c.number_line.new.numbers.items) line keys);
+      held = record {
+        each = subst (All (λ k. holds c.of-self.result k ≡ true)) line c.of-self.ensures;
+        few = omega (arith, keys.many, ap length line);
+      };
+      runs = λ k run has. absurd (c.clear.ensures k run has);
+      barren = λ k it has. absurd (c.clear-2.ensures k it has);
+      ends = c.clear-3.ensures r.items r.sets r.budget t l;
+    }) c.number_line.ensures

@@ -1,0 +1,26 @@
+use Rattle.slots.specs.Entries.{Has}
+use Rattle.slots.proofs.EntryLaws.{all_still}
+use Rattle.std.proofs.Common.{arith}
+use Rattle.item_pick.specs.Quiet.{item_numbered}
+use Rattle.item_pick.specs.Tables.{IsBarren, RunStands}
+use Rattle.item_pick.proofs.LineLaws.{whole_barren}
+use Rattle.item_pick.proofs.line_known.LineKnown.keep.Goals as goal
+
+pub returns : goal.returns
+returns c r t own line = record {
+  keys = line.keys;
+  held = line.held;
+  runs = all_still (λ _ run. RunStands r t c.args.line run) (Has c.args.self.now.runs) (Has c.put-2.new.self) _ c.args.run c.put-2.ensures.kept line.runs own;
+  barren = line.barren;
+  ends = line.ends;
+}
+
+pub returns-then-is_whole : goal.returns-then-is_whole
+returns-then-is_whole c r t own line = record {
+  keys = line.keys;
+  held = line.held;
+  runs = line.runs;
+  barren = all_still (λ k _. IsBarren r t c.args.line (item_numbered k)) (Has c.args.self.now.barren) (Has c.put.new.self) _ _ c.put.ensures.kept line.barren
+      (whole_barren r t c.args.line c.args.run c.len.result (omega (arith, line.keys.many, c.len.ensures)) own (c.is_whole.ensures c.if-is_whole.true));
+  ends = line.ends;
+}

@@ -1,8 +1,0 @@
-use Rattle.std.proofs.Common.{subst, sym}
-use Rattle.std.specs.List.{All}
-use Rattle.item_pick.specs.Tables.{RowStands}
-use Rattle.item_pick.proofs.memory.PickMemory.row.Goals as goal
-
-pub returns-clause-stands : goal.returns-clause-stands
-returns-clause-stands c r tables =
-    c.row_at.ensures.stands r (subst (All (RowStands r)) (sym c.as_slice.ensures.value) tables.rows)

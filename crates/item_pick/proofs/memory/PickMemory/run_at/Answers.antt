@@ -1,9 +1,0 @@
-use Rattle.item_pick.specs.PartsSeen.{rules_in}
-use Rattle.item_pick.proofs.memory.PickMemory.run_at.Goals as goal
-
-pub returns-in-Some-clause-stands : goal.returns-in-Some-clause-stands
-returns-in-Some-clause-stands c t l memory =
-    c.in-Some.ensures.stands (rules_in c.args.asked.now.parts.now c.args.asked.now.budget) t l memory.runs
-
-pub returns-in-None-clause-stands : goal.returns-in-None-clause-stands
-returns-in-None-clause-stands c t l memory = c.fresh_run.ensures.stands t l

@@ -1,0 +1,21 @@
+use Rattle.std.proofs.Common.{sym, subst, [], ◌∷◌}
+use Rattle.std.specs.List.{All}
+use Rattle.std.proofs.lemmas.List.Elements.{All-append, All-cons, All-nil}
+use Rattle.item_pick.specs.Tables.{RowStands}
+use Rattle.item_pick.proofs.tables.Tables.keep.Goals as goal
+
+pub returns : goal.returns
+returns c r tables row = record {
+  rows = subst (All (RowStands r)) (sym c.in_ok-push.ensures.items)
+      (All-append (RowStands r) c.args.self.now.rows.items (c.args.row ∷ []) tables.rows
+      (All-cons (RowStands r) c.args.row [] row (All-nil (RowStands r))));
+  outs = tables.outs;
+  vains = tables.vains;
+  behinds = tables.behinds;
+  afters = tables.afters;
+  idles = tables.idles;
+  shut = tables.shut;
+  anchors = tables.anchors;
+  longest = tables.longest;
+  wanted = tables.wanted;
+}

@@ -1,0 +1,24 @@
+use Rattle.std.proofs.Common.{subst, sym, true}
+use Rattle.std.specs.Prelude.{Some}
+use Rattle.std.specs.List.{All}
+use Rattle.std.proofs.lemmas.List.Elements.{All-nil}
+use Rattle.region_ends.specs.Passing.{is_shut_at}
+use Rattle.pattern_screens.specs.Failing.{fails_at}
+use Rattle.pattern_screens.specs.Following.{fails_after}
+use Rattle.item_pick.specs.Firsts.{first_asked, idles_before, rest_asked}
+use Rattle.item_pick.specs.Tables.{IsWanted, RowStands, stays_out}
+use Rattle.item_pick.proofs.tables.Tables.new.Goals as goal
+
+pub returns : goal.returns
+returns c r = record {
+  rows = subst (All (RowStands r)) (sym c.new.ensures.items) (All-nil (RowStands r));
+  outs = c.new-3.ensures (stays_out r);
+  vains = c.new-4.ensures (first_asked fails_at r);
+  behinds = c.new-5.ensures (first_asked rest_asked r);
+  afters = c.new-6.ensures (first_asked fails_after r);
+  idles = c.new-7.ensures (idles_before r);
+  shut = c.new-8.ensures (is_shut_at r.items r.sets r.budget);
+  anchors = record { told = λ item there. absurd (c.new-9.ensures item true there) };
+  longest = record { told = λ item most there. absurd (c.new-10.ensures item (Some most) there) };
+  wanted = subst (All (IsWanted r)) (sym c.new-11.ensures.items) (All-nil (IsWanted r));
+}

@@ -1,0 +1,180 @@
+//! What is known of the line that is painted: where items don't start, and where regions end.
+ghost use Rattle.std.specs.Prelude.{◌≡◌, ◌<◌, ◌≤◌, ◌^◌, ℕ, length, IfOk, IfSome, IsTrue};
+ghost use Rattle.std.specs.List.{All};
+ghost use Rattle.match_rules.specs.Ways.{Text, line_at};
+ghost use Rattle.paint_rules.specs.Rules.{Rules, place_at};
+ghost use Rattle.item_pick.specs.PartsSeen.{rules_in};
+ghost use Rattle.item_pick.specs.declared.parts.Parts.{Parts as PartsOf};
+ghost use Rattle.item_pick.specs.Quiet.{IsQuiet, item_numbered};
+ghost use Rattle.item_pick.specs.Runs.{TellsOf};
+ghost use Rattle.item_pick.specs.Screens.{HoldsLine};
+ghost use Rattle.item_pick.specs.Tables.{IsBarren, IsNumberAt, IsWanted, LineStands, RunStands};
+
+use crate::needs::Wanted;
+use crate::runs::{Run, Search};
+use char_class::Sets;
+use pattern_needs::Held;
+use pattern_screens::number_line;
+use region_ends::EndMemo;
+use slots::Slots;
+use std::alloc::Global;
+use syn_base::{ItemId, Memory};
+
+/// What is known of the line that is painted.
+#[derive(Drop)]
+pub(crate) struct LineKnown {
+    /// The numbers of the keys of its columns, that of its end included.
+    pub(crate) numbers: Vec<u16>,
+    /// Its characters.
+    held: Held,
+    /// From which columns items aren't matched, by the number of the item.
+    runs: Slots<Run>,
+    /// The numbers of items that start nowhere in it.
+    barren: Slots<()>,
+    /// Where regions end.
+    pub(crate) ends: EndMemo,
+}
+
+impl LineKnown {
+    /// No line was entered. It takes no memory.
+    pub(crate) fn new(alloc: Global) -> LineKnown {
+        LineKnown {
+            numbers: Vec::new(alloc),
+            held: Held::none(),
+            runs: Slots::new(alloc),
+            barren: Slots::new(alloc),
+            ends: EndMemo::new(alloc),
+        }
+    }
+
+    /// Forgets what was known, and begins a line.
+    pub(crate) fn enter(&mut self, sets: &Sets, line: &[char]) -> Result<(), Memory>
+        ensures { (r : Rules) (t : Text) (l : ℕ) → r.sets ≡ sets.now → line.now ≡ line_at t l →
+            IfOk result (λ _. LineStands r t l self.new) }
+    {
+        self.runs.clear();
+        self.barren.clear();
+        self.ends.clear();
+        self.held = Held::of(line);
+        number_line(sets, line, &mut self.numbers)
+    }
+
+    /// Notes that an item starts nowhere, if the line lacks what it needs, and tells whether it does.
+    pub(crate) fn note_lacking(&mut self, wanted: &Wanted) -> Result<bool, Memory>
+        ensures stands { (parts : PartsOf) (budget : ℕ) (t : Text) (l : ℕ) →
+            IsWanted (rules_in parts budget) wanted.now →
+            LineStands (rules_in parts budget) t l self.old →
+            LineStands (rules_in parts budget) t l self.new }
+        ensures lacking { IfOk result (λ lacking. IsTrue lacking →
+            (parts : PartsOf) (budget : ℕ) (t : Text) (l : ℕ) →
+            IsWanted (rules_in parts budget) wanted.now →
+            LineStands (rules_in parts budget) t l self.old →
+            IsBarren (rules_in parts budget) t l wanted.now.item) }
+    {
+        let lacking = wanted.need.is_lacked(&self.held, self.numbers.len());
+        if lacking {
+            self.barren.put(wanted.item.0 as usize, ())?;
+        }
+        Ok(lacking)
+    }
+
+    /// Notes those of some items that start nowhere, since the line lacks what they need.
+    pub(crate) fn note_all_lacking(&mut self, wanted: &[Wanted]) -> Result<(), Memory>
+        ensures { (parts : PartsOf) (budget : ℕ) (t : Text) (l : ℕ) →
+            All (IsWanted (rules_in parts budget)) wanted.now →
+            LineStands (rules_in parts budget) t l self.old →
+            LineStands (rules_in parts budget) t l self.new }
+    {
+        for one in wanted {
+            self.note_lacking(one)?;
+        }
+        Ok(())
+    }
+
+    /// The number of the key at a column.
+    pub(crate) fn number_at(&self, col: usize) -> Option<u16>
+        ensures { (r : Rules) (t : Text) (l : ℕ) → LineStands r t l self.now →
+            IfSome result (IsNumberAt r (line_at t l) col) }
+    {
+        self.numbers.get(col).copied()
+    }
+
+    /// Whether an item is known to start nowhere in the line.
+    pub(crate) fn is_barren(&self, id: u32) -> bool
+        ensures { IsTrue result → (r : Rules) (t : Text) (l : ℕ) → LineStands r t l self.now →
+            IsBarren r t l (item_numbered id) }
+    {
+        match self.barren.get(id as usize) {
+            Some(_) => true,
+            None => false,
+        }
+    }
+
+    /// The run of an item that holds a column or ends there, and tells of a place.
+    pub(crate) fn known(&self, item: ItemId, col: usize, at: usize) -> Option<Run>
+        ensures tells { IfSome result (TellsOf item col at) }
+        ensures stands { (r : Rules) (t : Text) (l : ℕ) → LineStands r t l self.now →
+            IfSome result (RunStands r t l) }
+    {
+        let run = self.runs.get(item.0 as usize)?;
+        let holds = run.item == item && run.from <= col && col <= run.to;
+        if holds && run.places.first <= at && at < run.places.end {
+            Some(*run)
+        } else {
+            None
+        }
+    }
+
+    /// Whether it is known that an item has no match with its item start at a column.
+    pub(crate) fn is_settled(&self, id: u32, search: &Search<'_>) -> bool
+        ensures { IsTrue result → (r : Rules) (t : Text) (l : ℕ) → LineStands r t l self.now →
+            search.now.at ≤ length (line_at t l) → HoldsLine search.now.looked l →
+            IsQuiet r t (place_at l search.now.at) search.now.floor search.now.looked
+            (item_numbered id) }
+    {
+        if self.is_barren(id) {
+            return true;
+        }
+        match self.runs.get(id as usize) {
+            Some(run) => run.covers(ItemId(id), search, self.numbers.len()),
+            None => false,
+        }
+    }
+
+    /// The first column from that of a search on at which an item isn't known to have no match, at most
+    /// the line's end and one.
+    pub(crate) fn settled_to(&self, id: u32, search: &Search<'_>) -> usize
+        ensures { (r : Rules) (t : Text) (l : ℕ) → LineStands r t l self.now →
+            HoldsLine search.now.looked l → (c : ℕ) → search.now.at ≤ c → c < result →
+            IsQuiet r t (place_at l c) search.now.floor search.now.looked (item_numbered id) }
+    {
+        if self.is_barren(id) {
+            return self.numbers.len();
+        }
+        match self.runs.get(id as usize) {
+            Some(run) => {
+                if run.covers(ItemId(id), search, self.numbers.len()) {
+                    run.places.end
+                } else {
+                    search.at
+                }
+            }
+            None => search.at,
+        }
+    }
+
+    /// Keeps a run of a line at the place of its item, unless it is empty.
+    pub(crate) fn keep(&mut self, run: Run, line: usize) -> Result<(), Memory>
+        requires { line < 2 ^ 63 }
+        ensures { (r : Rules) (t : Text) → RunStands r t line run →
+            LineStands r t line self.old → LineStands r t line self.new }
+    {
+        if run.from == run.to {
+            return Ok(());
+        }
+        if run.is_whole(line, self.numbers.len()) {
+            return self.barren.put(run.item.0 as usize, ());
+        }
+        self.runs.put(run.item.0 as usize, run)
+    }
+}

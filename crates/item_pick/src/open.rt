@@ -1,0 +1,157 @@
+//! Items that may start at a column.
+ghost use Rattle.std.specs.Prelude.{◌≡◌, ◌<◌, ◌≤◌, ℕ, get_or, length, nat_lt, reverse, IfOk, IfSome, IsTrue};
+ghost use Rattle.std.specs.List.Sorted.{IsNonDecreasing};
+ghost use Rattle.match_rules.specs.Ways.{Text, line_at};
+ghost use Rattle.paint_rules.specs.Rules.{place_at};
+ghost use Rattle.item_pick.specs.PartsSeen.{rules_in};
+ghost use Rattle.item_pick.specs.Quiet.{IsPassed, IsQuiet, item_numbered};
+ghost use Rattle.item_pick.specs.Screens.{HoldsLine};
+ghost use Rattle.item_pick.specs.Standing.{ChoiceFits};
+ghost use Rattle.item_pick.specs.Tables.{AreKnown, AreTablesOf, IsNextAt, IsNextIn, IsNumberAt, LineStands};
+
+use crate::asked::Asked;
+use crate::choice::Choice;
+use crate::runs::Search;
+use crate::tables::Tables;
+use syn_base::{ItemId, Memory};
+
+impl Tables {
+    /// Whether an item is known not to start at a column by what stands one column behind.
+    fn is_idle(&self, _asked: &Asked, id: u32, search: &Search<'_>) -> bool
+        ensures { IsTrue result → (t : Text) (l : ℕ) →
+            AreKnown (rules_in _asked.now.parts.now _asked.now.budget) t l self.now
+            search.now.line.now → HoldsLine search.now.looked l →
+            IsQuiet (rules_in _asked.now.parts.now _asked.now.budget) t (place_at l search.now.at)
+            search.now.floor search.now.looked (item_numbered id) }
+    {
+        if search.at == 0 {
+            return false;
+        }
+        let Some(after) = search.at.checked_add(1) else {
+            return false;
+        };
+        let Some(number) = search.line.number_at(after) else {
+            return false;
+        };
+        match self.idles.known(number, ItemId(id)) {
+            Some(idle) => idle,
+            None => false,
+        }
+    }
+
+    /// Whether an item has started at a column, or is known not to.
+    fn is_over(&self, asked: &Asked, id: u32, search: &Search<'_>) -> bool
+        ensures { IsTrue result → (t : Text) (l : ℕ) →
+            AreKnown (rules_in asked.now.parts.now asked.now.budget) t l self.now
+            search.now.line.now → search.now.at ≤ length (line_at t l) →
+            HoldsLine search.now.looked l →
+            IsPassed (rules_in asked.now.parts.now asked.now.budget) t (place_at l search.now.at)
+            search.now.floor search.now.looked (reverse search.now.tried.now)
+            (item_numbered id) }
+    {
+        if search.is_passed(id) {
+            return true;
+        }
+        self.is_idle(asked, id, search)
+    }
+
+    /// The number behind the last item of a list, whose numbers rise, that is below another one and may
+    /// start at a column; 0 where there is none.
+    fn next_open(&self, asked: &Asked, list: &[u32], left: usize, search: &Search<'_>) -> usize
+        ensures { IsNonDecreasing list.now → (t : Text) (l : ℕ) →
+            AreKnown (rules_in asked.now.parts.now asked.now.budget) t l self.now
+            search.now.line.now → search.now.at ≤ length (line_at t l) →
+            HoldsLine search.now.looked l →
+            IsNextIn (rules_in asked.now.parts.now asked.now.budget) t (place_at l search.now.at)
+            search.now.floor search.now.looked (reverse search.now.tried.now) list.now left
+            result }
+    {
+        let mut count = count_below(list, left);
+        'items: while count > 0 {
+            count -= 1;
+            let id = list[count];
+            if !self.is_over(asked, id, search) {
+                return id as usize + 1;
+            }
+        }
+        0
+    }
+
+    /// The number of items that are left by a row, if it was made.
+    fn left_by(
+        &self,
+        asked: &Asked,
+        choice: Choice,
+        number: u16,
+        search: &Search<'_>,
+        left: usize,
+    ) -> Option<usize>
+        requires { left ≤ length asked.now.parts.now.items.now }
+        ensures { (t : Text) (l : ℕ) →
+            AreKnown (rules_in asked.now.parts.now asked.now.budget) t l self.now
+            search.now.line.now →
+            IsNumberAt (rules_in asked.now.parts.now asked.now.budget) (line_at t l) search.now.at
+            number → HoldsLine search.now.looked l →
+            IfSome result (IsNextAt (rules_in asked.now.parts.now asked.now.budget) t
+            (place_at l search.now.at) search.now.floor search.now.looked
+            (reverse search.now.tried.now) choice left) }
+    {
+        let row = self.row(choice, number)?;
+        Some(self.next_open(asked, &row.items, left, search))
+    }
+
+    /// The number of items that are left, once those behind them are passed over that a choice
+    /// hasn't, or that don't start at a column whose key has a number.
+    pub(crate) fn left_in(
+        &mut self,
+        asked: &Asked,
+        choice: Choice,
+        number: u16,
+        search: &Search<'_>,
+        left: usize,
+    ) -> Result<usize, Memory>
+        requires choice { ChoiceFits (rules_in asked.now.parts.now asked.now.budget) choice }
+        requires stands { AreTablesOf (rules_in asked.now.parts.now asked.now.budget) self.old }
+        requires items { left ≤ length asked.now.parts.now.items.now }
+        ensures stands { AreTablesOf (rules_in asked.now.parts.now asked.now.budget) self.new }
+        ensures next { (t : Text) (l : ℕ) →
+            LineStands (rules_in asked.now.parts.now asked.now.budget) t l search.now.line.now →
+            IsNumberAt (rules_in asked.now.parts.now asked.now.budget) (line_at t l) search.now.at
+            number → HoldsLine search.now.looked l →
+            IfOk result (IsNextAt (rules_in asked.now.parts.now asked.now.budget) t
+            (place_at l search.now.at) search.now.floor search.now.looked
+            (reverse search.now.tried.now) choice left) }
+    {
+        match self.left_by(asked, choice, number, search, left) {
+            Some(next) => return Ok(next),
+            None => {}
+        }
+        self.make(asked, choice, number)?;
+        match self.left_by(asked, choice, number, search, left) {
+            Some(next) => Ok(next),
+            None => Ok(left),
+        }
+    }
+}
+
+/// How many numbers of a list that rises are below one.
+fn count_below(list: &[u32], bound: usize) -> usize
+    ensures within { result ≤ length list.now }
+    ensures below { IsNonDecreasing list.now → (k : ℕ) → k < result → get_or list.now k 0 < bound }
+    ensures rest { IsNonDecreasing list.now → (k : ℕ) → result ≤ k → k < length list.now →
+        bound ≤ get_or list.now k 0 }
+{
+    match list.last() {
+        Some(last) => {
+            if (*last as usize) < bound {
+                return list.len();
+            }
+        }
+        None => return 0,
+    }
+    list.partition_point(
+        |number: &u32| -> bool
+            ensures { result ≡ nat_lt number.now bound }
+        { (*number as usize) < bound },
+    )
+}

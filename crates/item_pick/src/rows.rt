@@ -1,0 +1,257 @@
+//! Which items of a choice may start at a column, by the key of the column.
+ghost use Rattle.std.specs.Prelude.{◌≡◌, ◌<◌, ◌≤◌, ℕ, length, slice_get, slice_index, Some, IfOk, IfSome, IsTrue, true};
+ghost use Rattle.std.specs.List.Sorted.{IsNonDecreasing};
+ghost use Rattle.syntax_set.specs.declared.item.Pattern.{Pattern as PatternOf};
+ghost use Rattle.paint_rules.specs.Rules.{item_of};
+ghost use Rattle.item_pick.specs.PartsSeen.{rules_in};
+ghost use Rattle.item_pick.specs.Quiet.{item_numbered};
+ghost use Rattle.item_pick.specs.Standing.{ChoiceFits, IsItem};
+ghost use Rattle.item_pick.specs.Started.{admits};
+ghost use Rattle.region_ends.specs.KeyAnswers.{AnswersStand};
+ghost use Rattle.item_pick.specs.Tables.{is_screened, Lacks, ListStands, RisesTo, RowStands, stays_out, StaysOut};
+
+use crate::asked::Asked;
+use crate::choice::{Choice, admits};
+use pattern_screens::{KEYS, Key, fails};
+use region_ends::{KeyAnswers, item_of};
+use std::alloc::Global;
+use syn_base::{ItemId, Memory};
+use syntax_set::{ItemKind, Pattern};
+
+/// In place of the number of a key: the row has all items that start by a pattern.
+pub(crate) const ANY: u16 = KEYS;
+
+/// The admitted items of a choice that may start at a column whose key has a number, in the order in
+/// which they were defined.
+#[derive(Drop)]
+pub(crate) struct Row {
+    pub(crate) choice: Choice,
+    pub(crate) number: u16,
+    pub(crate) items: Vec<u32>,
+    /// Those of them that don't wander.
+    pub(crate) resting: Vec<u32>,
+    /// Those of them that do; only of the row of all items.
+    pub(crate) wandering: Option<Vec<u32>>,
+}
+
+impl Asked<'_> {
+    /// Whether an item can't start by a pattern at a column whose key has a number.
+    fn is_screened(&self, ignore: bool, pattern: &Pattern, number: u16) -> bool
+        ensures { IsTrue result → is_screened self.now.parts.now.sets.now self.now.budget ignore
+            number pattern.now ≡ true }
+    {
+        number < KEYS
+            && !pattern.tree.moves_start
+            && pattern.ms.is_none()
+            && fails(
+                &pattern.tree,
+                self.parts.sets,
+                ignore,
+                Key::numbered(number),
+                self.budget,
+            )
+    }
+
+    /// Whether it can't start by any of some patterns.
+    fn are_screened(&self, ignore: bool, patterns: &[Pattern], number: u16) -> bool
+        ensures { IsTrue result → (n : ℕ) (p : PatternOf) → Some p ≡ slice_get patterns.now n →
+            is_screened self.now.parts.now.sets.now self.now.budget ignore number p ≡ true }
+    {
+        for pattern in patterns {
+            if !self.is_screened(ignore, pattern, number) {
+                return false;
+            }
+        }
+        true
+    }
+
+    /// Whether an item can't start at a column whose key has a number.
+    fn stays_out(&self, id: ItemId, number: u16) -> bool
+        requires { IsItem (rules_in self.now.parts.now self.now.budget) id }
+        ensures { IsTrue result →
+            StaysOut (rules_in self.now.parts.now self.now.budget) number id }
+    {
+        let item = item_of(self.parts.items, id);
+        match &item.kind {
+            ItemKind::Keyword => true,
+            ItemKind::Match(pattern) => self.is_screened(item.ignore, pattern, number),
+            ItemKind::Region {
+                starts,
+                skip: _,
+                ends: _,
+            } => self.are_screened(item.ignore, starts.as_slice(), number),
+        }
+    }
+
+    /// Puts an item on a list, unless it can't start.
+    fn put(&self, id: u32, number: u16, items: &mut Vec<u32>) -> Result<(), Memory>
+        requires { id < length (rules_in self.now.parts.now self.now.budget).items }
+        ensures kept { (j : ℕ) → Lacks items.new.items j → Lacks items.old.items j }
+        ensures rises { RisesTo id items.old.items → RisesTo id items.new.items }
+        ensures here { IfOk result (λ _. Lacks items.new.items id →
+            StaysOut (rules_in self.now.parts.now self.now.budget) number (item_numbered id)) }
+    {
+        if !self.stays_out(ItemId(id), number) {
+            items.push(id)?;
+        }
+        Ok(())
+    }
+
+    /// The same of an item of a choice.
+    fn put_admitted(
+        &self,
+        choice: Choice,
+        id: u32,
+        number: u16,
+        items: &mut Vec<u32>,
+    ) -> Result<(), Memory>
+        requires item { id < length (rules_in self.now.parts.now self.now.budget).items }
+        requires choice { ChoiceFits (rules_in self.now.parts.now self.now.budget) choice }
+        ensures kept { (j : ℕ) → Lacks items.new.items j → Lacks items.old.items j }
+        ensures rises { RisesTo id items.old.items → RisesTo id items.new.items }
+        ensures here { IfOk result (λ _.
+            admits (rules_in self.now.parts.now self.now.budget) choice (item_numbered id) ≡ true →
+            Lacks items.new.items id →
+            StaysOut (rules_in self.now.parts.now self.now.budget) number (item_numbered id)) }
+    {
+        if admits(self, choice, ItemId(id)) {
+            self.put(id, number, items)?;
+        }
+        Ok(())
+    }
+
+    /// The same as `stays_out`. The answer is kept.
+    fn is_out(&self, id: ItemId, number: u16, outs: &mut KeyAnswers) -> Result<bool, Memory>
+        requires item { IsItem (rules_in self.now.parts.now self.now.budget) id }
+        requires outs { AnswersStand (stays_out (rules_in self.now.parts.now self.now.budget))
+            outs.old }
+        ensures outs { AnswersStand (stays_out (rules_in self.now.parts.now self.now.budget))
+            outs.new }
+        ensures out { IfOk result (λ out. IsTrue out →
+            StaysOut (rules_in self.now.parts.now self.now.budget) number id) }
+    {
+        match outs.known(number, id) {
+            Some(out) => return Ok(out),
+            None => {}
+        }
+        let out = self.stays_out(id, number);
+        outs.keep(number, id, out)?;
+        Ok(out)
+    }
+
+    /// Puts an item on a list, unless it isn't there or can't start, by the answers that are kept.
+    fn put_known(
+        &self,
+        id: u32,
+        number: u16,
+        count: usize,
+        outs: &mut KeyAnswers,
+        items: &mut Vec<u32>,
+    ) -> Result<(), Memory>
+        requires count { count ≡ length (rules_in self.now.parts.now self.now.budget).items }
+        requires outs { AnswersStand (stays_out (rules_in self.now.parts.now self.now.budget))
+            outs.old }
+        ensures outs { AnswersStand (stays_out (rules_in self.now.parts.now self.now.budget))
+            outs.new }
+        ensures kept { (j : ℕ) → Lacks items.new.items j → Lacks items.old.items j }
+        ensures rises { RisesTo id items.old.items → RisesTo id items.new.items }
+        ensures here { IfOk result (λ _.
+            id < length (rules_in self.now.parts.now self.now.budget).items →
+            Lacks items.new.items id →
+            StaysOut (rules_in self.now.parts.now self.now.budget) number (item_numbered id)) }
+    {
+        if id as usize >= count {
+            return Ok(());
+        }
+        if !self.is_out(ItemId(id), number, outs)? {
+            items.push(id)?;
+        }
+        Ok(())
+    }
+
+    /// The items of a choice that may start.
+    fn listed(&self, alloc: Global, choice: Choice, number: u16) -> Result<Vec<u32>, Memory>
+        requires { ChoiceFits (rules_in self.now.parts.now self.now.budget) choice }
+        ensures lists { IfOk result (λ list.
+            ListStands (rules_in self.now.parts.now self.now.budget) choice number list.items) }
+        ensures rises { IfOk result (λ list. IsNonDecreasing list.items) }
+    {
+        let count = self.parts.items.added() as u32;
+        let mut items = Vec::new(alloc);
+        for id in 0..count {
+            self.put_admitted(choice, id, number, &mut items)?;
+        }
+        Ok(items)
+    }
+
+    /// Those of all items of a choice that may start at a column whose key has a number.
+    fn narrowed(
+        &self,
+        alloc: Global,
+        all: &Row,
+        number: u16,
+        outs: &mut KeyAnswers,
+    ) -> Result<Vec<u32>, Memory>
+        requires number { all.now.number ≡ 777 }
+        requires stands { RowStands (rules_in self.now.parts.now self.now.budget) all.now }
+        requires outs { AnswersStand (stays_out (rules_in self.now.parts.now self.now.budget))
+            outs.old }
+        ensures outs { AnswersStand (stays_out (rules_in self.now.parts.now self.now.budget))
+            outs.new }
+        ensures lists { IfOk result
+            (λ list. ListStands (rules_in self.now.parts.now self.now.budget)
+            all.now.choice number list.items) }
+        ensures rises { IfOk result (λ list. IsNonDecreasing list.items) }
+    {
+        let count = self.parts.items.added();
+        let mut items = Vec::new(alloc);
+        for id in all.items.as_slice() {
+            self.put_known(*id, number, count, outs, &mut items)?;
+        }
+        Ok(items)
+    }
+
+    /// The row of all items of a choice that start by a pattern.
+    pub(crate) fn whole_row(&self, alloc: Global, choice: Choice) -> Result<Row, Memory>
+        requires { ChoiceFits (rules_in self.now.parts.now self.now.budget) choice }
+        ensures { IfOk result (RowStands (rules_in self.now.parts.now self.now.budget)) }
+    {
+        let items = self.listed(alloc, choice, ANY)?;
+        let resting = self.those(alloc, items.as_slice(), false)?;
+        let wandering = self.those(alloc, items.as_slice(), true)?;
+        Ok(Row {
+            choice,
+            number: ANY,
+            items,
+            resting,
+            wandering: Some(wandering),
+        })
+    }
+
+    /// The row of a key, from that of all items of its choice.
+    pub(crate) fn row_of(
+        &self,
+        alloc: Global,
+        all: &Row,
+        number: u16,
+        outs: &mut KeyAnswers,
+    ) -> Result<Row, Memory>
+        requires number { all.now.number ≡ 777 }
+        requires stands { RowStands (rules_in self.now.parts.now self.now.budget) all.now }
+        requires outs { AnswersStand (stays_out (rules_in self.now.parts.now self.now.budget))
+            outs.old }
+        ensures outs { AnswersStand (stays_out (rules_in self.now.parts.now self.now.budget))
+            outs.new }
+        ensures row { IfOk result (RowStands (rules_in self.now.parts.now self.now.budget)) }
+    {
+        let items = self.narrowed(alloc, all, number, outs)?;
+        let resting = self.those(alloc, items.as_slice(), false)?;
+        Ok(Row {
+            choice: all.choice,
+            number,
+            items,
+            resting,
+            wandering: None,
+        })
+    }
+}
