@@ -5,7 +5,6 @@ pub mod KeptLaws
 pub mod LineLaws
 pub mod ListLaws
 pub mod MatchLaws
-pub mod MemoLaws
 pub mod NeedLaws
 pub mod NextLaws
 pub mod OwnLaws

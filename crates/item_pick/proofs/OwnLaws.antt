@@ -1,8 +1,8 @@
 -- What the matcher answers of the patterns of items.
-use Rattle.std.proofs.Common.{◌≡◌, sym, subst, arith, ℕ, ◌+◌, ◌<◌, List, length}
-use Rattle.std.specs.Prelude.{Some, Result, Ok, Err, IfOk, slice_get}
+use Rattle.std.proofs.Common.{◌≡◌, refl, sym, subst, arith, ℕ, ◌+◌, ◌<◌, List, length, get_or, true}
+use Rattle.std.specs.Prelude.{Option, Some, Result, Ok, Err, IfOk, slice_get}
 use Rattle.std.specs.List.{All}
-use Rattle.std.proofs.lemmas.Option.{get_or_from_slice_get, slice_get_within}
+use Rattle.std.proofs.lemmas.Option.{get_or_from_slice_get, slice_get-get_or, slice_get_within}
 use Rattle.syn_base.specs.declared.places.ItemId.{ItemId}
 use Rattle.syn_base.specs.declared.places.Place.{Place}
 use Rattle.syn_base.specs.declared.want_of_memory.Memory.{Memory}
@@ -16,9 +16,14 @@ use Rattle.syntax_set.specs.declared.added_item.AddedItem.{AddedItem}
 use Rattle.syntax_set.specs.declared.item.ItemKind.{ItemKind}
 use Rattle.syntax_set.specs.declared.item.ItemKind.TheVariants.{Keyword, Match, Region}
 use Rattle.syntax_set.specs.declared.item.Pattern.{Pattern}
+use Rattle.pattern_match.specs.declared.answer.Match.{Match as MatchOf}
+use Rattle.paint_rules.specs.declared.RegionEnd.{RegionEnd}
+use Rattle.paint_rules.specs.Close.{is_region}
 use Rattle.paint_rules.specs.Rules.{item_of, no_added}
 use Rattle.item_pick.specs.Attempts.{EndsBelow}
 use Rattle.item_pick.specs.Standing.{IsPatternOf}
+use Rattle.item_pick.specs.Started.{IsThere, no_pattern, starts_of}
+use Rattle.item_pick.specs.declared.starting.Starting.TheVariants as begun
 
 at_of_all : {A : Type 0} (P : A → Type 0) (xs : List A) (n : ℕ) (x : A) → All P xs → Some x ≡ slice_get xs n → P x
 at_of_all P xs n x all e = subst P (get_or_from_slice_get xs n x x (sym e)) (all n x (slice_get_within xs n x (sym e)))
@@ -42,3 +47,17 @@ below_by text start TooCostly h = tt
 pub told_below : (text : Text) (start : Place) (told : Result Attempt Memory) → IfOk told (IsToldOn text start) → IfOk told (λ a. EndsBelow a (length text + 1))
 told_below text start (Ok a) h = below_by text start a h
 told_below text start (Err memory) h = tt
+
+has_start : (kind : ItemKind) (n : ℕ) → is_region kind ≡ true → n < length (starts_of kind) →
+    (starts : List Pattern) × (skip : Option Pattern) × (ends : List Pattern)
+    × (kind ≡ Region starts skip ends) × (slice_get starts n ≡ Some (get_or (starts_of kind) n no_pattern))
+has_start Keyword n is less = absurd (cc)
+has_start (Match pattern) n is less = absurd (cc)
+has_start (Region starts skip ends) n is less = (starts, skip, ends, refl, slice_get-get_or starts n no_pattern less)
+
+-- a region by a start pattern of a number that is there
+pub region_there : (items : List AddedItem) (i : ItemId) (n : ℕ) (m : MatchOf) (end : Option RegionEnd) → i.0 < length items →
+    is_region (item_of items i).kind ≡ true → n < length (starts_of (item_of items i).kind) → IsThere items (begun.Region i n m end)
+region_there items i n m end item is less =
+    let h = has_start (item_of items i).kind n is less in
+    (item, (h.0, h.1, h.2, get_or (starts_of (item_of items i).kind) n no_pattern, h.3, h.4, refl))

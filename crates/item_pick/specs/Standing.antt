@@ -15,6 +15,7 @@ use Rattle.item_pick.specs.declared.choice.Choice.{Choice}
 use Rattle.item_pick.specs.declared.choice.Choice.TheVariants.{ListOf, Within, NoItem}
 use Rattle.item_pick.specs.declared.starting.Starting.{Starting}
 use Rattle.item_pick.specs.declared.starting.Starting.TheVariants.{Word}
+use Rattle.item_pick.specs.declared.picking.StartBy.{StartBy}
 
 -- a place of a present line, in a text of few lines
 pub record IsPlace (text : Text) (at : Place) : Type 0 where
@@ -64,3 +65,8 @@ abbrev pub IsKeyword : Option Starting → Option WordFound → Type 0
 IsKeyword None found = found ≡ None
 IsKeyword (Some (Word i end)) found = found ≡ Some (record { item = i; end = end })
 IsKeyword (Some _) found = ⊥
+
+-- a start pattern of an item that is there; that of number 0 is its first
+pub record IsStartOf (r : Rules) (by : StartBy) : Type 0 where
+  pub own : IsOwn r by.item by.pattern.now
+  pub first : by.number ≡ 0 → IsFirst r by.item by.pattern.now

@@ -6,19 +6,19 @@ ghost use Rattle.paint_rules.specs.States.{Fits};
 ghost use Rattle.item_pick.specs.Started.{admits};
 ghost use Rattle.item_pick.specs.Standing.{ChoiceFits, is_clear, IsItem};
 ghost use Rattle.syn_base.specs.declared.places.ItemId.{ItemId};
+ghost use Rattle.item_pick.specs.PartsSeen.{rules_by};
 
 use crate::choice::Choice;
 use crate::picking::Picking;
-use crate::syntax::Syntax;
 use paint_rules::Part;
 use state_stack::{Frame, Stack};
 use syn_base::{ItemId, Lines};
 
-impl<T: Lines, S: Syntax> Picking<'_, T, S> {
+impl<T: Lines> Picking<'_, T> {
     /// Whether a frame is passed over for what lies below it.
     fn is_clear(&self, frame: &Frame) -> bool
-        requires { IsItem (S.rules self.now.syntax.now) (frame.now).item }
-        ensures { result ≡ is_clear (S.rules self.now.syntax.now) frame.now }
+        requires { IsItem (rules_by self.now.asked.now) (frame.now).item }
+        ensures { result ≡ is_clear (rules_by self.now.asked.now) frame.now }
     {
         let item = self.item(frame.item);
         is_body(frame) && item.transparent && item.contains.is_none()
@@ -26,8 +26,8 @@ impl<T: Lines, S: Syntax> Picking<'_, T, S> {
 
     /// The item of the container.
     fn container(&self, stack: &Stack) -> Option<ItemId>
-        requires { Fits (length (S.rules self.now.syntax.now).items) (reverse stack.now) }
-        ensures { result ≡ container_of (S.rules self.now.syntax.now) (reverse stack.now) }
+        requires { Fits (length (rules_by self.now.asked.now).items) (reverse stack.now) }
+        ensures { result ≡ container_of (rules_by self.now.asked.now) (reverse stack.now) }
     {
         let (frame, below) = stack.top_and_below()?;
         if self.is_clear(frame) {
@@ -39,11 +39,11 @@ impl<T: Lines, S: Syntax> Picking<'_, T, S> {
 
     /// The items that are allowed on a stack (`:syn-contains`).
     pub(crate) fn allowed(&self, stack: &Stack) -> Choice
-        requires { Fits (length (S.rules self.now.syntax.now).items) (reverse stack.now) }
+        requires { Fits (length (rules_by self.now.asked.now).items) (reverse stack.now) }
         ensures allowed { (i : ItemId) →
-            is_allowed (S.rules self.now.syntax.now) (reverse stack.now) i
-            ≡ admits (S.rules self.now.syntax.now) result i }
-        ensures fits { ChoiceFits (S.rules self.now.syntax.now) result }
+            is_allowed (rules_by self.now.asked.now) (reverse stack.now) i
+            ≡ admits (rules_by self.now.asked.now) result i }
+        ensures fits { ChoiceFits (rules_by self.now.asked.now) result }
     {
         match stack.top_and_below() {
             None => Choice::Within(None),

@@ -1,90 +1,89 @@
 //! The parts of a syntax, asked within a budget.
+ghost use Rattle.std.specs.Prelude.{◌≡◌, ◌<◌, ◌≤◌, ◌+◌, length, IfOk};
+ghost use Rattle.match_rules.specs.Ways.{line_at};
+ghost use Rattle.paint_rules.specs.Rules.{item_of, no_externals};
+ghost use Rattle.region_ends.specs.Attempts.{IsAttempted};
+ghost use Rattle.item_pick.specs.Attempts.{EndsBelow};
+ghost use Rattle.item_pick.specs.PartsSeen.{rules_by};
+ghost use Rattle.item_pick.specs.Standing.{IsOwn};
+ghost use Rattle.item_pick.specs.Valid.{IsSound};
+
 use crate::parts::Parts;
-use crate::syntax::Syntax;
-use char_class::Sets;
-use keyword_table::Keywords;
 use pattern_match::Attempt;
-use region_ends::{EndAnswer, Matcher, find_end, item_of};
+use region_ends::{Matcher, Searching, item_of};
 use std::alloc::Global;
 use syn_base::{Externals, ItemId, Lines, Memory, Place};
-use syntax_set::{Clusters, ItemSet, Pattern};
+use syntax_set::Pattern;
 
 /// The parts of a syntax, asked within a budget.
 #[derive(Clone, Copy)]
-pub(crate) struct Asked<'a> {
-    pub(crate) parts: &'a Parts<'a>,
+pub struct Asked<'a> {
+    pub alloc: Global,
+    pub parts: &'a Parts<'a>,
     /// The most that one attempt may cost.
-    pub(crate) budget: u64,
-    /// Nine empty texts.
-    pub(crate) no_externals: &'a Externals,
+    pub budget: u64,
+    /// Nine empty texts (`Externals::none`).
+    pub no_externals: &'a Externals,
 }
 
-impl Syntax for Asked<'_> {
-    ghost use Rattle.item_pick.specs.PartsSeen.{rules_in};
-    ghost use Rattle.item_pick.specs.Valid.{IsSound};
-
-    ghost rules = { λ a. rules_in a.parts.now a.budget };
-
-    ghost valid = { IsSound };
-
-    fn budget(&self) -> u64 {
-        self.budget
-    }
-
-    fn items(&self) -> &ItemSet {
-        self.parts.items
-    }
-
-    fn clusters(&self) -> &Clusters {
-        self.parts.clusters
-    }
-
-    fn sets(&self) -> &Sets {
-        self.parts.sets
-    }
-
-    fn keywords(&self) -> &Keywords {
-        self.parts.keywords
+impl Asked<'_> {
+    fn matcher(&self) -> Matcher<'_>
+        ensures programs { result.programs.now ≡ self.now.parts.now.programs.now }
+        ensures sets { result.sets.now ≡ self.now.parts.now.sets.now }
+        ensures budget { result.budget ≡ self.now.budget }
+    {
+        Matcher {
+            alloc: self.alloc,
+            programs: self.parts.programs,
+            sets: self.parts.sets,
+            budget: self.budget,
+        }
     }
 
     #[tactic(auto, using(crate::proofs::OwnLaws::own_added, crate::proofs::OwnLaws::told_below))]
-    fn attempt<T: Lines>(
+    /// An attempt of a pattern by which an item starts.
+    pub(crate) fn attempt<T: Lines>(
         &self,
-        alloc: Global,
         lines: &T,
         id: ItemId,
         pattern: &Pattern,
         start: Place,
-    ) -> Result<Attempt, Memory> {
-        let matcher = Matcher {
-            alloc,
-            programs: self.parts.programs,
-            sets: self.parts.sets,
-            budget: self.budget,
-        };
+    ) -> Result<Attempt, Memory>
+        requires valid { IsSound self.now }
+        requires own { IsOwn (rules_by self.now) id pattern.now }
+        requires present { start.line < length (T.lines lines.now) }
+        requires column { start.col ≤ length (line_at (T.lines lines.now) start.line) }
+        ensures answer { IfOk result (λ a. IsAttempted a self.now.budget
+            ((rules_by self.now).attempt (T.lines lines.now) (pattern.now).tree
+            (item_of (rules_by self.now).items id).ignore no_externals start)) }
+        ensures on_text { IfOk result (λ a. EndsBelow a (length (T.lines lines.now) + 1)) }
+    {
         let ignore = item_of(self.parts.items, id).ignore;
-        matcher.attempt(lines, pattern, ignore, self.no_externals, start)
+        self.matcher()
+            .attempt(lines, pattern, ignore, self.no_externals, start)
     }
 
-    fn find_end<T: Lines>(
-        &self,
-        alloc: Global,
-        lines: &T,
+    /// The search for the end of a region from a place on.
+    pub(crate) fn searching<'b>(
+        &'b self,
         region: ItemId,
-        externals: &Externals,
+        externals: &'b Externals,
         from: Place,
-    ) -> Result<EndAnswer, Memory> {
-        let parts = self.parts;
-        find_end(
-            alloc,
-            parts.items,
-            parts.programs,
-            parts.sets,
-            lines,
+    ) -> Searching<'b>
+        ensures items { result.items.now ≡ self.now.parts.now.items.now }
+        ensures programs { result.matcher.programs.now ≡ self.now.parts.now.programs.now }
+        ensures sets { result.matcher.sets.now ≡ self.now.parts.now.sets.now }
+        ensures budget { result.matcher.budget ≡ self.now.budget }
+        ensures region { result.region ≡ region }
+        ensures externals { result.externals.now ≡ externals.now }
+        ensures from { result.from ≡ from }
+    {
+        Searching {
+            matcher: self.matcher(),
+            items: self.parts.items,
             region,
             externals,
             from,
-            self.budget,
-        )
+        }
     }
 }

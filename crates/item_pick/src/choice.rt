@@ -4,9 +4,10 @@ ghost use Rattle.std.specs.List.{list_any};
 ghost use Rattle.paint_rules.specs.Rules.{item_of, same_item};
 ghost use Rattle.item_pick.specs.Started.{admits, is_free};
 ghost use Rattle.item_pick.specs.Standing.{ChoiceFits, IsItem};
+ghost use Rattle.item_pick.specs.PartsSeen.{rules_by};
 
+use crate::asked::Asked;
 use crate::picking::Picking;
-use crate::syntax::Syntax;
 use syn_base::{ItemId, Lines};
 use syntax_set::Item;
 
@@ -21,26 +22,27 @@ pub(crate) enum Choice {
 }
 
 /// Whether a choice has an item.
-pub(crate) fn admits<S: Syntax>(syntax: &S, choice: Choice, id: ItemId) -> bool
-    requires item { IsItem (S.rules syntax.now) id }
-    requires choice { ChoiceFits (S.rules syntax.now) choice }
-    ensures { result ≡ admits (S.rules syntax.now) choice id }
+pub(crate) fn admits(asked: &Asked, choice: Choice, id: ItemId) -> bool
+    requires item { IsItem (rules_by asked.now) id }
+    requires choice { ChoiceFits (rules_by asked.now) choice }
+    ensures { result ≡ admits (rules_by asked.now) choice id }
 {
-    let items = syntax.items();
+    let items = asked.parts.items;
+    let clusters = asked.parts.clusters;
     match choice {
-        Choice::ListOf(waiting) => items.follows(syntax.clusters(), id, waiting),
-        Choice::Within(container) => items.allowed(syntax.clusters(), id, container),
+        Choice::ListOf(waiting) => items.follows(clusters, id, waiting),
+        Choice::Within(container) => items.allowed(clusters, id, container),
         Choice::NoItem => false,
     }
 }
 
-impl<T: Lines, S: Syntax> Picking<'_, T, S> {
+impl<T: Lines> Picking<'_, T> {
     /// The item of a number.
     pub(crate) fn item(&self, id: ItemId) -> &Item
-        requires { IsItem (S.rules self.now.syntax.now) id }
-        ensures { result.now ≡ item_of (S.rules self.now.syntax.now).items id }
+        requires { IsItem (rules_by self.now.asked.now) id }
+        ensures { result.now ≡ item_of (rules_by self.now.asked.now).items id }
     {
-        self.syntax.items().item(id)
+        self.asked.parts.items.item(id)
     }
 
     /// Whether an item has started here.
@@ -52,18 +54,18 @@ impl<T: Lines, S: Syntax> Picking<'_, T, S> {
 
     /// Whether a choice has an item.
     fn admits(&self, choice: Choice, id: ItemId) -> bool
-        requires item { IsItem (S.rules self.now.syntax.now) id }
-        requires choice { ChoiceFits (S.rules self.now.syntax.now) choice }
-        ensures { result ≡ admits (S.rules self.now.syntax.now) choice id }
+        requires item { IsItem (rules_by self.now.asked.now) id }
+        requires choice { ChoiceFits (rules_by self.now.asked.now) choice }
+        ensures { result ≡ admits (rules_by self.now.asked.now) choice id }
     {
-        admits(self.syntax, choice, id)
+        admits(self.asked, choice, id)
     }
 
     /// Whether a choice has an item that hasn't started here.
     pub(crate) fn is_free(&self, choice: Choice, id: ItemId) -> bool
-        requires item { IsItem (S.rules self.now.syntax.now) id }
-        requires choice { ChoiceFits (S.rules self.now.syntax.now) choice }
-        ensures { result ≡ is_free (S.rules self.now.syntax.now) (reverse self.now.tried.now) choice
+        requires item { IsItem (rules_by self.now.asked.now) id }
+        requires choice { ChoiceFits (rules_by self.now.asked.now) choice }
+        ensures { result ≡ is_free (rules_by self.now.asked.now) (reverse self.now.tried.now) choice
             id }
     {
         !self.is_tried(id) && self.admits(choice, id)

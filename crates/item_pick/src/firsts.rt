@@ -1,11 +1,11 @@
 //! What is kept of the first start patterns of items.
-ghost use Rattle.std.specs.Prelude.{◌≡◌, IfOk, IfSome, IsTrue};
+ghost use Rattle.std.specs.Prelude.{IfOk, IfSome, IsTrue};
 ghost use Rattle.pattern_screens.specs.Failing.{fails_at};
 ghost use Rattle.pattern_screens.specs.Following.{fails_after};
 ghost use Rattle.item_pick.specs.Firsts.{IsToldOfFirst, rest_asked};
-ghost use Rattle.item_pick.specs.PartsSeen.{rules_in};
 ghost use Rattle.item_pick.specs.Standing.{IsFirst, IsItem};
 ghost use Rattle.item_pick.specs.Tables.{AreTablesOf, IsAnchored, IsCheapWithin};
+ghost use Rattle.item_pick.specs.PartsSeen.{rules_by};
 
 use crate::asked::Asked;
 use crate::tables::Tables;
@@ -24,12 +24,12 @@ impl Tables {
         pattern: &Pattern,
         number: u16,
     ) -> Result<bool, Memory>
-        requires item { IsItem (rules_in asked.now.parts.now asked.now.budget) id }
-        requires first { IsFirst (rules_in asked.now.parts.now asked.now.budget) id pattern.now }
-        requires stands { AreTablesOf (rules_in asked.now.parts.now asked.now.budget) self.old }
-        ensures stands { AreTablesOf (rules_in asked.now.parts.now asked.now.budget) self.new }
+        requires item { IsItem (rules_by asked.now) id }
+        requires first { IsFirst (rules_by asked.now) id pattern.now }
+        requires stands { AreTablesOf (rules_by asked.now) self.old }
+        ensures stands { AreTablesOf (rules_by asked.now) self.new }
         ensures vain { IfOk result (λ vain. IsTrue vain →
-            IsToldOfFirst fails_at (rules_in asked.now.parts.now asked.now.budget) number id) }
+            IsToldOfFirst fails_at (rules_by asked.now) number id) }
     {
         match self.vains.known(number, id) {
             Some(vain) => return Ok(vain),
@@ -56,12 +56,12 @@ impl Tables {
         pattern: &Pattern,
         number: u16,
     ) -> Result<bool, Memory>
-        requires item { IsItem (rules_in asked.now.parts.now asked.now.budget) id }
-        requires first { IsFirst (rules_in asked.now.parts.now asked.now.budget) id pattern.now }
-        requires stands { AreTablesOf (rules_in asked.now.parts.now asked.now.budget) self.old }
-        ensures stands { AreTablesOf (rules_in asked.now.parts.now asked.now.budget) self.new }
+        requires item { IsItem (rules_by asked.now) id }
+        requires first { IsFirst (rules_by asked.now) id pattern.now }
+        requires stands { AreTablesOf (rules_by asked.now) self.old }
+        ensures stands { AreTablesOf (rules_by asked.now) self.new }
         ensures vain { IfOk result (λ vain. IsTrue vain →
-            IsToldOfFirst fails_after (rules_in asked.now.parts.now asked.now.budget) number id) }
+            IsToldOfFirst fails_after (rules_by asked.now) number id) }
     {
         match self.afters.known(number, id) {
             Some(vain) => return Ok(vain),
@@ -89,12 +89,12 @@ impl Tables {
         id: ItemId,
         pattern: &Pattern,
     ) -> Result<bool, Memory>
-        requires item { IsItem (rules_in asked.now.parts.now asked.now.budget) id }
-        requires first { IsFirst (rules_in asked.now.parts.now asked.now.budget) id pattern.now }
-        requires stands { AreTablesOf (rules_in asked.now.parts.now asked.now.budget) self.old }
-        ensures stands { AreTablesOf (rules_in asked.now.parts.now asked.now.budget) self.new }
+        requires item { IsItem (rules_by asked.now) id }
+        requires first { IsFirst (rules_by asked.now) id pattern.now }
+        requires stands { AreTablesOf (rules_by asked.now) self.old }
+        ensures stands { AreTablesOf (rules_by asked.now) self.new }
         ensures anchored { IfOk result (λ anchored. IsTrue anchored →
-            IsAnchored (rules_in asked.now.parts.now asked.now.budget) id) }
+            IsAnchored (rules_by asked.now) id) }
     {
         match self.anchors.get(id.0 as usize) {
             Some(is) => return Ok(is),
@@ -115,11 +115,11 @@ impl Tables {
         id: ItemId,
         pattern: &Pattern,
     ) -> Result<Option<u64>, Memory>
-        requires first { IsFirst (rules_in asked.now.parts.now asked.now.budget) id pattern.now }
-        requires stands { AreTablesOf (rules_in asked.now.parts.now asked.now.budget) self.old }
-        ensures stands { AreTablesOf (rules_in asked.now.parts.now asked.now.budget) self.new }
+        requires first { IsFirst (rules_by asked.now) id pattern.now }
+        requires stands { AreTablesOf (rules_by asked.now) self.old }
+        ensures stands { AreTablesOf (rules_by asked.now) self.new }
         ensures cheap { IfOk result (λ longest. IfSome longest
-            (IsCheapWithin (rules_in asked.now.parts.now asked.now.budget) id)) }
+            (IsCheapWithin (rules_by asked.now) id)) }
     {
         match self.longest.get(id.0 as usize) {
             Some(longest) => return Ok(longest),
@@ -139,12 +139,12 @@ impl Tables {
         pattern: &Pattern,
         number: u16,
     ) -> Result<bool, Memory>
-        requires item { IsItem (rules_in asked.now.parts.now asked.now.budget) id }
-        requires first { IsFirst (rules_in asked.now.parts.now asked.now.budget) id pattern.now }
-        requires stands { AreTablesOf (rules_in asked.now.parts.now asked.now.budget) self.old }
-        ensures stands { AreTablesOf (rules_in asked.now.parts.now asked.now.budget) self.new }
+        requires item { IsItem (rules_by asked.now) id }
+        requires first { IsFirst (rules_by asked.now) id pattern.now }
+        requires stands { AreTablesOf (rules_by asked.now) self.old }
+        ensures stands { AreTablesOf (rules_by asked.now) self.new }
         ensures vain { IfOk result (λ vain. IsTrue vain →
-            IsToldOfFirst rest_asked (rules_in asked.now.parts.now asked.now.budget) number id) }
+            IsToldOfFirst rest_asked (rules_by asked.now) number id) }
     {
         match self.behinds.known(number, id) {
             Some(vain) => return Ok(vain),

@@ -1,29 +1,27 @@
 //! What is kept of a syntax, and what is known of the line that is painted.
-ghost use Rattle.std.specs.Prelude.{◌≡◌, ◌<◌, ◌≤◌, ◌+◌, ◌^◌, ℕ, IfOk, IfSome, true, pos};
+ghost use Rattle.std.specs.Prelude.{◌≡◌, ◌<◌, ◌≤◌, ◌+◌, ◌^◌, ℕ, length, reverse, IfOk, IfSome, true, pos};
 ghost use Rattle.syn_base.specs.Looked.{one_line};
 ghost use Rattle.match_rules.specs.Ways.{Text, line_at};
 ghost use Rattle.paint_rules.specs.Rules.{Rules};
-ghost use Rattle.item_pick.specs.PartsSeen.{rules_in};
+ghost use Rattle.item_pick.specs.PartsSeen.{rules_by, rules_in};
 ghost use Rattle.item_pick.specs.Runs.{TellsOf};
-ghost use Rattle.item_pick.specs.Standing.{IsFirst, IsItem};
+ghost use Rattle.item_pick.specs.Quiet.{IsEarlier};
+ghost use Rattle.item_pick.specs.Screens.{HoldsLine, IsLater, IsSettled, IsVainFrom};
+ghost use Rattle.item_pick.specs.Standing.{ChoiceFits, IsFirst, IsItem, IsPlace, IsStartOf};
 ghost use Rattle.item_pick.specs.Tables.{LineStands, MemoryStands, RunStands, TablesStand};
 
 use crate::asked::Asked;
 use crate::choice::Choice;
 use crate::columns::{Columns, may_start};
-use crate::ends::end_with;
 use crate::line_known::LineKnown;
-use crate::memo::Memo;
 use crate::parts::Parts;
-use crate::picking::Picking;
+use crate::picking::{Picking, StartBy};
 use crate::runs::{Run, Search, holds};
-use crate::syntax::Syntax;
 use crate::tables::Tables;
 use crate::wandering::wanders;
 use pattern_screens::{are_within, begins_behind, two_lines};
-use region_ends::EndAnswer;
 use std::alloc::Global;
-use syn_base::{Externals, ItemId, Lines, Looked, Memory, Place};
+use syn_base::{ItemId, Lines, Looked, Memory, Place};
 use syntax_set::Pattern;
 
 /// What is kept of a syntax and a budget from line to line, and what is known of the line that is
@@ -61,14 +59,14 @@ impl LineKnown {
     /// The run of an item that holds a column or ends there, and tells of a place: one that has no
     /// column yet, where there is none.
     fn run_at(&self, asked: &Asked, id: ItemId, pattern: &Pattern, col: usize, at: Place) -> Run
-        requires item { IsItem (rules_in asked.now.parts.now asked.now.budget) id }
-        requires first { IsFirst (rules_in asked.now.parts.now asked.now.budget) id pattern.now }
+        requires item { IsItem (rules_by asked.now) id }
+        requires first { IsFirst (rules_by asked.now) id pattern.now }
         requires line { at.line < 2 ^ 63 }
         requires short { at.col < 2 ^ 62 }
         ensures tells { TellsOf id col at.col result }
         ensures stands { (t : Text) (l : ℕ) →
-            LineStands (rules_in asked.now.parts.now asked.now.budget) t l self.now →
-            RunStands (rules_in asked.now.parts.now asked.now.budget) t l result }
+            LineStands (rules_by asked.now) t l self.now →
+            RunStands (rules_by asked.now) t l result }
     {
         match self.known(id, col, at.col) {
             Some(run) => run,
@@ -77,19 +75,32 @@ impl LineKnown {
     }
 }
 
-impl Memo<Asked<'_>> for PickMemory {
-    ghost stands = { λ memory a t l. MemoryStands (rules_in a.parts.now a.budget) t l memory };
-
-    fn next<T: Lines>(
+impl PickMemory {
+    /// A column from one on, up to which no column gives a match by the start pattern of that number
+    /// with its item start at the place, nor looks at a line that wasn't looked at before.
+    pub(crate) fn next_column<T: Lines>(
         &mut self,
-        picking: &Picking<'_, T, Asked<'_>>,
-        id: ItemId,
-        start: usize,
-        pattern: &Pattern,
+        picking: &Picking<'_, T>,
+        by: &StartBy<'_>,
         col: usize,
         looked: Looked,
-    ) -> Result<usize, Memory> {
-        if self.starts_nowhere(picking.syntax, id)? {
+    ) -> Result<usize, Memory>
+        requires start { IsStartOf (rules_by picking.now.asked.now) by.now }
+        requires place { IsPlace (T.lines picking.now.lines.now) picking.now.at }
+        requires memory { MemoryStands (rules_by picking.now.asked.now)
+            (T.lines picking.now.lines.now) picking.now.at.line self.old }
+        requires held { HoldsLine looked picking.now.at.line }
+        ensures next { IfOk result (IsLater (rules_by picking.now.asked.now)
+            (T.lines picking.now.lines.now) by.now.item by.now.pattern.now picking.now.at looked col) }
+        ensures memory { MemoryStands (rules_by picking.now.asked.now)
+            (T.lines picking.now.lines.now) picking.now.at.line self.new }
+    {
+        let StartBy {
+            item: id,
+            number: start,
+            pattern,
+        } = *by;
+        if self.starts_nowhere(picking.asked, id)? {
             return Ok(col.max(picking.last() + 1));
         }
         if start != 0 || !wanders(pattern) {
@@ -98,26 +109,43 @@ impl Memo<Asked<'_>> for PickMemory {
         let _last = picking.last();
         let run = self
             .line
-            .run_at(picking.syntax, id, pattern, col, picking.at);
+            .run_at(picking.asked, id, pattern, col, picking.at);
         if !holds(looked, run.looked) {
             return Ok(col);
         }
         let line = &self.line;
         let to = self
             .tables
-            .first_open(line, picking.syntax, id, pattern, run.to)?;
+            .first_open(line, picking.asked, id, pattern, run.to)?;
         self.line.keep(Run { to, ..run }, picking.at.line)?;
         Ok(to)
     }
 
-    fn vain<T: Lines>(
+    /// The lines that an attempt from a column looks at by the start pattern of that number, where it is
+    /// known to find nothing.
+    pub(crate) fn vain<T: Lines>(
         &mut self,
-        picking: &Picking<'_, T, Asked<'_>>,
-        id: ItemId,
-        start: usize,
-        pattern: &Pattern,
+        picking: &Picking<'_, T>,
+        by: &StartBy<'_>,
         col: usize,
-    ) -> Result<Option<Looked>, Memory> {
+    ) -> Result<Option<Looked>, Memory>
+        requires start { IsStartOf (rules_by picking.now.asked.now) by.now }
+        requires place { IsPlace (T.lines picking.now.lines.now) picking.now.at }
+        requires column { col
+            ≤ length (line_at (T.lines picking.now.lines.now) picking.now.at.line) }
+        requires memory { MemoryStands (rules_by picking.now.asked.now)
+            (T.lines picking.now.lines.now) picking.now.at.line self.old }
+        ensures vain { IfOk result (λ found. IfSome found (λ lines. IsVainFrom
+            (rules_by picking.now.asked.now) (T.lines picking.now.lines.now) picking.now.at by.now.item
+            by.now.pattern.now lines col)) }
+        ensures memory { MemoryStands (rules_by picking.now.asked.now)
+            (T.lines picking.now.lines.now) picking.now.at.line self.new }
+    {
+        let StartBy {
+            item: id,
+            number: start,
+            pattern,
+        } = *by;
         if start != 0 || wanders(pattern) {
             return Ok(None);
         }
@@ -128,10 +156,10 @@ impl Memo<Asked<'_>> for PickMemory {
         if !begins_behind(&pattern.tree) {
             let missed = self
                 .tables
-                .is_missed_after(&self.line, picking.syntax, id, pattern, col)?;
+                .is_missed_after(&self.line, picking.asked, id, pattern, col)?;
             return Ok(own_line_if(missed, line));
         }
-        let Some(most) = self.tables.longest_behind(picking.syntax, id, pattern)? else {
+        let Some(most) = self.tables.longest_behind(picking.asked, id, pattern)? else {
             return Ok(None);
         };
         if !are_within(picking.lines, line, most) {
@@ -141,7 +169,7 @@ impl Memo<Asked<'_>> for PickMemory {
             Some(number) => {
                 if self
                     .tables
-                    .is_vain_behind(picking.syntax, id, pattern, number)?
+                    .is_vain_behind(picking.asked, id, pattern, number)?
                 {
                     Ok(Some(two_lines(line)))
                 } else {
@@ -152,23 +180,38 @@ impl Memo<Asked<'_>> for PickMemory {
         }
     }
 
-    fn note<T: Lines>(
+    /// Remembers that a match from a column has its item start at none of some places of the line, and
+    /// which lines tell so.
+    pub(crate) fn note<T: Lines>(
         &mut self,
-        picking: &Picking<'_, T, Asked<'_>>,
-        id: ItemId,
-        start: usize,
-        pattern: &Pattern,
+        picking: &Picking<'_, T>,
+        by: &StartBy<'_>,
         col: usize,
         places: Columns,
         lines: Looked,
-    ) -> Result<(), Memory> {
+    ) -> Result<(), Memory>
+        requires start { IsStartOf (rules_by picking.now.asked.now) by.now }
+        requires place { IsPlace (T.lines picking.now.lines.now) picking.now.at }
+        requires settled { IsSettled (rules_by picking.now.asked.now)
+            (T.lines picking.now.lines.now) picking.now.at.line by.now.item by.now.pattern.now places.first
+            places.end lines col }
+        requires memory { MemoryStands (rules_by picking.now.asked.now)
+            (T.lines picking.now.lines.now) picking.now.at.line self.old }
+        ensures { MemoryStands (rules_by picking.now.asked.now)
+            (T.lines picking.now.lines.now) picking.now.at.line self.new }
+    {
+        let StartBy {
+            item: id,
+            number: start,
+            pattern,
+        } = *by;
         let at = picking.at.col;
         if start != 0 || !wanders(pattern) || picking.last() < col {
             return Ok(());
         }
         let run = self
             .line
-            .run_at(picking.syntax, id, pattern, col, picking.at);
+            .run_at(picking.asked, id, pattern, col, picking.at);
         let places = both(run.places, places);
         if at < places.first || places.end <= at {
             return Ok(());
@@ -185,13 +228,28 @@ impl Memo<Asked<'_>> for PickMemory {
         self.line.keep(run, picking.at.line)
     }
 
-    fn next_item<T: Lines>(
+    /// The items of a choice are tried from the last to the first: how many are left, once those
+    /// behind them are passed over that aren't free, or don't start at the place, which the lines
+    /// looked at before tell.
+    pub(crate) fn next_item<T: Lines>(
         &mut self,
-        picking: &Picking<'_, T, Asked<'_>>,
+        picking: &Picking<'_, T>,
         choice: Choice,
         left: usize,
         looked: Looked,
-    ) -> Result<usize, Memory> {
+    ) -> Result<usize, Memory>
+        requires choice { ChoiceFits (rules_by picking.now.asked.now) choice }
+        requires place { IsPlace (T.lines picking.now.lines.now) picking.now.at }
+        requires items { left ≤ length (rules_by picking.now.asked.now).items }
+        requires memory { MemoryStands (rules_by picking.now.asked.now)
+            (T.lines picking.now.lines.now) picking.now.at.line self.old }
+        requires held { HoldsLine looked picking.now.at.line }
+        ensures next { IfOk result (IsEarlier (rules_by picking.now.asked.now)
+            (T.lines picking.now.lines.now) picking.now.at picking.now.floor
+            (reverse picking.now.tried.now) choice looked left) }
+        ensures memory { MemoryStands (rules_by picking.now.asked.now)
+            (T.lines picking.now.lines.now) picking.now.at.line self.new }
+    {
         let search = Search {
             at: picking.at.col,
             floor: picking.floor,
@@ -202,34 +260,9 @@ impl Memo<Asked<'_>> for PickMemory {
         match self.line.number_at(search.at) {
             Some(number) => self
                 .tables
-                .left_in(picking.syntax, choice, number, &search, left),
+                .left_in(picking.asked, choice, number, &search, left),
             None => Ok(left),
         }
-    }
-
-    fn find_end<T: Lines>(
-        &mut self,
-        picking: &Picking<'_, T, Asked<'_>>,
-        region: ItemId,
-        externals: &Externals,
-        from: Place,
-    ) -> Result<EndAnswer, Memory> {
-        let asked = picking.syntax;
-        let lines = picking.lines;
-        if from.line != picking.at.line {
-            return asked.find_end(picking.alloc, lines, region, externals, from);
-        }
-        end_with(
-            picking.alloc,
-            asked.parts,
-            lines,
-            region,
-            externals,
-            asked.no_externals,
-            from,
-            self,
-            asked.budget,
-        )
     }
 }
 

@@ -1,9 +1,9 @@
 //! Columns from which an item isn't matched by its first start pattern, by what stands there.
-ghost use Rattle.std.specs.Prelude.{◌≡◌, ◌<◌, ◌≤◌, ℕ, IfOk, IsTrue};
+ghost use Rattle.std.specs.Prelude.{◌<◌, ◌≤◌, ℕ, IfOk, IsTrue};
 ghost use Rattle.match_rules.specs.Ways.{Text, line_at};
-ghost use Rattle.item_pick.specs.PartsSeen.{rules_in};
 ghost use Rattle.item_pick.specs.Standing.{IsFirst, IsItem};
 ghost use Rattle.item_pick.specs.Tables.{AreTablesOf, IsMissed, LineStands};
+ghost use Rattle.item_pick.specs.PartsSeen.{rules_by};
 
 use crate::asked::Asked;
 use crate::line_known::LineKnown;
@@ -23,13 +23,13 @@ impl Tables {
         pattern: &Pattern,
         col: usize,
     ) -> Result<bool, Memory>
-        requires item { IsItem (rules_in asked.now.parts.now asked.now.budget) id }
-        requires first { IsFirst (rules_in asked.now.parts.now asked.now.budget) id pattern.now }
-        requires stands { AreTablesOf (rules_in asked.now.parts.now asked.now.budget) self.old }
-        ensures stands { AreTablesOf (rules_in asked.now.parts.now asked.now.budget) self.new }
+        requires item { IsItem (rules_by asked.now) id }
+        requires first { IsFirst (rules_by asked.now) id pattern.now }
+        requires stands { AreTablesOf (rules_by asked.now) self.old }
+        ensures stands { AreTablesOf (rules_by asked.now) self.new }
         ensures missed { IfOk result (λ missed. IsTrue missed → (t : Text) (l : ℕ) →
-            LineStands (rules_in asked.now.parts.now asked.now.budget) t l line.now →
-            IsMissed (rules_in asked.now.parts.now asked.now.budget) (line_at t l) id pattern.now
+            LineStands (rules_by asked.now) t l line.now →
+            IsMissed (rules_by asked.now) (line_at t l) id pattern.now
             col) }
     {
         if !takes_first(&pattern.tree, col > 0) {
@@ -53,13 +53,13 @@ impl Tables {
         pattern: &Pattern,
         col: usize,
     ) -> Result<bool, Memory>
-        requires item { IsItem (rules_in asked.now.parts.now asked.now.budget) id }
-        requires first { IsFirst (rules_in asked.now.parts.now asked.now.budget) id pattern.now }
-        requires stands { AreTablesOf (rules_in asked.now.parts.now asked.now.budget) self.old }
-        ensures stands { AreTablesOf (rules_in asked.now.parts.now asked.now.budget) self.new }
+        requires item { IsItem (rules_by asked.now) id }
+        requires first { IsFirst (rules_by asked.now) id pattern.now }
+        requires stands { AreTablesOf (rules_by asked.now) self.old }
+        ensures stands { AreTablesOf (rules_by asked.now) self.new }
         ensures missed { IfOk result (λ missed. IsTrue missed → (t : Text) (l : ℕ) →
-            LineStands (rules_in asked.now.parts.now asked.now.budget) t l line.now →
-            IsMissed (rules_in asked.now.parts.now asked.now.budget) (line_at t l) id pattern.now
+            LineStands (rules_by asked.now) t l line.now →
+            IsMissed (rules_by asked.now) (line_at t l) id pattern.now
             col) }
     {
         let Some(number) = line.number_at(col) else {
@@ -82,15 +82,15 @@ impl Tables {
         pattern: &Pattern,
         from: usize,
     ) -> Result<usize, Memory>
-        requires item { IsItem (rules_in asked.now.parts.now asked.now.budget) id }
-        requires first { IsFirst (rules_in asked.now.parts.now asked.now.budget) id pattern.now }
-        requires stands { AreTablesOf (rules_in asked.now.parts.now asked.now.budget) self.old }
-        ensures stands { AreTablesOf (rules_in asked.now.parts.now asked.now.budget) self.new }
+        requires item { IsItem (rules_by asked.now) id }
+        requires first { IsFirst (rules_by asked.now) id pattern.now }
+        requires stands { AreTablesOf (rules_by asked.now) self.old }
+        ensures stands { AreTablesOf (rules_by asked.now) self.new }
         ensures from { IfOk result (λ to. from ≤ to) }
         ensures missed { IfOk result (λ to. (t : Text) (l : ℕ) →
-            LineStands (rules_in asked.now.parts.now asked.now.budget) t l line.now →
+            LineStands (rules_by asked.now) t l line.now →
             (c : ℕ) → from ≤ c → c < to →
-            IsMissed (rules_in asked.now.parts.now asked.now.budget) (line_at t l) id pattern.now
+            IsMissed (rules_by asked.now) (line_at t l) id pattern.now
             c) }
     {
         let end = line.numbers.len();
@@ -112,15 +112,15 @@ impl Tables {
         pattern: &Pattern,
         from: usize,
     ) -> Result<usize, Memory>
-        requires item { IsItem (rules_in asked.now.parts.now asked.now.budget) id }
-        requires first { IsFirst (rules_in asked.now.parts.now asked.now.budget) id pattern.now }
-        requires stands { AreTablesOf (rules_in asked.now.parts.now asked.now.budget) self.old }
-        ensures stands { AreTablesOf (rules_in asked.now.parts.now asked.now.budget) self.new }
+        requires item { IsItem (rules_by asked.now) id }
+        requires first { IsFirst (rules_by asked.now) id pattern.now }
+        requires stands { AreTablesOf (rules_by asked.now) self.old }
+        ensures stands { AreTablesOf (rules_by asked.now) self.new }
         ensures from { IfOk result (λ to. from ≤ to) }
         ensures missed { IfOk result (λ to. (t : Text) (l : ℕ) →
-            LineStands (rules_in asked.now.parts.now asked.now.budget) t l line.now →
+            LineStands (rules_by asked.now) t l line.now →
             (c : ℕ) → from ≤ c → c < to →
-            IsMissed (rules_in asked.now.parts.now asked.now.budget) (line_at t l) id pattern.now
+            IsMissed (rules_by asked.now) (line_at t l) id pattern.now
             c) }
     {
         let anchored = self.is_anchored(asked, id, pattern)?;

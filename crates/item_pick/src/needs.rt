@@ -1,13 +1,12 @@
 //! What a line must hold so that an item has a match in it.
 ghost use Rattle.std.specs.Prelude.{◌≡◌, ℕ, slice_get, Some, IfOk, IfSome, IsTrue};
-ghost use Rattle.syn_base.specs.declared.places.ItemId.{ItemId as ItemIdOf};
 ghost use Rattle.match_rules.specs.Ways.{Text};
 ghost use Rattle.syntax_set.specs.declared.item.Pattern.{Pattern as PatternOf};
 ghost use Rattle.paint_rules.specs.Rules.{Rules};
 ghost use Rattle.pattern_needs.specs.LineNeeds.{IsLineNeedOf};
-ghost use Rattle.item_pick.specs.PartsSeen.{rules_in};
 ghost use Rattle.item_pick.specs.Standing.{IsItem};
 ghost use Rattle.item_pick.specs.Tables.{AreTablesOf, IsBarren, IsNeededBy, IsWanted, MemoryStands};
+ghost use Rattle.item_pick.specs.PartsSeen.{rules_by};
 
 use crate::asked::Asked;
 use crate::memory::PickMemory;
@@ -51,9 +50,9 @@ impl Asked<'_> {
 
     /// What a line must hold so that an item has a match in it.
     pub(crate) fn need_of(&self, id: ItemId) -> Option<LineNeed>
-        requires { IsItem (rules_in self.now.parts.now self.now.budget) id }
+        requires { IsItem (rules_by self.now) id }
         ensures { IfSome result
-            (IsNeededBy (rules_in self.now.parts.now self.now.budget) id) }
+            (IsNeededBy (rules_by self.now) id) }
     {
         let item = item_of(self.parts.items, id);
         match &item.kind {
@@ -94,13 +93,13 @@ impl PickMemory {
     /// Whether an item is known to start nowhere in the line. What it needs is found once it was asked
     /// for often, and kept.
     pub(crate) fn starts_nowhere(&mut self, asked: &Asked, id: ItemId) -> Result<bool, Memory>
-        requires item { IsItem (rules_in asked.now.parts.now asked.now.budget) id }
+        requires item { IsItem (rules_by asked.now) id }
         ensures stands { (t : Text) (l : ℕ) →
-            MemoryStands (rules_in asked.now.parts.now asked.now.budget) t l self.old →
-            MemoryStands (rules_in asked.now.parts.now asked.now.budget) t l self.new }
+            MemoryStands (rules_by asked.now) t l self.old →
+            MemoryStands (rules_by asked.now) t l self.new }
         ensures nowhere { IfOk result (λ nowhere. IsTrue nowhere → (t : Text) (l : ℕ) →
-            MemoryStands (rules_in asked.now.parts.now asked.now.budget) t l self.old →
-            IsBarren (rules_in asked.now.parts.now asked.now.budget) t l id) }
+            MemoryStands (rules_by asked.now) t l self.old →
+            IsBarren (rules_by asked.now) t l id) }
     {
         if self.line.is_barren(id.0) {
             return Ok(true);

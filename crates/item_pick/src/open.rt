@@ -3,11 +3,11 @@ ghost use Rattle.std.specs.Prelude.{◌≡◌, ◌<◌, ◌≤◌, ℕ, get_or, 
 ghost use Rattle.std.specs.List.Sorted.{IsNonDecreasing};
 ghost use Rattle.match_rules.specs.Ways.{Text, line_at};
 ghost use Rattle.paint_rules.specs.Rules.{place_at};
-ghost use Rattle.item_pick.specs.PartsSeen.{rules_in};
 ghost use Rattle.item_pick.specs.Quiet.{IsPassed, IsQuiet, item_numbered};
 ghost use Rattle.item_pick.specs.Screens.{HoldsLine};
 ghost use Rattle.item_pick.specs.Standing.{ChoiceFits};
 ghost use Rattle.item_pick.specs.Tables.{AreKnown, AreTablesOf, IsNextAt, IsNextIn, IsNumberAt, LineStands};
+ghost use Rattle.item_pick.specs.PartsSeen.{rules_by};
 
 use crate::asked::Asked;
 use crate::choice::Choice;
@@ -19,9 +19,9 @@ impl Tables {
     /// Whether an item is known not to start at a column by what stands one column behind.
     fn is_idle(&self, _asked: &Asked, id: u32, search: &Search<'_>) -> bool
         ensures { IsTrue result → (t : Text) (l : ℕ) →
-            AreKnown (rules_in _asked.now.parts.now _asked.now.budget) t l self.now
+            AreKnown (rules_by _asked.now) t l self.now
             search.now.line.now → HoldsLine search.now.looked l →
-            IsQuiet (rules_in _asked.now.parts.now _asked.now.budget) t (place_at l search.now.at)
+            IsQuiet (rules_by _asked.now) t (place_at l search.now.at)
             search.now.floor search.now.looked (item_numbered id) }
     {
         if search.at == 0 {
@@ -42,10 +42,10 @@ impl Tables {
     /// Whether an item has started at a column, or is known not to.
     fn is_over(&self, asked: &Asked, id: u32, search: &Search<'_>) -> bool
         ensures { IsTrue result → (t : Text) (l : ℕ) →
-            AreKnown (rules_in asked.now.parts.now asked.now.budget) t l self.now
+            AreKnown (rules_by asked.now) t l self.now
             search.now.line.now → search.now.at ≤ length (line_at t l) →
             HoldsLine search.now.looked l →
-            IsPassed (rules_in asked.now.parts.now asked.now.budget) t (place_at l search.now.at)
+            IsPassed (rules_by asked.now) t (place_at l search.now.at)
             search.now.floor search.now.looked (reverse search.now.tried.now)
             (item_numbered id) }
     {
@@ -59,10 +59,10 @@ impl Tables {
     /// start at a column; 0 where there is none.
     fn next_open(&self, asked: &Asked, list: &[u32], left: usize, search: &Search<'_>) -> usize
         ensures { IsNonDecreasing list.now → (t : Text) (l : ℕ) →
-            AreKnown (rules_in asked.now.parts.now asked.now.budget) t l self.now
+            AreKnown (rules_by asked.now) t l self.now
             search.now.line.now → search.now.at ≤ length (line_at t l) →
             HoldsLine search.now.looked l →
-            IsNextIn (rules_in asked.now.parts.now asked.now.budget) t (place_at l search.now.at)
+            IsNextIn (rules_by asked.now) t (place_at l search.now.at)
             search.now.floor search.now.looked (reverse search.now.tried.now) list.now left
             result }
     {
@@ -88,11 +88,11 @@ impl Tables {
     ) -> Option<usize>
         requires { left ≤ length asked.now.parts.now.items.now }
         ensures { (t : Text) (l : ℕ) →
-            AreKnown (rules_in asked.now.parts.now asked.now.budget) t l self.now
+            AreKnown (rules_by asked.now) t l self.now
             search.now.line.now →
-            IsNumberAt (rules_in asked.now.parts.now asked.now.budget) (line_at t l) search.now.at
+            IsNumberAt (rules_by asked.now) (line_at t l) search.now.at
             number → HoldsLine search.now.looked l →
-            IfSome result (IsNextAt (rules_in asked.now.parts.now asked.now.budget) t
+            IfSome result (IsNextAt (rules_by asked.now) t
             (place_at l search.now.at) search.now.floor search.now.looked
             (reverse search.now.tried.now) choice left) }
     {
@@ -110,15 +110,15 @@ impl Tables {
         search: &Search<'_>,
         left: usize,
     ) -> Result<usize, Memory>
-        requires choice { ChoiceFits (rules_in asked.now.parts.now asked.now.budget) choice }
-        requires stands { AreTablesOf (rules_in asked.now.parts.now asked.now.budget) self.old }
+        requires choice { ChoiceFits (rules_by asked.now) choice }
+        requires stands { AreTablesOf (rules_by asked.now) self.old }
         requires items { left ≤ length asked.now.parts.now.items.now }
-        ensures stands { AreTablesOf (rules_in asked.now.parts.now asked.now.budget) self.new }
+        ensures stands { AreTablesOf (rules_by asked.now) self.new }
         ensures next { (t : Text) (l : ℕ) →
-            LineStands (rules_in asked.now.parts.now asked.now.budget) t l search.now.line.now →
-            IsNumberAt (rules_in asked.now.parts.now asked.now.budget) (line_at t l) search.now.at
+            LineStands (rules_by asked.now) t l search.now.line.now →
+            IsNumberAt (rules_by asked.now) (line_at t l) search.now.at
             number → HoldsLine search.now.looked l →
-            IfOk result (IsNextAt (rules_in asked.now.parts.now asked.now.budget) t
+            IfOk result (IsNextAt (rules_by asked.now) t
             (place_at l search.now.at) search.now.floor search.now.looked
             (reverse search.now.tried.now) choice left) }
     {

@@ -1,14 +1,14 @@
 //! Which items of a choice may start at a column, by the key of the column.
-ghost use Rattle.std.specs.Prelude.{◌≡◌, ◌<◌, ◌≤◌, ℕ, length, slice_get, slice_index, Some, IfOk, IfSome, IsTrue, true};
+ghost use Rattle.std.specs.Prelude.{◌≡◌, ◌<◌, ℕ, length, slice_get, Some, IfOk, IsTrue, true};
 ghost use Rattle.std.specs.List.Sorted.{IsNonDecreasing};
 ghost use Rattle.syntax_set.specs.declared.item.Pattern.{Pattern as PatternOf};
 ghost use Rattle.paint_rules.specs.Rules.{item_of};
-ghost use Rattle.item_pick.specs.PartsSeen.{rules_in};
 ghost use Rattle.item_pick.specs.Quiet.{item_numbered};
 ghost use Rattle.item_pick.specs.Standing.{ChoiceFits, IsItem};
 ghost use Rattle.item_pick.specs.Started.{admits};
 ghost use Rattle.region_ends.specs.KeyAnswers.{AnswersStand};
 ghost use Rattle.item_pick.specs.Tables.{is_screened, Lacks, ListStands, RisesTo, RowStands, stays_out, StaysOut};
+ghost use Rattle.item_pick.specs.PartsSeen.{rules_by};
 
 use crate::asked::Asked;
 use crate::choice::{Choice, admits};
@@ -67,9 +67,9 @@ impl Asked<'_> {
 
     /// Whether an item can't start at a column whose key has a number.
     fn stays_out(&self, id: ItemId, number: u16) -> bool
-        requires { IsItem (rules_in self.now.parts.now self.now.budget) id }
+        requires { IsItem (rules_by self.now) id }
         ensures { IsTrue result →
-            StaysOut (rules_in self.now.parts.now self.now.budget) number id }
+            StaysOut (rules_by self.now) number id }
     {
         let item = item_of(self.parts.items, id);
         match &item.kind {
@@ -85,11 +85,11 @@ impl Asked<'_> {
 
     /// Puts an item on a list, unless it can't start.
     fn put(&self, id: u32, number: u16, items: &mut Vec<u32>) -> Result<(), Memory>
-        requires { id < length (rules_in self.now.parts.now self.now.budget).items }
+        requires { id < length (rules_by self.now).items }
         ensures kept { (j : ℕ) → Lacks items.new.items j → Lacks items.old.items j }
         ensures rises { RisesTo id items.old.items → RisesTo id items.new.items }
         ensures here { IfOk result (λ _. Lacks items.new.items id →
-            StaysOut (rules_in self.now.parts.now self.now.budget) number (item_numbered id)) }
+            StaysOut (rules_by self.now) number (item_numbered id)) }
     {
         if !self.stays_out(ItemId(id), number) {
             items.push(id)?;
@@ -105,14 +105,14 @@ impl Asked<'_> {
         number: u16,
         items: &mut Vec<u32>,
     ) -> Result<(), Memory>
-        requires item { id < length (rules_in self.now.parts.now self.now.budget).items }
-        requires choice { ChoiceFits (rules_in self.now.parts.now self.now.budget) choice }
+        requires item { id < length (rules_by self.now).items }
+        requires choice { ChoiceFits (rules_by self.now) choice }
         ensures kept { (j : ℕ) → Lacks items.new.items j → Lacks items.old.items j }
         ensures rises { RisesTo id items.old.items → RisesTo id items.new.items }
         ensures here { IfOk result (λ _.
-            admits (rules_in self.now.parts.now self.now.budget) choice (item_numbered id) ≡ true →
+            admits (rules_by self.now) choice (item_numbered id) ≡ true →
             Lacks items.new.items id →
-            StaysOut (rules_in self.now.parts.now self.now.budget) number (item_numbered id)) }
+            StaysOut (rules_by self.now) number (item_numbered id)) }
     {
         if admits(self, choice, ItemId(id)) {
             self.put(id, number, items)?;
@@ -122,13 +122,13 @@ impl Asked<'_> {
 
     /// The same as `stays_out`. The answer is kept.
     fn is_out(&self, id: ItemId, number: u16, outs: &mut KeyAnswers) -> Result<bool, Memory>
-        requires item { IsItem (rules_in self.now.parts.now self.now.budget) id }
-        requires outs { AnswersStand (stays_out (rules_in self.now.parts.now self.now.budget))
+        requires item { IsItem (rules_by self.now) id }
+        requires outs { AnswersStand (stays_out (rules_by self.now))
             outs.old }
-        ensures outs { AnswersStand (stays_out (rules_in self.now.parts.now self.now.budget))
+        ensures outs { AnswersStand (stays_out (rules_by self.now))
             outs.new }
         ensures out { IfOk result (λ out. IsTrue out →
-            StaysOut (rules_in self.now.parts.now self.now.budget) number id) }
+            StaysOut (rules_by self.now) number id) }
     {
         match outs.known(number, id) {
             Some(out) => return Ok(out),
@@ -148,17 +148,17 @@ impl Asked<'_> {
         outs: &mut KeyAnswers,
         items: &mut Vec<u32>,
     ) -> Result<(), Memory>
-        requires count { count ≡ length (rules_in self.now.parts.now self.now.budget).items }
-        requires outs { AnswersStand (stays_out (rules_in self.now.parts.now self.now.budget))
+        requires count { count ≡ length (rules_by self.now).items }
+        requires outs { AnswersStand (stays_out (rules_by self.now))
             outs.old }
-        ensures outs { AnswersStand (stays_out (rules_in self.now.parts.now self.now.budget))
+        ensures outs { AnswersStand (stays_out (rules_by self.now))
             outs.new }
         ensures kept { (j : ℕ) → Lacks items.new.items j → Lacks items.old.items j }
         ensures rises { RisesTo id items.old.items → RisesTo id items.new.items }
         ensures here { IfOk result (λ _.
-            id < length (rules_in self.now.parts.now self.now.budget).items →
+            id < length (rules_by self.now).items →
             Lacks items.new.items id →
-            StaysOut (rules_in self.now.parts.now self.now.budget) number (item_numbered id)) }
+            StaysOut (rules_by self.now) number (item_numbered id)) }
     {
         if id as usize >= count {
             return Ok(());
@@ -171,9 +171,9 @@ impl Asked<'_> {
 
     /// The items of a choice that may start.
     fn listed(&self, alloc: Global, choice: Choice, number: u16) -> Result<Vec<u32>, Memory>
-        requires { ChoiceFits (rules_in self.now.parts.now self.now.budget) choice }
+        requires { ChoiceFits (rules_by self.now) choice }
         ensures lists { IfOk result (λ list.
-            ListStands (rules_in self.now.parts.now self.now.budget) choice number list.items) }
+            ListStands (rules_by self.now) choice number list.items) }
         ensures rises { IfOk result (λ list. IsNonDecreasing list.items) }
     {
         let count = self.parts.items.added() as u32;
@@ -193,13 +193,13 @@ impl Asked<'_> {
         outs: &mut KeyAnswers,
     ) -> Result<Vec<u32>, Memory>
         requires number { all.now.number ≡ 777 }
-        requires stands { RowStands (rules_in self.now.parts.now self.now.budget) all.now }
-        requires outs { AnswersStand (stays_out (rules_in self.now.parts.now self.now.budget))
+        requires stands { RowStands (rules_by self.now) all.now }
+        requires outs { AnswersStand (stays_out (rules_by self.now))
             outs.old }
-        ensures outs { AnswersStand (stays_out (rules_in self.now.parts.now self.now.budget))
+        ensures outs { AnswersStand (stays_out (rules_by self.now))
             outs.new }
         ensures lists { IfOk result
-            (λ list. ListStands (rules_in self.now.parts.now self.now.budget)
+            (λ list. ListStands (rules_by self.now)
             all.now.choice number list.items) }
         ensures rises { IfOk result (λ list. IsNonDecreasing list.items) }
     {
@@ -213,8 +213,8 @@ impl Asked<'_> {
 
     /// The row of all items of a choice that start by a pattern.
     pub(crate) fn whole_row(&self, alloc: Global, choice: Choice) -> Result<Row, Memory>
-        requires { ChoiceFits (rules_in self.now.parts.now self.now.budget) choice }
-        ensures { IfOk result (RowStands (rules_in self.now.parts.now self.now.budget)) }
+        requires { ChoiceFits (rules_by self.now) choice }
+        ensures { IfOk result (RowStands (rules_by self.now)) }
     {
         let items = self.listed(alloc, choice, ANY)?;
         let resting = self.those(alloc, items.as_slice(), false)?;
@@ -237,12 +237,12 @@ impl Asked<'_> {
         outs: &mut KeyAnswers,
     ) -> Result<Row, Memory>
         requires number { all.now.number ≡ 777 }
-        requires stands { RowStands (rules_in self.now.parts.now self.now.budget) all.now }
-        requires outs { AnswersStand (stays_out (rules_in self.now.parts.now self.now.budget))
+        requires stands { RowStands (rules_by self.now) all.now }
+        requires outs { AnswersStand (stays_out (rules_by self.now))
             outs.old }
-        ensures outs { AnswersStand (stays_out (rules_in self.now.parts.now self.now.budget))
+        ensures outs { AnswersStand (stays_out (rules_by self.now))
             outs.new }
-        ensures row { IfOk result (RowStands (rules_in self.now.parts.now self.now.budget)) }
+        ensures row { IfOk result (RowStands (rules_by self.now)) }
     {
         let items = self.narrowed(alloc, all, number, outs)?;
         let resting = self.those(alloc, items.as_slice(), false)?;

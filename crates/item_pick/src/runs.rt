@@ -2,12 +2,12 @@
 ghost use Rattle.std.specs.Prelude.{◌≡◌, ◌<◌, ◌≤◌, ◌-◌, ◌^◌, ℕ, length, reverse, IfSome, IsTrue};
 ghost use Rattle.match_rules.specs.Ways.{Text, line_at};
 ghost use Rattle.paint_rules.specs.Rules.{Rules, item_of, place_at};
-ghost use Rattle.item_pick.specs.PartsSeen.{rules_in};
 ghost use Rattle.item_pick.specs.Standing.{has_one_start, IsFirst, IsItem};
 ghost use Rattle.item_pick.specs.Tables.{IsEnough, LineStands, RunStands};
 ghost use Rattle.item_pick.specs.Runs.{Covers, IsWhole, TellsOf};
 ghost use Rattle.item_pick.specs.Quiet.{IsPassed, item_numbered};
 ghost use Rattle.item_pick.specs.Screens.{HoldsLine, HoldsLines};
+ghost use Rattle.item_pick.specs.PartsSeen.{rules_by};
 
 use crate::asked::Asked;
 use crate::columns::Columns;
@@ -103,9 +103,9 @@ impl Run {
 impl Asked<'_> {
     /// Whether an item starts by one pattern at most.
     pub(crate) fn has_one_start(&self, id: ItemId) -> bool
-        requires { IsItem (rules_in self.now.parts.now self.now.budget) id }
+        requires { IsItem (rules_by self.now) id }
         ensures { result
-            ≡ has_one_start (item_of (rules_in self.now.parts.now self.now.budget).items id).kind }
+            ≡ has_one_start (item_of (rules_by self.now).items id).kind }
     {
         match &item_of(self.parts.items, id).kind {
             ItemKind::Keyword => true,
@@ -120,9 +120,9 @@ impl Asked<'_> {
 
     /// The least floor from which on an item is sought from no column before one.
     fn least_floor(&self, id: ItemId, pattern: &Pattern, col: usize) -> Option<usize>
-        requires item { IsItem (rules_in self.now.parts.now self.now.budget) id }
-        requires first { IsFirst (rules_in self.now.parts.now self.now.budget) id pattern.now }
-        ensures { IfSome result (IsEnough (rules_in self.now.parts.now self.now.budget) id col) }
+        requires item { IsItem (rules_by self.now) id }
+        requires first { IsFirst (rules_by self.now) id pattern.now }
+        ensures { IfSome result (IsEnough (rules_by self.now) id col) }
     {
         if self.has_one_start(id) {
             floor_for(col, pattern.lc)
@@ -134,10 +134,10 @@ impl Asked<'_> {
     /// A run of a line that has no column yet.
     pub(crate) fn fresh_run(&self, id: ItemId, pattern: &Pattern, line: usize, col: usize) -> Run
         requires line { line < 2 ^ 63 }
-        requires item { IsItem (rules_in self.now.parts.now self.now.budget) id }
-        requires first { IsFirst (rules_in self.now.parts.now self.now.budget) id pattern.now }
+        requires item { IsItem (rules_by self.now) id }
+        requires first { IsFirst (rules_by self.now) id pattern.now }
         ensures stands { (t : Text) (l : ℕ) →
-            RunStands (rules_in self.now.parts.now self.now.budget) t l result }
+            RunStands (rules_by self.now) t l result }
         ensures tells { (at : ℕ) → at < 2 ^ 62 → TellsOf id col at result }
     {
         Run {

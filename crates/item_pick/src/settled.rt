@@ -1,14 +1,14 @@
 //! Columns at which no item starts, since those that wander are known not to and the others are idle.
-ghost use Rattle.std.specs.Prelude.{◌≡◌, ◌<◌, ◌≤◌, ◌+◌, ℕ, length, get_or, IsTrue, true, false};
+ghost use Rattle.std.specs.Prelude.{◌≡◌, ◌<◌, ◌≤◌, ℕ, length, get_or, IsTrue, true, false};
 ghost use Rattle.syn_base.specs.declared.looked.Looked.{Looked as LookedOf};
 ghost use Rattle.match_rules.specs.Ways.{Text, line_at};
 ghost use Rattle.paint_rules.specs.Rules.{Rules, place_at};
 ghost use Rattle.item_pick.specs.Firsts.{idles_before};
-ghost use Rattle.item_pick.specs.PartsSeen.{rules_in};
 ghost use Rattle.item_pick.specs.Quiet.{IsQuiet, item_numbered};
 ghost use Rattle.item_pick.specs.Screens.{HoldsLine};
 ghost use Rattle.item_pick.specs.Settled.{ArePassed, AreSettled};
 ghost use Rattle.item_pick.specs.Tables.{AreKnown, AreTablesOf, IsNumberAt, LineStands};
+ghost use Rattle.item_pick.specs.PartsSeen.{rules_by};
 
 use crate::asked::Asked;
 use crate::choice::Choice;
@@ -84,9 +84,9 @@ impl Tables {
     /// Whether all items of a list are known not to start at a column by what stands one column behind.
     fn are_idle_at(&self, line: &LineKnown, _asked: &Asked, list: &[u32], col: usize) -> bool
         ensures { IsTrue result → (t : Text) (l : ℕ) →
-            AreKnown (rules_in _asked.now.parts.now _asked.now.budget) t l self.now line.now →
+            AreKnown (rules_by _asked.now) t l self.now line.now →
             (floor : ℕ) (looked : LookedOf) → HoldsLine looked l → (k : ℕ) → k < length list.now →
-            IsQuiet (rules_in _asked.now.parts.now _asked.now.budget) t (place_at l col) floor
+            IsQuiet (rules_by _asked.now) t (place_at l col) floor
             looked (item_numbered (get_or list.now k 0)) }
     {
         if list.is_empty() {
@@ -115,10 +115,10 @@ impl Tables {
         col: usize,
     ) -> bool
         ensures { IsTrue result → (t : Text) (l : ℕ) →
-            AreKnown (rules_in asked.now.parts.now asked.now.budget) t l self.now line.now →
-            IsNumberAt (rules_in asked.now.parts.now asked.now.budget) (line_at t l) col number →
+            AreKnown (rules_by asked.now) t l self.now line.now →
+            IsNumberAt (rules_by asked.now) (line_at t l) col number →
             (floor : ℕ) (looked : LookedOf) → HoldsLine looked l →
-            ArePassed (rules_in asked.now.parts.now asked.now.budget) t l choice floor looked false
+            ArePassed (rules_by asked.now) t l choice floor looked false
             col }
     {
         match self.row(choice, number) {

@@ -1,5 +1,5 @@
 //! The start of a match or a region.
-ghost use Rattle.std.specs.Prelude.{◌≡◌, ◌<◌, ◌≤◌, ◌^◌, ℕ, length, IfOk, Some, reverse, true};
+ghost use Rattle.std.specs.Prelude.{◌≡◌, ◌<◌, ◌^◌, length, IfOk, Some, reverse, true};
 ghost use Rattle.match_rules.specs.Ways.{is_after};
 ghost use Rattle.paint_rules.specs.Painted.{first_found};
 ghost use Rattle.paint_rules.specs.Rules.{item_of};
@@ -8,22 +8,23 @@ ghost use Rattle.paint_rules.specs.EndInLine.{end_in_line, for_ends};
 ghost use Rattle.paint_rules.specs.Pick.{match_start, region_start, start_by, items_below};
 ghost use Rattle.syntax_set.specs.declared.item.ItemKind.TheVariants as kind;
 ghost use Rattle.item_pick.specs.Told.{IsToldAfter, IsToldAs};
-ghost use Rattle.item_pick.specs.Started.{here_at, IsStartThere, match_pattern, seen_start, start_at, start_if_free, start_pattern, starts_of};
-ghost use Rattle.item_pick.specs.Quiet.{IsEarlier};
+ghost use Rattle.item_pick.specs.Started.{here_at, IsStartThere, seen_start, start_at, start_if_free, start_pattern, starts_of};
 ghost use Rattle.item_pick.specs.Screens.{HoldsLine};
 ghost use Rattle.item_pick.specs.Standing.{ChoiceFits, IsItem, IsOwn, IsPlace};
+ghost use Rattle.item_pick.specs.PartsSeen.{rules_by};
+ghost use Rattle.item_pick.specs.Tables.{MemoryStands};
+ghost use Rattle.item_pick.specs.Valid.{IsSound};
 
 use crate::choice::Choice;
-use crate::memo::Memo;
-use crate::picking::Picking;
+use crate::memory::PickMemory;
+use crate::picking::{Picking, StartBy};
 use crate::starting::Starting;
 use crate::stop::Stop;
-use crate::syntax::Syntax;
 use crate::tries::look_at;
 use paint_rules::{RegionEnd, Which};
 use pattern_match::Match;
 use region_ends::{EndAnswer, offset_place};
-use syn_base::{ItemId, Lines, List, Looked, Memory, Place};
+use syn_base::{ItemId, Lines, List, Looked, Place};
 use syntax_set::{ItemKind, Pattern};
 
 /// Whether a place is after another one.
@@ -33,16 +34,16 @@ fn is_after(a: Place, b: Place) -> bool
     b.line < a.line || (b.line == a.line && b.col < a.col)
 }
 
-impl<T: Lines, S: Syntax> Picking<'_, T, S> {
+impl<T: Lines> Picking<'_, T> {
     /// What a match starts: one that takes nothing is none without a nextgroup.
     fn match_start(&self, id: ItemId, pattern: &Pattern, m: Match) -> Option<Starting>
-        requires item { IsItem (S.rules self.now.syntax.now) id }
-        requires kind { (item_of (S.rules self.now.syntax.now).items id).kind
+        requires item { IsItem (rules_by self.now.asked.now) id }
+        requires kind { (item_of (rules_by self.now.asked.now).items id).kind
             ≡ kind.Match pattern.now }
-        ensures seen { seen_start (S.rules self.now.syntax.now).items result ≡ match_start
-            (here_at (S.rules self.now.syntax.now) (T.lines self.now.lines.now) self.now.at)
+        ensures seen { seen_start (rules_by self.now.asked.now).items result ≡ match_start
+            (here_at (rules_by self.now.asked.now) (T.lines self.now.lines.now) self.now.at)
             self.now.at.col id pattern.now (Some m) }
-        ensures there { IsStartThere (S.rules self.now.syntax.now).items result }
+        ensures there { IsStartThere (rules_by self.now.asked.now).items result }
     {
         let end = offset_place(self.lines, &m, pattern, Which::Me);
         if is_after(end, self.at) {
@@ -56,34 +57,34 @@ impl<T: Lines, S: Syntax> Picking<'_, T, S> {
     }
 
     /// The end of a region that starts by a match, in the line where its start ends.
-    fn end_of<M: Memo<S>>(
+    fn end_of(
         &self,
         id: ItemId,
         m: &Match,
         looked: &mut Looked,
-        memo: &mut M,
+        memory: &mut PickMemory,
     ) -> Result<Option<RegionEnd>, Stop>
-        requires valid { S.valid self.now.syntax.now }
-        requires item { IsItem (S.rules self.now.syntax.now) id }
-        requires region { is_region (item_of (S.rules self.now.syntax.now).items id).kind ≡ true }
+        requires valid { IsSound self.now.asked.now }
+        requires item { IsItem (rules_by self.now.asked.now) id }
+        requires region { is_region (item_of (rules_by self.now.asked.now).items id).kind ≡ true }
         requires ends { (m.now.to).line < 2 ^ 33 }
-        requires memo { M.stands memo.old self.now.syntax.now (T.lines self.now.lines.now)
-            self.now.at.line }
+        requires memory { MemoryStands (rules_by self.now.asked.now)
+            (T.lines self.now.lines.now) self.now.at.line memory.old }
         ensures told { IsToldAfter looked.old result looked.new (end_in_line (record {
-          rules = for_ends (S.rules self.now.syntax.now);
+          rules = for_ends (rules_by self.now.asked.now);
           text = T.lines self.now.lines.now;
           item = id;
           externals = m.now.externals;
           from = m.now.to;
         })) }
-        ensures memo { M.stands memo.new self.now.syntax.now (T.lines self.now.lines.now)
-            self.now.at.line }
+        ensures memory { MemoryStands (rules_by self.now.asked.now)
+            (T.lines self.now.lines.now) self.now.at.line memory.new }
     {
         if m.to.line >= self.lines.len() {
             look_at(looked, m.to.line);
             return Ok(None);
         }
-        match memo.find_end(self, id, &m.externals, m.to)? {
+        match memory.end_from(self, id, &m.externals, m.to)? {
             EndAnswer::Ends(end, seen) => {
                 *looked = looked.join(seen);
                 Ok(Some(end))
@@ -97,29 +98,29 @@ impl<T: Lines, S: Syntax> Picking<'_, T, S> {
     }
 
     /// What a match of a start pattern starts: a oneline region only with its end.
-    fn region_start<M: Memo<S>>(
+    fn region_start(
         &self,
         id: ItemId,
         start: usize,
         m: Match,
         looked: &mut Looked,
-        memo: &mut M,
+        memory: &mut PickMemory,
     ) -> Result<Option<Starting>, Stop>
-        requires valid { S.valid self.now.syntax.now }
-        requires item { IsItem (S.rules self.now.syntax.now) id }
-        requires region { is_region (item_of (S.rules self.now.syntax.now).items id).kind ≡ true }
+        requires valid { IsSound self.now.asked.now }
+        requires item { IsItem (rules_by self.now.asked.now) id }
+        requires region { is_region (item_of (rules_by self.now.asked.now).items id).kind ≡ true }
         requires start { start
-            < length (starts_of (item_of (S.rules self.now.syntax.now).items id).kind) }
+            < length (starts_of (item_of (rules_by self.now.asked.now).items id).kind) }
         requires ends { m.to.line < 2 ^ 33 }
-        requires memo { M.stands memo.old self.now.syntax.now (T.lines self.now.lines.now)
-            self.now.at.line }
-        ensures told { IsToldAs (seen_start (S.rules self.now.syntax.now).items) looked.old result
+        requires memory { MemoryStands (rules_by self.now.asked.now)
+            (T.lines self.now.lines.now) self.now.at.line memory.old }
+        ensures told { IsToldAs (seen_start (rules_by self.now.asked.now).items) looked.old result
             looked.new (region_start
-            (here_at (S.rules self.now.syntax.now) (T.lines self.now.lines.now) self.now.at) id
-            (start_pattern (S.rules self.now.syntax.now).items id start) (Some m)) }
-        ensures there { IfOk result (IsStartThere (S.rules self.now.syntax.now).items) }
-        ensures memo { M.stands memo.new self.now.syntax.now (T.lines self.now.lines.now)
-            self.now.at.line }
+            (here_at (rules_by self.now.asked.now) (T.lines self.now.lines.now) self.now.at) id
+            (start_pattern (rules_by self.now.asked.now).items id start) (Some m)) }
+        ensures there { IfOk result (IsStartThere (rules_by self.now.asked.now).items) }
+        ensures memory { MemoryStands (rules_by self.now.asked.now)
+            (T.lines self.now.lines.now) self.now.at.line memory.new }
     {
         let oneline = self.item(id).oneline;
         if !oneline && m.to.line != self.at.line {
@@ -130,7 +131,7 @@ impl<T: Lines, S: Syntax> Picking<'_, T, S> {
                 end: None,
             }));
         }
-        let end = self.end_of(id, &m, looked, memo)?;
+        let end = self.end_of(id, &m, looked, memory)?;
         if oneline && end.is_none() {
             return Ok(None);
         }
@@ -143,66 +144,71 @@ impl<T: Lines, S: Syntax> Picking<'_, T, S> {
     }
 
     /// A region by one of its start patterns.
-    fn start_at<M: Memo<S>>(
+    fn start_at(
         &self,
         id: ItemId,
         start: usize,
         pattern: &Pattern,
         looked: &mut Looked,
-        memo: &mut M,
+        memory: &mut PickMemory,
     ) -> Result<Option<Starting>, Stop>
-        requires valid { S.valid self.now.syntax.now }
-        requires own { IsOwn (S.rules self.now.syntax.now) id pattern.now }
+        requires valid { IsSound self.now.asked.now }
+        requires own { IsOwn (rules_by self.now.asked.now) id pattern.now }
         requires place { IsPlace (T.lines self.now.lines.now) self.now.at }
-        requires region { is_region (item_of (S.rules self.now.syntax.now).items id).kind ≡ true }
+        requires region { is_region (item_of (rules_by self.now.asked.now).items id).kind ≡ true }
         requires start { start
-            < length (starts_of (item_of (S.rules self.now.syntax.now).items id).kind) }
+            < length (starts_of (item_of (rules_by self.now.asked.now).items id).kind) }
         requires pattern { pattern.now
-            ≡ start_pattern (S.rules self.now.syntax.now).items id start }
-        requires memo { M.stands memo.old self.now.syntax.now (T.lines self.now.lines.now)
-            self.now.at.line }
+            ≡ start_pattern (rules_by self.now.asked.now).items id start }
+        requires memory { MemoryStands (rules_by self.now.asked.now)
+            (T.lines self.now.lines.now) self.now.at.line memory.old }
         requires held { HoldsLine looked.old self.now.at.line }
-        ensures told { IsToldAs (seen_start (S.rules self.now.syntax.now).items) looked.old result
-            looked.new (start_at (S.rules self.now.syntax.now) (T.lines self.now.lines.now)
+        ensures told { IsToldAs (seen_start (rules_by self.now.asked.now).items) looked.old result
+            looked.new (start_at (rules_by self.now.asked.now) (T.lines self.now.lines.now)
             self.now.at self.now.floor id pattern.now) }
-        ensures there { IfOk result (IsStartThere (S.rules self.now.syntax.now).items) }
-        ensures memo { M.stands memo.new self.now.syntax.now (T.lines self.now.lines.now)
-            self.now.at.line }
+        ensures there { IfOk result (IsStartThere (rules_by self.now.asked.now).items) }
+        ensures memory { MemoryStands (rules_by self.now.asked.now)
+            (T.lines self.now.lines.now) self.now.at.line memory.new }
     {
-        match self.item_match(id, start, pattern, looked, memo)? {
-            Some(m) => self.region_start(id, start, m, looked, memo),
+        let by = StartBy {
+            item: id,
+            number: start,
+            pattern,
+        };
+        match self.item_match(&by, looked, memory)? {
+            Some(m) => self.region_start(id, start, m, looked, memory),
             None => Ok(None),
         }
     }
 
     /// A region: its start patterns are tried from the last written to the first.
-    fn start_of_region<M: Memo<S>>(
+    fn start_of_region(
         &self,
         id: ItemId,
         starts: &List<Pattern>,
         looked: &mut Looked,
-        memo: &mut M,
+        memory: &mut PickMemory,
     ) -> Result<Option<Starting>, Stop>
-        requires valid { S.valid self.now.syntax.now }
-        requires item { IsItem (S.rules self.now.syntax.now) id }
+        requires valid { IsSound self.now.asked.now }
+        requires item { IsItem (rules_by self.now.asked.now) id }
         requires place { IsPlace (T.lines self.now.lines.now) self.now.at }
-        requires region { is_region (item_of (S.rules self.now.syntax.now).items id).kind ≡ true }
+        requires region { is_region (item_of (rules_by self.now.asked.now).items id).kind ≡ true }
         requires starts { starts.now
-            ≡ starts_of (item_of (S.rules self.now.syntax.now).items id).kind }
-        requires memo { M.stands memo.old self.now.syntax.now (T.lines self.now.lines.now)
-            self.now.at.line }
+            ≡ starts_of (item_of (rules_by self.now.asked.now).items id).kind }
+        requires memory { MemoryStands (rules_by self.now.asked.now)
+            (T.lines self.now.lines.now) self.now.at.line memory.old }
         requires held { HoldsLine looked.old self.now.at.line }
-        ensures told { IsToldAs (seen_start (S.rules self.now.syntax.now).items) looked.old result
-            looked.new (first_found (start_at (S.rules self.now.syntax.now)
+        ensures told { IsToldAs (seen_start (rules_by self.now.asked.now).items) looked.old result
+            looked.new (first_found (start_at (rules_by self.now.asked.now)
             (T.lines self.now.lines.now) self.now.at self.now.floor id) (reverse starts.now)) }
-        ensures there { IfOk result (IsStartThere (S.rules self.now.syntax.now).items) }
-        ensures memo { M.stands memo.new self.now.syntax.now (T.lines self.now.lines.now)
-            self.now.at.line }
+        ensures there { IfOk result (IsStartThere (rules_by self.now.asked.now).items) }
+        ensures memory { MemoryStands (rules_by self.now.asked.now)
+            (T.lines self.now.lines.now) self.now.at.line memory.new }
     {
         let mut left = starts.len();
         'starts: while left > 0 {
             left -= 1;
-            let found = self.start_at(id, left, starts.get(left), looked, memo)?;
+            let found = self.start_at(id, left, starts.get(left), looked, memory)?;
             match found {
                 Some(starting) => return Ok(Some(starting)),
                 None => {}
@@ -212,123 +218,105 @@ impl<T: Lines, S: Syntax> Picking<'_, T, S> {
     }
 
     /// What an item starts by a match at the place.
-    fn start_by<M: Memo<S>>(
+    fn start_by(
         &self,
         id: ItemId,
         looked: &mut Looked,
-        memo: &mut M,
+        memory: &mut PickMemory,
     ) -> Result<Option<Starting>, Stop>
-        requires valid { S.valid self.now.syntax.now }
-        requires item { IsItem (S.rules self.now.syntax.now) id }
+        requires valid { IsSound self.now.asked.now }
+        requires item { IsItem (rules_by self.now.asked.now) id }
         requires place { IsPlace (T.lines self.now.lines.now) self.now.at }
-        requires memo { M.stands memo.old self.now.syntax.now (T.lines self.now.lines.now)
-            self.now.at.line }
+        requires memory { MemoryStands (rules_by self.now.asked.now)
+            (T.lines self.now.lines.now) self.now.at.line memory.old }
         requires held { HoldsLine looked.old self.now.at.line }
-        ensures told { IsToldAs (seen_start (S.rules self.now.syntax.now).items) looked.old result
+        ensures told { IsToldAs (seen_start (rules_by self.now.asked.now).items) looked.old result
             looked.new (start_by
-            (here_at (S.rules self.now.syntax.now) (T.lines self.now.lines.now) self.now.at)
+            (here_at (rules_by self.now.asked.now) (T.lines self.now.lines.now) self.now.at)
             self.now.at.col self.now.floor id
-            (item_of (S.rules self.now.syntax.now).items id).kind) }
-        ensures there { IfOk result (IsStartThere (S.rules self.now.syntax.now).items) }
-        ensures memo { M.stands memo.new self.now.syntax.now (T.lines self.now.lines.now)
-            self.now.at.line }
+            (item_of (rules_by self.now.asked.now).items id).kind) }
+        ensures there { IfOk result (IsStartThere (rules_by self.now.asked.now).items) }
+        ensures memory { MemoryStands (rules_by self.now.asked.now)
+            (T.lines self.now.lines.now) self.now.at.line memory.new }
     {
         match &self.item(id).kind {
             ItemKind::Keyword => Ok(None),
-            ItemKind::Match(pattern) => match self.item_match(id, 0, pattern, looked, memo)? {
-                Some(m) => Ok(self.match_start(id, pattern, m)),
-                None => Ok(None),
-            },
+            ItemKind::Match(pattern) => {
+                let by = StartBy {
+                    item: id,
+                    number: 0,
+                    pattern,
+                };
+                match self.item_match(&by, looked, memory)? {
+                    Some(m) => Ok(self.match_start(id, pattern, m)),
+                    None => Ok(None),
+                }
+            }
             ItemKind::Region {
                 starts,
                 skip: _,
                 ends: _,
-            } => self.start_of_region(id, starts, looked, memo),
+            } => self.start_of_region(id, starts, looked, memory),
         }
     }
 
     /// What an item starts, if a choice has it.
-    fn start_if_free<M: Memo<S>>(
+    fn start_if_free(
         &self,
         choice: Choice,
         id: ItemId,
         looked: &mut Looked,
-        memo: &mut M,
+        memory: &mut PickMemory,
     ) -> Result<Option<Starting>, Stop>
-        requires valid { S.valid self.now.syntax.now }
-        requires item { IsItem (S.rules self.now.syntax.now) id }
-        requires choice { ChoiceFits (S.rules self.now.syntax.now) choice }
+        requires valid { IsSound self.now.asked.now }
+        requires item { IsItem (rules_by self.now.asked.now) id }
+        requires choice { ChoiceFits (rules_by self.now.asked.now) choice }
         requires place { IsPlace (T.lines self.now.lines.now) self.now.at }
-        requires memo { M.stands memo.old self.now.syntax.now (T.lines self.now.lines.now)
-            self.now.at.line }
+        requires memory { MemoryStands (rules_by self.now.asked.now)
+            (T.lines self.now.lines.now) self.now.at.line memory.old }
         requires held { HoldsLine looked.old self.now.at.line }
-        ensures told { IsToldAs (seen_start (S.rules self.now.syntax.now).items) looked.old result
-            looked.new (start_if_free (S.rules self.now.syntax.now) (T.lines self.now.lines.now)
+        ensures told { IsToldAs (seen_start (rules_by self.now.asked.now).items) looked.old result
+            looked.new (start_if_free (rules_by self.now.asked.now) (T.lines self.now.lines.now)
             self.now.at self.now.floor (reverse self.now.tried.now) choice id) }
-        ensures there { IfOk result (IsStartThere (S.rules self.now.syntax.now).items) }
-        ensures memo { M.stands memo.new self.now.syntax.now (T.lines self.now.lines.now)
-            self.now.at.line }
+        ensures there { IfOk result (IsStartThere (rules_by self.now.asked.now).items) }
+        ensures memory { MemoryStands (rules_by self.now.asked.now)
+            (T.lines self.now.lines.now) self.now.at.line memory.new }
     {
         if self.is_free(choice, id) {
-            self.start_by(id, looked, memo)
+            self.start_by(id, looked, memory)
         } else {
             Ok(None)
         }
     }
 
-    /// How many items are left to try, once those behind them are passed over that can't start
-    /// here.
-    fn next_item<M: Memo<S>>(
-        &self,
-        choice: Choice,
-        left: usize,
-        looked: Looked,
-        memo: &mut M,
-    ) -> Result<usize, Memory>
-        requires valid { S.valid self.now.syntax.now }
-        requires choice { ChoiceFits (S.rules self.now.syntax.now) choice }
-        requires place { IsPlace (T.lines self.now.lines.now) self.now.at }
-        requires items { left ≤ length (S.rules self.now.syntax.now).items }
-        requires memo { M.stands memo.old self.now.syntax.now (T.lines self.now.lines.now)
-            self.now.at.line }
-        requires held { HoldsLine looked self.now.at.line }
-        ensures next { IfOk result (IsEarlier (S.rules self.now.syntax.now)
-            (T.lines self.now.lines.now) self.now.at self.now.floor (reverse self.now.tried.now)
-            choice looked left) }
-        ensures memo { M.stands memo.new self.now.syntax.now (T.lines self.now.lines.now)
-            self.now.at.line }
-    {
-        memo.next_item(self, choice, left, looked)
-    }
-
     /// The first match or region of a choice, the last item first.
-    pub(crate) fn first_start<M: Memo<S>>(
+    pub(crate) fn first_start(
         &self,
         choice: Choice,
         looked: &mut Looked,
-        memo: &mut M,
+        memory: &mut PickMemory,
     ) -> Result<Option<Starting>, Stop>
-        requires valid { S.valid self.now.syntax.now }
-        requires choice { ChoiceFits (S.rules self.now.syntax.now) choice }
+        requires valid { IsSound self.now.asked.now }
+        requires choice { ChoiceFits (rules_by self.now.asked.now) choice }
         requires place { IsPlace (T.lines self.now.lines.now) self.now.at }
-        requires memo { M.stands memo.old self.now.syntax.now (T.lines self.now.lines.now)
-            self.now.at.line }
+        requires memory { MemoryStands (rules_by self.now.asked.now)
+            (T.lines self.now.lines.now) self.now.at.line memory.old }
         requires held { HoldsLine looked.old self.now.at.line }
-        ensures told { IsToldAs (seen_start (S.rules self.now.syntax.now).items) looked.old result
-            looked.new (first_found (start_if_free (S.rules self.now.syntax.now)
+        ensures told { IsToldAs (seen_start (rules_by self.now.asked.now).items) looked.old result
+            looked.new (first_found (start_if_free (rules_by self.now.asked.now)
             (T.lines self.now.lines.now) self.now.at self.now.floor (reverse self.now.tried.now)
             choice)
-            (items_below (length (S.rules self.now.syntax.now).items))) }
-        ensures there { IfOk result (IsStartThere (S.rules self.now.syntax.now).items) }
-        ensures memo { M.stands memo.new self.now.syntax.now (T.lines self.now.lines.now)
-            self.now.at.line }
+            (items_below (length (rules_by self.now.asked.now).items))) }
+        ensures there { IfOk result (IsStartThere (rules_by self.now.asked.now).items) }
+        ensures memory { MemoryStands (rules_by self.now.asked.now)
+            (T.lines self.now.lines.now) self.now.at.line memory.new }
     {
-        let mut left = self.next_item(choice, self.syntax.items().added(), *looked, memo)?;
+        let mut left = memory.next_item(self, choice, self.asked.parts.items.added(), *looked)?;
         'items: while left > 0 {
-            let found = self.start_if_free(choice, ItemId((left - 1) as u32), looked, memo)?;
+            let found = self.start_if_free(choice, ItemId((left - 1) as u32), looked, memory)?;
             match found {
                 Some(starting) => return Ok(Some(starting)),
-                None => left = self.next_item(choice, left - 1, *looked, memo)?,
+                None => left = memory.next_item(self, choice, left - 1, *looked)?,
             }
         }
         Ok(None)

@@ -1,10 +1,10 @@
 //! What is kept of a syntax: which items may start by what stands at a column.
-ghost use Rattle.std.specs.Prelude.{◌≡◌, IfOk, IfSome, true};
+ghost use Rattle.std.specs.Prelude.{◌≡◌, IfSome};
 ghost use Rattle.std.specs.List.{All};
 ghost use Rattle.paint_rules.specs.Rules.{Rules};
-ghost use Rattle.item_pick.specs.PartsSeen.{rules_in};
 ghost use Rattle.item_pick.specs.Standing.{ChoiceFits};
 ghost use Rattle.item_pick.specs.Tables.{AreTablesOf, RowStands};
+ghost use Rattle.item_pick.specs.PartsSeen.{rules_by};
 
 use crate::asked::Asked;
 use crate::choice::Choice;
@@ -103,9 +103,9 @@ impl Tables {
 
     /// Makes the row of all items of a choice, unless it was made.
     fn make_whole(&mut self, asked: &Asked, choice: Choice) -> Result<(), Memory>
-        requires choice { ChoiceFits (rules_in asked.now.parts.now asked.now.budget) choice }
-        requires stands { AreTablesOf (rules_in asked.now.parts.now asked.now.budget) self.old }
-        ensures { AreTablesOf (rules_in asked.now.parts.now asked.now.budget) self.new }
+        requires choice { ChoiceFits (rules_by asked.now) choice }
+        requires stands { AreTablesOf (rules_by asked.now) self.old }
+        ensures { AreTablesOf (rules_by asked.now) self.new }
     {
         if self.row(choice, ANY).is_some() {
             return Ok(());
@@ -116,9 +116,9 @@ impl Tables {
 
     /// Makes a row that wasn't made yet.
     pub(crate) fn make(&mut self, asked: &Asked, choice: Choice, number: u16) -> Result<(), Memory>
-        requires choice { ChoiceFits (rules_in asked.now.parts.now asked.now.budget) choice }
-        requires stands { AreTablesOf (rules_in asked.now.parts.now asked.now.budget) self.old }
-        ensures { AreTablesOf (rules_in asked.now.parts.now asked.now.budget) self.new }
+        requires choice { ChoiceFits (rules_by asked.now) choice }
+        requires stands { AreTablesOf (rules_by asked.now) self.old }
+        ensures { AreTablesOf (rules_by asked.now) self.new }
     {
         self.make_whole(asked, choice)?;
         let Some(place) = self.place(choice, ANY) else {

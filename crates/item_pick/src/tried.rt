@@ -1,5 +1,5 @@
 //! The items that have started at a place.
-ghost use Rattle.std.specs.Prelude.{◌≡◌, ◌∷◌, List, length, reverse, IfOk};
+ghost use Rattle.std.specs.Prelude.{◌≡◌, ◌∷◌, List, reverse, IfOk};
 ghost use Rattle.std.specs.List.{list_any};
 ghost use Rattle.syn_base.specs.declared.places.ItemId.{ItemId as ItemIdOf};
 ghost use Rattle.paint_rules.specs.Rules.{same_item};

@@ -1,23 +1,25 @@
 //! The match of an item at a place.
-ghost use Rattle.std.specs.Prelude.{◌≡◌, ◌<◌, ◌≤◌, ◌+◌, ◌^◌, ℕ, length, IfOk, Some, pos};
+ghost use Rattle.std.specs.Prelude.{◌≡◌, ◌<◌, ◌≤◌, ◌+◌, ◌^◌, length, IfOk, Some, pos};
 ghost use Rattle.syn_base.specs.Looked.{hull_of, one_line};
 ghost use Rattle.match_rules.specs.Ways.{line_at};
 ghost use Rattle.paint_rules.specs.Rules.{attempted, no_externals, place_at};
 ghost use Rattle.paint_rules.specs.ItemMatch.{item_match, match_from, starts_at};
 ghost use Rattle.item_pick.specs.Told.{IsToldAfter, IsToldAs, EndsBefore};
 ghost use Rattle.item_pick.specs.Tries.{HasNoStart, IsNotFrom, IsSeen, IsBeside, match_in};
-ghost use Rattle.item_pick.specs.Screens.{HoldsLine, IsLater};
-ghost use Rattle.item_pick.specs.Standing.{IsFirst, IsPlace, IsOwn};
+ghost use Rattle.item_pick.specs.Screens.{HoldsLine};
+ghost use Rattle.item_pick.specs.Standing.{IsOwn, IsPlace, IsStartOf};
+ghost use Rattle.item_pick.specs.PartsSeen.{rules_by};
+ghost use Rattle.item_pick.specs.Tables.{MemoryStands};
+ghost use Rattle.item_pick.specs.Valid.{IsSound};
 
 use crate::columns::{Columns, columns_of, may_start};
-use crate::memo::Memo;
-use crate::picking::Picking;
+use crate::memory::PickMemory;
+use crate::picking::{Picking, StartBy};
 use crate::stop::Stop;
-use crate::syntax::Syntax;
 use paint_rules::Which;
 use pattern_match::{Attempt, Match};
 use region_ends::offset_place;
-use syn_base::{ItemId, Lines, Looked, Memory, Place};
+use syn_base::{ItemId, Lines, Looked, Place};
 use syntax_set::Pattern;
 
 /// What an attempt gave, and the lines that it looked at.
@@ -48,7 +50,7 @@ pub(crate) fn look_at(looked: &mut Looked, line: usize)
     *looked = looked.join(Looked::one(line as i64));
 }
 
-impl<T: Lines, S: Syntax> Picking<'_, T, S> {
+impl<T: Lines> Picking<'_, T> {
     /// The line that is painted.
     pub(crate) fn line(&self) -> &[char]
         requires { IsPlace (T.lines self.now.lines.now) self.now.at }
@@ -68,11 +70,11 @@ impl<T: Lines, S: Syntax> Picking<'_, T, S> {
 
     /// One attempt of an item's pattern, from a column of the line.
     fn attempted(&self, id: ItemId, pattern: &Pattern, col: usize) -> Result<Seen, Stop>
-        requires valid { S.valid self.now.syntax.now }
-        requires own { IsOwn (S.rules self.now.syntax.now) id pattern.now }
+        requires valid { IsSound self.now.asked.now }
+        requires own { IsOwn (rules_by self.now.asked.now) id pattern.now }
         requires place { IsPlace (T.lines self.now.lines.now) self.now.at }
         requires column { col ≤ length (line_at (T.lines self.now.lines.now) self.now.at.line) }
-        ensures told { IsSeen result (attempted (S.rules self.now.syntax.now)
+        ensures told { IsSeen result (attempted (rules_by self.now.asked.now)
             (T.lines self.now.lines.now) id no_externals pattern.now
             (place_at self.now.at.line col)) }
         ensures ends { IfOk result (λ seen. EndsBefore (2 ^ 33) seen.found) }
@@ -81,9 +83,7 @@ impl<T: Lines, S: Syntax> Picking<'_, T, S> {
             line: self.at.line,
             col,
         };
-        let told = self
-            .syntax
-            .attempt(self.alloc, self.lines, id, pattern, start)?;
+        let told = self.asked.attempt(self.lines, id, pattern, start)?;
         match told {
             Attempt::Found(m, looked) => Ok(Seen {
                 found: Some(m),
@@ -151,15 +151,15 @@ impl<T: Lines, S: Syntax> Picking<'_, T, S> {
         col: usize,
         looked: &mut Looked,
     ) -> Result<Tried, Stop>
-        requires valid { S.valid self.now.syntax.now }
-        requires own { IsOwn (S.rules self.now.syntax.now) id pattern.now }
+        requires valid { IsSound self.now.asked.now }
+        requires own { IsOwn (rules_by self.now.asked.now) id pattern.now }
         requires place { IsPlace (T.lines self.now.lines.now) self.now.at }
         requires column { col ≤ length (line_at (T.lines self.now.lines.now) self.now.at.line) }
         ensures told { IsToldAs match_in looked.old result looked.new (match_from
-            (S.rules self.now.syntax.now) (T.lines self.now.lines.now) id pattern.now self.now.at
+            (rules_by self.now.asked.now) (T.lines self.now.lines.now) id pattern.now self.now.at
             col) }
         ensures ends { IfOk result (λ tried. EndsBefore (2 ^ 33) (match_in tried)) }
-        ensures settled { IfOk result (IsNotFrom (S.rules self.now.syntax.now)
+        ensures settled { IfOk result (IsNotFrom (rules_by self.now.asked.now)
             (T.lines self.now.lines.now) self.now.at.line id pattern.now col) }
     {
         if !may_start(pattern, col, self.at.col, self.last()) {
@@ -185,102 +185,71 @@ impl<T: Lines, S: Syntax> Picking<'_, T, S> {
     }
 
     /// The same. No attempt is made where it is known that it finds nothing.
-    fn tried_from<M: Memo<S>>(
+    fn tried_from(
         &self,
-        id: ItemId,
-        start: usize,
-        pattern: &Pattern,
+        by: &StartBy<'_>,
         col: usize,
         looked: &mut Looked,
-        memo: &mut M,
+        memory: &mut PickMemory,
     ) -> Result<Tried, Stop>
-        requires valid { S.valid self.now.syntax.now }
-        requires own { IsOwn (S.rules self.now.syntax.now) id pattern.now }
-        requires first { start ≡ 0 → IsFirst (S.rules self.now.syntax.now) id pattern.now }
+        requires valid { IsSound self.now.asked.now }
+        requires start { IsStartOf (rules_by self.now.asked.now) by.now }
         requires place { IsPlace (T.lines self.now.lines.now) self.now.at }
         requires column { col ≤ length (line_at (T.lines self.now.lines.now) self.now.at.line) }
-        requires memo { M.stands memo.old self.now.syntax.now (T.lines self.now.lines.now)
-            self.now.at.line }
+        requires memory { MemoryStands (rules_by self.now.asked.now)
+            (T.lines self.now.lines.now) self.now.at.line memory.old }
         ensures told { IsToldAs match_in looked.old result looked.new (match_from
-            (S.rules self.now.syntax.now) (T.lines self.now.lines.now) id pattern.now self.now.at
+            (rules_by self.now.asked.now) (T.lines self.now.lines.now) by.now.item by.now.pattern.now self.now.at
             col) }
         ensures ends { IfOk result (λ tried. EndsBefore (2 ^ 33) (match_in tried)) }
-        ensures settled { IfOk result (IsNotFrom (S.rules self.now.syntax.now)
-            (T.lines self.now.lines.now) self.now.at.line id pattern.now col) }
-        ensures memo { M.stands memo.new self.now.syntax.now (T.lines self.now.lines.now)
-            self.now.at.line }
+        ensures settled { IfOk result (IsNotFrom (rules_by self.now.asked.now)
+            (T.lines self.now.lines.now) self.now.at.line by.now.item by.now.pattern.now col) }
+        ensures memory { MemoryStands (rules_by self.now.asked.now)
+            (T.lines self.now.lines.now) self.now.at.line memory.new }
     {
-        match memo.vain(self, id, start, pattern, col)? {
+        match memory.vain(self, by, col)? {
             Some(lines) => {
                 *looked = looked.join(lines);
                 Ok(Tried::Not(NO_COLUMNS, lines))
             }
-            None => self.match_from(id, pattern, col, looked),
+            None => self.match_from(by.item, by.pattern, col, looked),
         }
-    }
-
-    /// The first column from one on at which a match may begin.
-    fn next_column<M: Memo<S>>(
-        &self,
-        id: ItemId,
-        start: usize,
-        pattern: &Pattern,
-        col: usize,
-        looked: Looked,
-        memo: &mut M,
-    ) -> Result<usize, Memory>
-        requires valid { S.valid self.now.syntax.now }
-        requires own { IsOwn (S.rules self.now.syntax.now) id pattern.now }
-        requires first { start ≡ 0 → IsFirst (S.rules self.now.syntax.now) id pattern.now }
-        requires place { IsPlace (T.lines self.now.lines.now) self.now.at }
-        requires memo { M.stands memo.old self.now.syntax.now (T.lines self.now.lines.now)
-            self.now.at.line }
-        requires held { HoldsLine looked self.now.at.line }
-        ensures next { IfOk result (IsLater (S.rules self.now.syntax.now)
-            (T.lines self.now.lines.now) id pattern.now self.now.at looked col) }
-        ensures memo { M.stands memo.new self.now.syntax.now (T.lines self.now.lines.now)
-            self.now.at.line }
-    {
-        memo.next(self, id, start, pattern, col, looked)
     }
 
     /// The match of an item at the place, by its start pattern of a number: from the first column that
     /// gives one.
-    pub(crate) fn item_match<M: Memo<S>>(
+    pub(crate) fn item_match(
         &self,
-        id: ItemId,
-        start: usize,
-        pattern: &Pattern,
+        by: &StartBy<'_>,
         looked: &mut Looked,
-        memo: &mut M,
+        memory: &mut PickMemory,
     ) -> Result<Option<Match>, Stop>
-        requires valid { S.valid self.now.syntax.now }
-        requires own { IsOwn (S.rules self.now.syntax.now) id pattern.now }
-        requires first { start ≡ 0 → IsFirst (S.rules self.now.syntax.now) id pattern.now }
+        requires valid { IsSound self.now.asked.now }
+        requires start { IsStartOf (rules_by self.now.asked.now) by.now }
         requires place { IsPlace (T.lines self.now.lines.now) self.now.at }
-        requires memo { M.stands memo.old self.now.syntax.now (T.lines self.now.lines.now)
-            self.now.at.line }
+        requires memory { MemoryStands (rules_by self.now.asked.now)
+            (T.lines self.now.lines.now) self.now.at.line memory.old }
         requires held { HoldsLine looked.old self.now.at.line }
         ensures told { IsToldAfter looked.old result looked.new (item_match
-            (S.rules self.now.syntax.now) (T.lines self.now.lines.now) id pattern.now self.now.at
+            (rules_by self.now.asked.now) (T.lines self.now.lines.now) by.now.item by.now.pattern.now self.now.at
             self.now.floor) }
         ensures ends { IfOk result (EndsBefore (2 ^ 33)) }
-        ensures memo { M.stands memo.new self.now.syntax.now (T.lines self.now.lines.now)
-            self.now.at.line }
+        ensures memory { MemoryStands (rules_by self.now.asked.now)
+            (T.lines self.now.lines.now) self.now.at.line memory.new }
     {
         let last = self.last();
-        let columns = columns_of(pattern, self.at.col, last);
-        let least = self.floor.saturating_sub(pattern.lc as usize);
+        let columns = columns_of(by.pattern, self.at.col, last);
+        let least = self.floor.saturating_sub(by.pattern.lc as usize);
         let first = least.max(columns.first);
         let end = columns.end.min(last + 1);
-        let mut col = self.next_column(id, start, pattern, first, *looked, memo)?;
+        let mut col = memory.next_column(self, by, first, *looked)?;
         'columns: while col < end {
-            let tried = self.tried_from(id, start, pattern, col, looked, memo)?;
+            let tried = self.tried_from(by, col, looked, memory)?;
             match tried {
                 Tried::Here(m) => return Ok(Some(m)),
                 Tried::Not(places, lines) => {
-                    memo.note(self, id, start, pattern, col, places, lines)?;
-                    col = self.next_column(id, start, pattern, col + 1, *looked, memo)?;
+                    memory.note(self, by, col, places, lines)?;
+                    col = memory.next_column(self, by, col + 1, *looked)?;
                 }
             }
         }

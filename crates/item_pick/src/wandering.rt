@@ -2,10 +2,10 @@
 ghost use Rattle.std.specs.Prelude.{◌≡◌, ◌&&◌, ◌<◌, ℕ, length, true, IfOk, IsTrue};
 ghost use Rattle.paint_rules.specs.Rules.{item_of};
 ghost use Rattle.item_pick.specs.Firsts.{sits_by};
-ghost use Rattle.item_pick.specs.PartsSeen.{rules_in};
 ghost use Rattle.item_pick.specs.Settled.{item_wanders, wanders};
 ghost use Rattle.item_pick.specs.Standing.{has_one_start, IsItem};
 ghost use Rattle.item_pick.specs.Tables.{HasThose, Lacks};
+ghost use Rattle.item_pick.specs.PartsSeen.{rules_by};
 
 use crate::asked::Asked;
 use pattern_screens::takes_first;
@@ -26,9 +26,9 @@ impl Asked<'_> {
     /// Whether an item starts by this pattern alone, where its match begins, and that begins with a piece
     /// of one character.
     pub(crate) fn sits(&self, id: ItemId, pattern: &Pattern) -> bool
-        requires { IsItem (rules_in self.now.parts.now self.now.budget) id }
+        requires { IsItem (rules_by self.now) id }
         ensures { IsTrue result →
-            (has_one_start (item_of (rules_in self.now.parts.now self.now.budget).items id).kind
+            (has_one_start (item_of (rules_by self.now).items id).kind
             && sits_by pattern.now) ≡ true }
     {
         self.has_one_start(id)
@@ -39,8 +39,8 @@ impl Asked<'_> {
 
     /// Whether an item wanders by the first of its start patterns.
     fn item_wanders(&self, id: ItemId) -> bool
-        requires { IsItem (rules_in self.now.parts.now self.now.budget) id }
-        ensures { result ≡ item_wanders (rules_in self.now.parts.now self.now.budget) id.0 }
+        requires { IsItem (rules_by self.now) id }
+        ensures { result ≡ item_wanders (rules_by self.now) id.0 }
     {
         match &item_of(self.parts.items, id).kind {
             ItemKind::Keyword => false,
@@ -58,8 +58,8 @@ impl Asked<'_> {
 
     /// The same of an item of a number, if it is there.
     fn number_wanders(&self, id: u32) -> bool
-        ensures { id < length (rules_in self.now.parts.now self.now.budget).items →
-            result ≡ item_wanders (rules_in self.now.parts.now self.now.budget) id }
+        ensures { id < length (rules_by self.now).items →
+            result ≡ item_wanders (rules_by self.now) id }
     {
         if id as usize >= self.parts.items.added() {
             return false;
@@ -71,8 +71,8 @@ impl Asked<'_> {
     fn put_if(&self, id: u32, wandering: bool, those: &mut Vec<u32>) -> Result<(), Memory>
         ensures kept { (j : ℕ) → Lacks those.new.items j → Lacks those.old.items j }
         ensures here { IfOk result (λ _.
-            id < length (rules_in self.now.parts.now self.now.budget).items →
-            item_wanders (rules_in self.now.parts.now self.now.budget) id ≡ wandering →
+            id < length (rules_by self.now).items →
+            item_wanders (rules_by self.now) id ≡ wandering →
             Lacks those.new.items id → ⊥) }
     {
         if self.number_wanders(id) == wandering {
@@ -89,7 +89,7 @@ impl Asked<'_> {
         wandering: bool,
     ) -> Result<Vec<u32>, Memory>
         ensures { IfOk result (λ those. HasThose
-            (rules_in self.now.parts.now self.now.budget) wandering list.now those.items) }
+            (rules_by self.now) wandering list.now those.items) }
     {
         let mut those = Vec::new(alloc);
         for id in list {

@@ -6,22 +6,23 @@ ghost use Rattle.match_rules.specs.Ways.{line_at};
 ghost use Rattle.paint_rules.specs.Pick.{keyword_at};
 ghost use Rattle.item_pick.specs.Started.{is_free, IsStartThere};
 ghost use Rattle.item_pick.specs.Standing.{ChoiceFits, IsItem, IsKeyword, IsPlace};
+ghost use Rattle.item_pick.specs.PartsSeen.{rules_by};
+ghost use Rattle.item_pick.specs.Valid.{IsSound};
 
 use crate::choice::Choice;
 use crate::picking::Picking;
 use crate::starting::Starting;
-use crate::syntax::Syntax;
 use keyword_table::word_end;
 use syn_base::{ItemId, Lines, List, Memory};
 
-impl<T: Lines, S: Syntax> Picking<'_, T, S> {
+impl<T: Lines> Picking<'_, T> {
     /// The first of some items that is free.
     fn first_free(&self, choice: Choice, items: &List<ItemId>) -> Option<ItemId>
-        requires items { All (IsItem (S.rules self.now.syntax.now)) items.now }
-        requires choice { ChoiceFits (S.rules self.now.syntax.now) choice }
-        ensures first { result ≡ find (is_free (S.rules self.now.syntax.now)
+        requires items { All (IsItem (rules_by self.now.asked.now)) items.now }
+        requires choice { ChoiceFits (rules_by self.now.asked.now) choice }
+        ensures first { result ≡ find (is_free (rules_by self.now.asked.now)
             (reverse self.now.tried.now) choice) items.now }
-        ensures item { IfSome result (IsItem (S.rules self.now.syntax.now)) }
+        ensures item { IfSome result (IsItem (rules_by self.now.asked.now)) }
     {
         items
             .as_slice()
@@ -32,26 +33,26 @@ impl<T: Lines, S: Syntax> Picking<'_, T, S> {
 
     /// The items that a word may start.
     fn candidates(&self, word: &[char]) -> Result<List<ItemId>, Memory>
-        requires { S.valid self.now.syntax.now }
+        requires { IsSound self.now.asked.now }
         ensures are { IfOk result (λ items.
-            items ≡ candidates (S.rules self.now.syntax.now).keywords word.now) }
-        ensures items { IfOk result (All (IsItem (S.rules self.now.syntax.now))) }
+            items ≡ candidates (rules_by self.now.asked.now).keywords word.now) }
+        ensures items { IfOk result (All (IsItem (rules_by self.now.asked.now))) }
     {
-        self.syntax.keywords().candidates(self.alloc, word)
+        self.asked.parts.keywords.candidates(self.asked.alloc, word)
     }
 
     /// The keyword whose word begins at the place.
     pub(crate) fn keyword(&self, choice: Choice) -> Result<Option<Starting>, Memory>
-        requires valid { S.valid self.now.syntax.now }
+        requires valid { IsSound self.now.asked.now }
         requires place { IsPlace (T.lines self.now.lines.now) self.now.at }
-        requires choice { ChoiceFits (S.rules self.now.syntax.now) choice }
-        ensures is { IfOk result (λ found. IsKeyword found (keyword_at (S.rules self.now.syntax.now)
-            (is_free (S.rules self.now.syntax.now) (reverse self.now.tried.now) choice)
+        requires choice { ChoiceFits (rules_by self.now.asked.now) choice }
+        ensures is { IfOk result (λ found. IsKeyword found (keyword_at (rules_by self.now.asked.now)
+            (is_free (rules_by self.now.asked.now) (reverse self.now.tried.now) choice)
             (line_at (T.lines self.now.lines.now) self.now.at.line) self.now.at.col)) }
-        ensures there { IfOk result (IsStartThere (S.rules self.now.syntax.now).items) }
+        ensures there { IfOk result (IsStartThere (rules_by self.now.asked.now).items) }
     {
         let line = self.line();
-        match word_end(line, self.at.col, &self.syntax.sets().keyword) {
+        match word_end(line, self.at.col, &self.asked.parts.sets.keyword) {
             None => Ok(None),
             Some(end) => {
                 let items = self.candidates(&line[self.at.col..end])?;

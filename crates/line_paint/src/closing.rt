@@ -1,9 +1,9 @@
 //! What becomes of the top frame at a place (`:syn-matchgroup`, `:syn-nextgroup`,
 //! `:syn-excludenl`).
-ghost use Rattle.std.specs.Prelude.{◌≡◌, ◌<◌, ◌∷◌, ◌&&◌, ◌||◌, not, Bool, true, false, length, reverse, IfOk, is_none, None};
+ghost use Rattle.std.specs.Prelude.{◌≡◌, ◌<◌, ◌∷◌, ◌&&◌, ◌||◌, true, false, length, reverse, IfOk, None};
 ghost use Rattle.std.specs.List.{list_any};
 ghost use Rattle.paint_rules.specs.declared.Spot.TheVariants.{At};
-ghost use Rattle.paint_rules.specs.Rules.{this_line, item_of};
+ghost use Rattle.paint_rules.specs.Rules.{this_line};
 ghost use Rattle.paint_rules.specs.KeptEnd.{has_keepend};
 ghost use Rattle.paint_rules.specs.Close.{is_region_body, is_reached, goes_beyond, closing_of, end_area_of, waiting_after, col_here, body_after_area, anew_over_keepend, exposed_anew, frames_after, line_end_counts, has_line_end, is_region_body_on, container_goes_on};
 ghost use Rattle.line_paint.specs.Answers.{Comes};
@@ -15,7 +15,8 @@ use crate::ends::{is_region_body, searched_anew, searched_if};
 use crate::frames::remade;
 use crate::kinds::none_keeps;
 use crate::spots::{goes_beyond, is_reached};
-use crate::{Picker, Site, Stop};
+use crate::{Site, Stop};
+use item_pick::PickMemory;
 use paint_rules::{Part, Spot, Waiting};
 use region_ends::{earlier_end, kept_end_over};
 use state_stack::{Frame, Stack};
@@ -112,21 +113,20 @@ fn col_here(spot: Spot) -> Option<usize>
 }
 
 /// What the frames under a start area become that was popped; none where they stay.
-pub(crate) fn body_after_area<S: Site, M: Picker<S>>(
-    alloc: Global,
+pub(crate) fn body_after_area<S: Site>(
     site: &S,
-    memory: &mut M,
+    memory: &mut PickMemory,
     stack: &Stack,
     looked: &mut Looked,
 ) -> Result<Option<Stack>, Stop>
     requires valid { S.valid site.now }
-    requires memory { M.stands memory.old site.now }
+    requires memory { S.stands site.now memory.old }
     requires fits { Fits (length (S.here site.now).rules.items) (reverse stack.now) }
     ensures comes { Comes (frames_or (reverse stack.now)) result looked.old looked.new
         (body_after_area (S.here site.now) (reverse stack.now)) }
     ensures items { IfOk result
         (λ s. items_of (frames_or (reverse stack.now) s) ≡ items_of (reverse stack.now)) }
-    ensures memory { M.stands memory.new site.now }
+    ensures memory { S.stands site.now memory.new }
 {
     match stack.top_and_below() {
         None => Ok(None),
@@ -135,8 +135,8 @@ pub(crate) fn body_after_area<S: Site, M: Picker<S>>(
                 return Ok(None);
             }
             let from = col_here(body.search);
-            let frame = searched_if(alloc, site, memory, body, from, looked)?;
-            Ok(remade(alloc, body, below, frame, None)?)
+            let frame = searched_if(site, memory, body, from, looked)?;
+            Ok(remade(site.alloc(), body, below, frame, None)?)
         }
     }
 }
@@ -166,10 +166,9 @@ fn is_over<S: Site>(site: &S, top: &Frame, below_is: bool) -> bool
 }
 
 /// The top frame over those below it, which have searched.
-fn over_searched<S: Site, M: Picker<S>>(
-    alloc: Global,
+fn over_searched<S: Site>(
     site: &S,
-    memory: &mut M,
+    memory: &mut PickMemory,
     c: usize,
     top: &Frame,
     below: &Stack,
@@ -177,7 +176,7 @@ fn over_searched<S: Site, M: Picker<S>>(
     looked: &mut Looked,
 ) -> Result<Anew, Stop>
     requires valid { S.valid site.now }
-    requires memory { M.stands memory.old site.now }
+    requires memory { S.stands site.now memory.old }
     requires is_item { (top.now.item).0 < length (S.here site.now).rules.items }
     requires room { length below.now < 1000 }
     requires items { items_of (frames_or (reverse below.now) rest.frames)
@@ -187,14 +186,14 @@ fn over_searched<S: Site, M: Picker<S>>(
     ensures items { IfOk result
         (λ a. items_of (frames_or (top.now ∷ reverse below.now) a.frames)
         ≡ items_of (top.now ∷ reverse below.now)) }
-    ensures memory { M.stands memory.new site.now }
+    ensures memory { S.stands site.now memory.new }
 {
     if is_over(site, top, rest.over) {
-        let frame = searched_anew(alloc, site, memory, c, top, looked)?;
-        let frames = remade(alloc, top, below, frame, rest.frames)?;
+        let frame = searched_anew(site, memory, c, top, looked)?;
+        let frames = remade(site.alloc(), top, below, frame, rest.frames)?;
         Ok(Anew { frames, over: true })
     } else {
-        let frames = remade(alloc, top, below, None, rest.frames)?;
+        let frames = remade(site.alloc(), top, below, None, rest.frames)?;
         Ok(Anew {
             frames,
             over: false,
@@ -204,53 +203,51 @@ fn over_searched<S: Site, M: Picker<S>>(
 
 /// The frames under one with `extend` that was popped: from the last one with `extend` on, those
 /// with `keepend` and those above such a one search anew, the bottom one first.
-fn anew_over_keepend<S: Site, M: Picker<S>>(
-    alloc: Global,
+fn anew_over_keepend<S: Site>(
     site: &S,
-    memory: &mut M,
+    memory: &mut PickMemory,
     c: usize,
     stack: &Stack,
     looked: &mut Looked,
 ) -> Result<Anew, Stop>
     requires valid { S.valid site.now }
-    requires memory { M.stands memory.old site.now }
+    requires memory { S.stands site.now memory.old }
     requires fits { Fits (length (S.here site.now).rules.items) (reverse stack.now) }
     ensures comes { Comes (anew_or (reverse stack.now)) result looked.old looked.new
         (anew_over_keepend (S.here site.now) c (reverse stack.now)) }
     ensures items { IfOk result
         (λ a. items_of (frames_or (reverse stack.now) a.frames) ≡ items_of (reverse stack.now)) }
-    ensures memory { M.stands memory.new site.now }
+    ensures memory { S.stands site.now memory.new }
 {
     match stack.top_and_below() {
         None => Ok(untouched()),
         Some((top, below)) => {
             if site.item(top.item).extend {
-                return over_searched(alloc, site, memory, c, top, below, untouched(), looked);
+                return over_searched(site, memory, c, top, below, untouched(), looked);
             }
-            let rest = anew_over_keepend(alloc, site, memory, c, below, looked)?;
-            over_searched(alloc, site, memory, c, top, below, rest, looked)
+            let rest = anew_over_keepend(site, memory, c, below, looked)?;
+            over_searched(site, memory, c, top, below, rest, looked)
         }
     }
 }
 
 /// The exposed frame, unless it has searched already, searches anew where it has no `keepend`.
-fn exposed_anew<S: Site, M: Picker<S>>(
-    alloc: Global,
+fn exposed_anew<S: Site>(
     site: &S,
-    memory: &mut M,
+    memory: &mut PickMemory,
     c: usize,
     has_searched: bool,
     stack: &Stack,
     looked: &mut Looked,
 ) -> Result<Option<Stack>, Stop>
     requires valid { S.valid site.now }
-    requires memory { M.stands memory.old site.now }
+    requires memory { S.stands site.now memory.old }
     requires fits { Fits (length (S.here site.now).rules.items) (reverse stack.now) }
     ensures comes { Comes (frames_or (reverse stack.now)) result looked.old looked.new
         (exposed_anew (S.here site.now) c has_searched (reverse stack.now)) }
     ensures items { IfOk result
         (λ s. items_of (frames_or (reverse stack.now) s) ≡ items_of (reverse stack.now)) }
-    ensures memory { M.stands memory.new site.now }
+    ensures memory { S.stands site.now memory.new }
 {
     match stack.top_and_below() {
         None => Ok(None),
@@ -261,43 +258,42 @@ fn exposed_anew<S: Site, M: Picker<S>>(
             if site.item(top.item).keepend {
                 return Ok(None);
             }
-            let frame = searched_anew(alloc, site, memory, c, top, looked)?;
-            Ok(remade(alloc, top, below, frame, None)?)
+            let frame = searched_anew(site, memory, c, top, looked)?;
+            Ok(remade(site.alloc(), top, below, frame, None)?)
         }
     }
 }
 
 /// What the frames become from which one was popped; none where they stay.
-pub(crate) fn frames_after<S: Site, M: Picker<S>>(
-    alloc: Global,
+pub(crate) fn frames_after<S: Site>(
     site: &S,
-    memory: &mut M,
+    memory: &mut PickMemory,
     c: usize,
     popped: &Frame,
     below: &Stack,
     looked: &mut Looked,
 ) -> Result<Option<Stack>, Stop>
     requires valid { S.valid site.now }
-    requires memory { M.stands memory.old site.now }
+    requires memory { S.stands site.now memory.old }
     requires is_item { (popped.now.item).0 < length (S.here site.now).rules.items }
     requires fits { Fits (length (S.here site.now).rules.items) (reverse below.now) }
     ensures comes { Comes (frames_or (reverse below.now)) result looked.old looked.new
         (frames_after (S.here site.now) c popped.now (reverse below.now)) }
     ensures items { IfOk result
         (λ s. items_of (frames_or (reverse below.now) s) ≡ items_of (reverse below.now)) }
-    ensures memory { M.stands memory.new site.now }
+    ensures memory { S.stands site.now memory.new }
 {
     if !site.item(popped.item).extend {
-        return exposed_anew(alloc, site, memory, c, false, below, looked);
+        return exposed_anew(site, memory, c, false, below, looked);
     }
     if none_keeps(site, below) {
-        return exposed_anew(alloc, site, memory, c, false, below, looked);
+        return exposed_anew(site, memory, c, false, below, looked);
     }
-    let Anew { frames, over } = anew_over_keepend(alloc, site, memory, c, below, looked)?;
+    let Anew { frames, over } = anew_over_keepend(site, memory, c, below, looked)?;
     match frames {
-        None => exposed_anew(alloc, site, memory, c, over, below, looked),
+        None => exposed_anew(site, memory, c, over, below, looked),
         Some(frames) => {
-            let exposed = exposed_anew(alloc, site, memory, c, over, &frames, looked)?;
+            let exposed = exposed_anew(site, memory, c, over, &frames, looked)?;
             Ok(Some(stack_or(frames, exposed)))
         }
     }

@@ -1,18 +1,18 @@
 //! The searches of frames for their ends.
-ghost use Rattle.std.specs.Prelude.{◌≡◌, ◌<◌, IfOk, IsTrue, None, length, true, max};
+ghost use Rattle.std.specs.Prelude.{◌≡◌, ◌<◌, IfOk, IsTrue, None, length, true};
 ghost use Rattle.std.specs.Option.{option_map};
 ghost use Rattle.paint_rules.specs.Rules.{item_of};
-ghost use Rattle.paint_rules.specs.Close.{is_body, is_region, is_region_body, with_end, searched, search_col, searched_if, searched_anew, is_open, at_line_start};
+ghost use Rattle.paint_rules.specs.Close.{is_region, is_region_body, with_end, searched, search_col, searched_if, searched_anew, is_open, at_line_start};
 ghost use Rattle.line_paint.specs.Answers.{Comes};
 ghost use Rattle.line_paint.specs.Frames.{line_end_if, frame_or};
 ghost use Rattle.paint_rules.specs.States.{spot_of};
 
 use crate::spots::spot_of;
-use crate::{Picker, Site, Stop};
+use crate::{Site, Stop};
+use item_pick::PickMemory;
 use paint_rules::{Part, RegionEnd, Spot};
 use region_ends::EndAnswer;
 use state_stack::Frame;
-use std::alloc::Global;
 use syn_base::{Looked, Memory, Place};
 use syntax_set::ItemKind;
 
@@ -125,25 +125,24 @@ fn ended_anew<S: Site>(
 }
 
 /// A frame that searched its end in this line, from a column; none where it stays.
-fn searched<S: Site, M: Picker<S>>(
-    alloc: Global,
+fn searched<S: Site>(
     site: &S,
-    memory: &mut M,
+    memory: &mut PickMemory,
     frame: &Frame,
     c: usize,
     looked: &mut Looked,
 ) -> Result<Option<Frame>, Stop>
     requires valid { S.valid site.now }
-    requires memory { M.stands memory.old site.now }
+    requires memory { S.stands site.now memory.old }
     requires is_item { (frame.now.item).0 < length (S.here site.now).rules.items }
     requires is_region { is_region (item_of (S.here site.now).rules.items frame.now.item).kind
         ≡ true }
     ensures comes { Comes (frame_or frame.now) result looked.old looked.new
         (searched (S.here site.now) frame.now c) }
     ensures item { IfOk result (λ f. (frame_or frame.now f).item ≡ frame.now.item) }
-    ensures memory { M.stands memory.new site.now }
+    ensures memory { S.stands site.now memory.new }
 {
-    match memory.find_end(alloc, site, frame.item, &frame.externals, c)? {
+    match site.find_end(memory, frame.item, &frame.externals, c)? {
         EndAnswer::Ends(end, seen) => {
             *looked = looked.join(seen);
             Ok(ended_anew(site, frame, Some(end))?)
@@ -172,57 +171,48 @@ fn search_col(c: usize, search: Spot) -> Option<usize>
 }
 
 /// A frame that searched its end from a column, if there is one.
-pub(crate) fn searched_if<S: Site, M: Picker<S>>(
-    alloc: Global,
+pub(crate) fn searched_if<S: Site>(
     site: &S,
-    memory: &mut M,
+    memory: &mut PickMemory,
     frame: &Frame,
     from: Option<usize>,
     looked: &mut Looked,
 ) -> Result<Option<Frame>, Stop>
     requires valid { S.valid site.now }
-    requires memory { M.stands memory.old site.now }
+    requires memory { S.stands site.now memory.old }
     requires is_item { (frame.now.item).0 < length (S.here site.now).rules.items }
     requires is_region { is_region (item_of (S.here site.now).rules.items frame.now.item).kind
         ≡ true }
     ensures comes { Comes (frame_or frame.now) result looked.old looked.new
         (searched_if (S.here site.now) frame.now from) }
     ensures item { IfOk result (λ f. (frame_or frame.now f).item ≡ frame.now.item) }
-    ensures memory { M.stands memory.new site.now }
+    ensures memory { S.stands site.now memory.new }
 {
     match from {
         None => Ok(None),
-        Some(c) => searched(alloc, site, memory, frame, c, looked),
+        Some(c) => searched(site, memory, frame, c, looked),
     }
 }
 
 /// The frame that a region body becomes where it searches anew from a column, or none where it
 /// stays.
-pub(crate) fn searched_anew<S: Site, M: Picker<S>>(
-    alloc: Global,
+pub(crate) fn searched_anew<S: Site>(
     site: &S,
-    memory: &mut M,
+    memory: &mut PickMemory,
     c: usize,
     frame: &Frame,
     looked: &mut Looked,
 ) -> Result<Option<Frame>, Stop>
     requires valid { S.valid site.now }
-    requires memory { M.stands memory.old site.now }
+    requires memory { S.stands site.now memory.old }
     requires is_item { (frame.now.item).0 < length (S.here site.now).rules.items }
     ensures comes { Comes (frame_or frame.now) result looked.old looked.new
         (searched_anew (S.here site.now) c frame.now) }
     ensures item { IfOk result (λ f. (frame_or frame.now f).item ≡ frame.now.item) }
-    ensures memory { M.stands memory.new site.now }
+    ensures memory { S.stands site.now memory.new }
 {
     if is_region_body(site, frame) {
-        searched_if(
-            alloc,
-            site,
-            memory,
-            frame,
-            search_col(c, frame.search),
-            looked,
-        )
+        searched_if(site, memory, frame, search_col(c, frame.search), looked)
     } else {
         Ok(None)
     }
@@ -239,23 +229,22 @@ fn is_open(end: Option<Spot>) -> bool
 }
 
 /// The frame that searches at the start of a line, if its end lies before it or isn't known.
-pub(crate) fn at_line_start<S: Site, M: Picker<S>>(
-    alloc: Global,
+pub(crate) fn at_line_start<S: Site>(
     site: &S,
-    memory: &mut M,
+    memory: &mut PickMemory,
     frame: &Frame,
     looked: &mut Looked,
 ) -> Result<Option<Frame>, Stop>
     requires valid { S.valid site.now }
-    requires memory { M.stands memory.old site.now }
+    requires memory { S.stands site.now memory.old }
     requires is_item { (frame.now.item).0 < length (S.here site.now).rules.items }
     ensures comes { Comes (frame_or frame.now) result looked.old looked.new
         (at_line_start (S.here site.now) frame.now) }
     ensures item { IfOk result (λ f. (frame_or frame.now f).item ≡ frame.now.item) }
-    ensures memory { M.stands memory.new site.now }
+    ensures memory { S.stands site.now memory.new }
 {
     if is_open(frame.known_end) {
-        searched_anew(alloc, site, memory, 0, frame, looked)
+        searched_anew(site, memory, 0, frame, looked)
     } else {
         Ok(None)
     }

@@ -1,5 +1,5 @@
 //! Stacks of which some frames were made anew.
-ghost use Rattle.std.specs.Prelude.{◌≡◌, ◌<◌, [], ◌∷◌, length, reverse, IfOk, MatchOption};
+ghost use Rattle.std.specs.Prelude.{◌≡◌, ◌<◌, ◌∷◌, length, reverse, IfOk};
 ghost use Rattle.line_paint.specs.Frames.{frame_or};
 ghost use Rattle.line_paint.specs.Standing.{frames_or, items_of};
 

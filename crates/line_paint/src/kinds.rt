@@ -1,5 +1,5 @@
 //! What is true of each frame of a stack, seen by the frames' kinds.
-ghost use Rattle.std.specs.Prelude.{◌≡◌, length, reverse, true};
+ghost use Rattle.std.specs.Prelude.{◌≡◌, reverse, true};
 ghost use Rattle.std.specs.List.{list_all};
 ghost use Rattle.line_paint.specs.Kinds.{all_clear, lets_through, never_keeps, none_keeps};
 

@@ -17,7 +17,9 @@ use crate::line_start::line_start;
 use crate::shown::{Stretch, shown};
 use crate::spans::Spans;
 use crate::standing::Standing;
-use crate::{Picker, Site, Stop};
+use crate::staying::quiet_until;
+use crate::{Site, Stop};
+use item_pick::PickMemory;
 use paint_rules::Spot;
 use state_stack::{Stack, State};
 use std::alloc::Global;
@@ -67,47 +69,39 @@ fn at(stop: Stop, col: usize) -> PaintError
 }
 
 /// The columns of a line, the first one first, and the characters that stand there.
-fn columns<S: Site, M: Picker<S>>(
-    alloc: Global,
+fn columns<S: Site>(
     site: &S,
-    memory: &mut M,
+    memory: &mut PickMemory,
     standing: &mut Standing,
 ) -> Result<List<Span>, PaintError>
     requires valid { S.valid site.now }
-    requires memory { M.stands memory.old site.now }
+    requires memory { S.stands site.now memory.old }
     requires stands { Stands (length (S.here site.now).rules.items) 0 standing.old }
     requires held { Held (one_line (pos (S.here site.now).line)) standing.old.looked }
     ensures painted { Paints result standing.old standing.new
         (painted_from (S.here site.now) 0 (this_line (S.here site.now))
         (standing_of standing.old)) }
-    ensures memory { M.stands memory.new site.now }
+    ensures memory { S.stands site.now memory.new }
     ensures fits { IfOk result
         (λ _. StateFits (length (S.here site.now).rules.items) (top_first standing.new.state)) }
 {
     let len = site.len();
-    let mut spans = Spans::new(alloc);
+    let mut spans = Spans::new(site.alloc());
     let mut c = 0;
     'columns: while c < len {
-        match standing.column(alloc, site, memory, c) {
+        match standing.column(site, memory, c) {
             Ok(()) => {}
             Err(stop) => return Err(at(stop, c)),
         }
         let place = Spot::At { ahead: 0, col: c };
         spans.show(c, shown(site, place, &standing.state.stack))?;
-        forget_tried(alloc, standing);
+        forget_tried(site.alloc(), standing);
         let next = c + 1;
-        let Standing {
-            state,
-            floor,
-            tried: _,
-            is_over,
-            looked,
-        } = &*standing;
-        let to = memory.quiet_until(alloc, site, next, state, *floor, *is_over, *looked)?;
+        let to = quiet_until(site, memory, next, standing)?;
         show_quiet(site, standing, &mut spans, next, to)?;
         c = to;
     }
-    last_column(alloc, site, memory, c, standing, spans)
+    last_column(site, memory, c, standing, spans)
 }
 
 /// The next column has tried no item yet.
@@ -152,26 +146,25 @@ fn show_quiet<S: Site>(
 }
 
 /// The line's end, where no character stands.
-fn last_column<S: Site, M: Picker<S>>(
-    alloc: Global,
+fn last_column<S: Site>(
     site: &S,
-    memory: &mut M,
+    memory: &mut PickMemory,
     c: usize,
     standing: &mut Standing,
     spans: Spans,
 ) -> Result<List<Span>, PaintError>
     requires valid { S.valid site.now }
-    requires memory { M.stands memory.old site.now }
+    requires memory { S.stands site.now memory.old }
     requires end { c ≡ length (this_line (S.here site.now)) }
     requires stands { Stands (length (S.here site.now).rules.items) c standing.old }
     requires held { Held (one_line (pos (S.here site.now).line)) standing.old.looked }
     ensures painted { Paints result standing.old standing.new
         (painted_rest (S.here site.now) c [] (standing_of standing.old) spans) }
-    ensures memory { M.stands memory.new site.now }
+    ensures memory { S.stands site.now memory.new }
     ensures fits { IfOk result
         (λ _. StateFits (length (S.here site.now).rules.items) (top_first standing.new.state)) }
 {
-    match standing.column(alloc, site, memory, c) {
+    match standing.column(site, memory, c) {
         Ok(()) => {}
         Err(stop) => return Err(at(stop, c)),
     }
@@ -180,22 +173,21 @@ fn last_column<S: Site, M: Picker<S>>(
 }
 
 /// The stack at the start of a line.
-fn first_stack<S: Site, M: Picker<S>>(
-    alloc: Global,
+fn first_stack<S: Site>(
     site: &S,
-    memory: &mut M,
+    memory: &mut PickMemory,
     stack: &Stack,
     looked: &mut Looked,
 ) -> Result<Stack, PaintError>
     requires valid { S.valid site.now }
-    requires memory { M.stands memory.old site.now }
+    requires memory { S.stands site.now memory.old }
     requires fits { Fits (length (S.here site.now).rules.items) (reverse stack.now) }
     ensures begins { Begins result looked.old looked.new
         (line_start (S.here site.now) (reverse stack.now)) }
     ensures fits { IfOk result (λ s. Fits (length (S.here site.now).rules.items) (reverse s)) }
-    ensures memory { M.stands memory.new site.now }
+    ensures memory { S.stands site.now memory.new }
 {
-    match line_start(alloc, site, memory, stack, looked) {
+    match line_start(site, memory, stack, looked) {
         Ok(None) => Ok(stack.copy()?),
         Ok(Some(anew)) => Ok(anew),
         Err(stop) => Err(at(stop, 0)),
@@ -210,14 +202,13 @@ fn own_line<S: Site>(site: &S) -> Looked
 }
 
 /// Paints a line from the state before it, by a memory of what starts.
-pub(crate) fn painted_by<S: Site, M: Picker<S>>(
-    alloc: Global,
+pub(crate) fn painted_by<S: Site>(
     site: &S,
-    memory: &mut M,
+    memory: &mut PickMemory,
     before: &State,
 ) -> Result<LineNote, PaintError>
     requires valid { S.valid site.now }
-    requires memory { M.stands memory.old site.now }
+    requires memory { S.stands site.now memory.old }
     requires fits { StateFits (length (S.here site.now).rules.items) (top_first before.now) }
     ensures painted { PaintedAs result (S.here site.now).line before.now
         (painted_line (S.here site.now) (top_first before.now)) }
@@ -225,21 +216,21 @@ pub(crate) fn painted_by<S: Site, M: Picker<S>>(
         (λ note. StateFits (length (S.here site.now).rules.items) (top_first note.after)) }
     ensures spans { IfOk result
         (λ note. IsFromColumn 0 (length (this_line (S.here site.now))) note.spans) }
-    ensures memory { M.stands memory.new site.now }
+    ensures memory { S.stands site.now memory.new }
 {
     let mut looked = own_line(site);
-    let stack = first_stack(alloc, site, memory, &before.stack, &mut looked)?;
+    let stack = first_stack(site, memory, &before.stack, &mut looked)?;
     let mut standing = Standing {
         state: State {
             stack,
             waiting: before.waiting,
         },
         floor: 0,
-        tried: List::new(alloc),
+        tried: List::new(site.alloc()),
         is_over: false,
         looked,
     };
-    let spans = columns(alloc, site, memory, &mut standing)?;
+    let spans = columns(site, memory, &mut standing)?;
     let before = before.copy()?;
     let Standing {
         state,

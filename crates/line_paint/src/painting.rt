@@ -4,7 +4,7 @@ ghost use Rattle.syn_base.specs.SpansFit.{IsFromColumn};
 ghost use Rattle.match_rules.specs.Ways.{line_at};
 ghost use Rattle.keyword_table.specs.ItemNumbers.{AreItemsBelow};
 ghost use Rattle.syntax_set.specs.Soundness.{AreSound};
-ghost use Rattle.paint_rules.specs.Rules.{no_externals};
+ghost use Rattle.paint_rules.specs.Rules.{no_externals, place_at};
 ghost use Rattle.paint_rules.specs.Line.{painted_line};
 ghost use Rattle.paint_rules.specs.States.{StateFits};
 ghost use Rattle.state_stack.specs.TopFirst.{top_first};
@@ -16,11 +16,12 @@ ghost use Rattle.item_pick.specs.Tables.{TablesStand};
 use crate::at_hand::AtHand;
 use crate::paint::painted_by;
 use crate::site::Site;
+use crate::standing::Standing;
 use crate::{LineNote, PaintError};
-use item_pick::{Parts, PickMemory};
+use item_pick::{Asked, Parts, PickMemory, Picked};
 use paint_rules::Which;
 use pattern_match::Match;
-use region_ends::offset_place;
+use region_ends::{EndAnswer, offset_place};
 use state_stack::State;
 use std::alloc::Global;
 use std::marker::Model;
@@ -36,7 +37,7 @@ pub(crate) struct NoExternals {
 
 impl Model for NoExternals {
     ghost use Rattle.std.specs.Prelude.{◌≡◌, List, ℕ};
-    ghost use Rattle.paint_rules.specs.Rules.{no_externals};
+    ghost use Rattle.paint_rules.specs.Rules.{no_externals, place_at};
 
     ghost Value = { List (List ℕ) };
 
@@ -61,20 +62,38 @@ impl NoExternals {
 /// A line of a text, and the parts of a syntax, asked within a budget.
 #[derive_where(Clone, Copy)]
 pub(crate) struct Painting<'a, T: Lines> {
-    pub(crate) parts: &'a Parts<'a>,
+    pub(crate) asked: Asked<'a>,
     pub(crate) lines: &'a T,
     pub(crate) line: u32,
-    /// The most that one attempt may cost.
-    pub(crate) budget: u64,
-    pub(crate) no_externals: &'a NoExternals,
+    no_externals: &'a NoExternals,
+}
+
+impl<T: Lines> Painting<'_, T> {
+    /// A column of the line.
+    pub(crate) fn place(&self, col: usize) -> Place
+        ensures { result ≡ place_at self.now.line col }
+    {
+        Place {
+            line: self.line as usize,
+            col,
+        }
+    }
 }
 
 impl<T: Lines> Site for Painting<'_, T> {
-    ghost use Rattle.line_paint.specs.Painting.{here_in, MayBeAsked};
+    ghost use Rattle.line_paint.specs.Painting.{here_by, MayBeAsked};
+    ghost use Rattle.item_pick.specs.PartsSeen.{rules_by};
+    ghost use Rattle.item_pick.specs.Tables.{MemoryStands};
 
-    ghost here = { λ p. here_in p.parts.now p.budget (T.lines p.lines.now) p.line };
+    ghost here = { λ p. here_by p.asked (T.lines p.lines.now) p.line };
 
-    ghost valid = { λ p. MayBeAsked p.parts.now p.budget (T.lines p.lines.now) p.line };
+    ghost valid = { λ p. MayBeAsked p.asked (T.lines p.lines.now) p.line };
+
+    ghost stands = { λ p memory. MemoryStands (rules_by p.asked) (T.lines p.lines.now) p.line memory };
+
+    fn alloc(&self) -> Global {
+        self.asked.alloc
+    }
 
     fn line(&self) -> usize {
         self.line as usize
@@ -90,7 +109,7 @@ impl<T: Lines> Site for Painting<'_, T> {
     }
 
     fn items(&self) -> &ItemSet {
-        self.parts.items
+        self.asked.parts.items
     }
 
     fn no_externals(&self) -> &Rc<Externals> {
@@ -99,6 +118,34 @@ impl<T: Lines> Site for Painting<'_, T> {
 
     fn offset_place(&self, m: &Match, pattern: &Pattern, which: Which) -> Place {
         offset_place(self.lines, m, pattern, which)
+    }
+
+    fn pick(
+        &self,
+        memory: &mut PickMemory,
+        c: usize,
+        standing: &Standing,
+    ) -> Result<Picked, Memory> {
+        memory.pick(&self.asked, self.lines, self.place(c), &standing.so_far())
+    }
+
+    fn starts_from(
+        &self,
+        memory: &mut PickMemory,
+        c: usize,
+        standing: &Standing,
+    ) -> Result<usize, Memory> {
+        memory.quiet_until(&self.asked, self.lines, self.place(c), &standing.so_far())
+    }
+
+    fn find_end(
+        &self,
+        memory: &mut PickMemory,
+        region: ItemId,
+        externals: &Externals,
+        c: usize,
+    ) -> Result<EndAnswer, Memory> {
+        memory.find_end(&self.asked, self.lines, region, externals, self.place(c))
     }
 }
 
@@ -169,12 +216,16 @@ pub fn paint_line_with<T: Lines, L: Ledger>(
     let lines = AtHand::new(lines, line);
     let no_externals = NoExternals::new(alloc)?;
     let painting = Painting {
-        parts,
+        asked: Asked {
+            alloc,
+            parts,
+            budget,
+            no_externals: no_externals.shared(),
+        },
         lines: &lines,
         line: line as u32,
-        budget,
         no_externals: &no_externals,
     };
     memory.enter_line(parts, lines.line(line))?;
-    painted_by(alloc, &painting, memory, before)
+    painted_by(&painting, memory, before)
 }

@@ -1,5 +1,5 @@
 //! The spans of a line, from the left: those that are whole, and the one that may go on.
-ghost use Rattle.std.specs.Prelude.{◌≡◌, ◌&&◌, ◌∷◌, ◌++◌, [], List, suc, nat_eq, IfOk, None};
+ghost use Rattle.std.specs.Prelude.{◌≡◌, ◌&&◌, [], List, suc, nat_eq, IfOk, None};
 ghost use Rattle.syn_base.specs.declared.places.Span.{Span};
 ghost use Rattle.paint_rules.specs.Rules.{same_group};
 ghost use Rattle.paint_rules.specs.Line.{joined};

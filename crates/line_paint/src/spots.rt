@@ -1,5 +1,5 @@
 //! Spots: places counted from the painted line.
-ghost use Rattle.std.specs.Prelude.{◌≡◌, ◌<◌, length};
+ghost use Rattle.std.specs.Prelude.{◌≡◌, ◌<◌};
 ghost use Rattle.paint_rules.specs.States.{spot_of};
 ghost use Rattle.paint_rules.specs.KeptEnd.{is_before};
 ghost use Rattle.paint_rules.specs.Close.{is_reached, goes_beyond};

@@ -9,10 +9,10 @@ ghost use Rattle.line_paint.specs.Standing.{items_of};
 use crate::closing::{
     Closing, area_on, body_after_area, closing_of, container_goes_on, frames_after, waiting_after,
 };
-use crate::{Picker, Site, Stop};
+use crate::{Site, Stop};
+use item_pick::{PickMemory, SoFar};
 use paint_rules::Spot;
 use state_stack::{Frame, Stack, State};
-use std::alloc::Global;
 use syn_base::{ItemId, List, Looked};
 
 /// What the painting of a line carries along: the state, the column of the last start or close, the
@@ -28,69 +28,81 @@ pub(crate) struct Standing {
 }
 
 /// The stack under a start area that was popped.
-fn under_area<S: Site, M: Picker<S>>(
-    alloc: Global,
+fn under_area<S: Site>(
     site: &S,
-    memory: &mut M,
+    memory: &mut PickMemory,
     below: &Stack,
     looked: &mut Looked,
 ) -> Result<Stack, Stop>
     requires valid { S.valid site.now }
-    requires memory { M.stands memory.old site.now }
+    requires memory { S.stands site.now memory.old }
     requires fits { Fits (length (S.here site.now).rules.items) (reverse below.now) }
     ensures comes { Comes reverse result looked.old looked.new
         (body_after_area (S.here site.now) (reverse below.now)) }
     ensures items { IfOk result (λ s. items_of (reverse s) ≡ items_of (reverse below.now)) }
-    ensures memory { M.stands memory.new site.now }
+    ensures memory { S.stands site.now memory.new }
 {
-    match body_after_area(alloc, site, memory, below, looked)? {
+    match body_after_area(site, memory, below, looked)? {
         None => Ok(below.copy()?),
         Some(stack) => Ok(stack),
     }
 }
 
 /// The stack under another frame that was popped.
-fn under_popped<S: Site, M: Picker<S>>(
-    alloc: Global,
+fn under_popped<S: Site>(
     site: &S,
-    memory: &mut M,
+    memory: &mut PickMemory,
     c: usize,
     popped: &Frame,
     below: &Stack,
     looked: &mut Looked,
 ) -> Result<Stack, Stop>
     requires valid { S.valid site.now }
-    requires memory { M.stands memory.old site.now }
+    requires memory { S.stands site.now memory.old }
     requires is_item { (popped.now.item).0 < length (S.here site.now).rules.items }
     requires fits { Fits (length (S.here site.now).rules.items) (reverse below.now) }
     ensures comes { Comes reverse result looked.old looked.new
         (frames_after (S.here site.now) c popped.now (reverse below.now)) }
     ensures items { IfOk result (λ s. items_of (reverse s) ≡ items_of (reverse below.now)) }
-    ensures memory { M.stands memory.new site.now }
+    ensures memory { S.stands site.now memory.new }
 {
-    match frames_after(alloc, site, memory, c, popped, below, looked)? {
+    match frames_after(site, memory, c, popped, below, looked)? {
         None => Ok(below.copy()?),
         Some(stack) => Ok(stack),
     }
 }
 
 impl Standing {
+    /// What a pick asks of it.
+    pub(crate) fn so_far(&self) -> SoFar<'_>
+        ensures state { result.state.now ≡ self.now.state }
+        ensures floor { result.floor ≡ self.now.floor }
+        ensures tried { result.tried.now ≡ self.now.tried }
+        ensures looked { result.looked ≡ self.now.looked }
+    {
+        SoFar {
+            state: &self.state,
+            floor: self.floor,
+            tried: &self.tried,
+            looked: self.looked,
+        }
+    }
+
     /// One step of closing; false where the top frame stays.
-    fn close_once<S: Site, M: Picker<S>>(
+    fn close_once<S: Site>(
         &mut self,
-        alloc: Global,
         site: &S,
-        memory: &mut M,
+        memory: &mut PickMemory,
         c: usize,
     ) -> Result<bool, Stop>
         requires valid { S.valid site.now }
-        requires memory { M.stands memory.old site.now }
+        requires memory { S.stands site.now memory.old }
         requires stands { Stands (length (S.here site.now).rules.items) c self.old }
         ensures leads { LeadsOn result self.old self.new
             (close_once (S.here site.now) c (standing_of self.old) (reverse self.old.state.stack)) }
         ensures stands { IfOk result
             (λ _. Stands (length (S.here site.now).rules.items) c self.new) }
-        ensures memory { M.stands memory.new site.now }
+        ensures memory { S.stands site.now memory.new }
     {
         if self.is_over {
             return Ok(false);
@@ -101,20 +113,20 @@ impl Standing {
             Some((top, below)) => match closing_of(site, place, top, below) {
                 Closing::Stays => Ok(false),
                 Closing::BecomesArea => {
-                    let stack = area_on(alloc, place, top, below)?;
+                    let stack = area_on(site.alloc(), place, top, below)?;
                     self.state.stack = stack;
                     self.state.waiting = None;
                     Ok(true)
                 }
                 Closing::LeavesArea => {
-                    let stack = under_area(alloc, site, memory, below, &mut self.looked)?;
+                    let stack = under_area(site, memory, below, &mut self.looked)?;
                     self.state.stack = stack;
                     self.state.waiting = None;
                     self.floor = c;
                     Ok(true)
                 }
                 Closing::Leaves => {
-                    let stack = under_popped(alloc, site, memory, c, top, below, &mut self.looked)?;
+                    let stack = under_popped(site, memory, c, top, below, &mut self.looked)?;
                     let waiting = waiting_after(site, c, top.item);
                     let is_over = container_goes_on(site, c, top, below);
                     self.state.stack = stack;
@@ -128,27 +140,26 @@ impl Standing {
     }
 
     /// Closes all that ends at a place.
-    pub(crate) fn close<S: Site, M: Picker<S>>(
+    pub(crate) fn close<S: Site>(
         &mut self,
-        alloc: Global,
         site: &S,
-        memory: &mut M,
+        memory: &mut PickMemory,
         c: usize,
     ) -> Result<(), Stop>
         requires valid { S.valid site.now }
-        requires memory { M.stands memory.old site.now }
+        requires memory { S.stands site.now memory.old }
         requires stands { Stands (length (S.here site.now).rules.items) c self.old }
         ensures leads { Leads result self.old self.new
             (closed (S.here site.now) c (standing_of self.old)) }
         ensures stands { IfOk result
             (λ _. Stands (length (S.here site.now).rules.items) c self.new) }
-        ensures memory { M.stands memory.new site.now }
+        ensures memory { S.stands site.now memory.new }
     {
         let len = self.state.stack.len();
         let mut left = len + len;
         'steps: while left > 0 {
             left -= 1;
-            match self.close_once(alloc, site, memory, c) {
+            match self.close_once(site, memory, c) {
                 Ok(true) => {}
                 Ok(false) => return Ok(()),
                 Err(stop) => return Err(stop),

@@ -1,5 +1,5 @@
 //! What a pick started.
-ghost use Rattle.std.specs.Prelude.{◌≡◌, ◌<◌, ◌≤◌, length, reverse, slice_get, IfOk, ◌∷◌, None};
+ghost use Rattle.std.specs.Prelude.{◌≡◌, ◌<◌, length, reverse, IfOk, ◌∷◌, None};
 ghost use Rattle.paint_rules.specs.Pick.{started, started_at, AWord, AMatch, AnEmpty, ARegion};
 ghost use Rattle.paint_rules.specs.Pick as rule;
 ghost use Rattle.item_pick.specs.Starts.{IsStarting};
@@ -84,7 +84,6 @@ impl Standing {
 
     fn start_word<S: Site>(
         &mut self,
-        alloc: Global,
         site: &S,
         c: usize,
         item: ItemId,
@@ -98,12 +97,11 @@ impl Standing {
             (λ _. Stands (length (S.here site.now).rules.items) c self.new) }
     {
         let frame = word_frame(site, c, item, end)?;
-        self.start_one(alloc, c, item, frame)
+        self.start_one(site.alloc(), c, item, frame)
     }
 
     fn start_match<S: Site>(
         &mut self,
-        alloc: Global,
         site: &S,
         c: usize,
         item: ItemId,
@@ -118,7 +116,7 @@ impl Standing {
             (λ _. Stands (length (S.here site.now).rules.items) c self.new) }
     {
         let frame = match_frame(site, c, item, pattern, m)?;
-        self.start_one(alloc, c, item, frame)
+        self.start_one(site.alloc(), c, item, frame)
     }
 
     fn start_empty<S: Site>(&mut self, site: &S, c: usize, item: ItemId) -> Result<(), Stop>
@@ -136,7 +134,6 @@ impl Standing {
 
     fn start_region<S: Site>(
         &mut self,
-        alloc: Global,
         site: &S,
         c: usize,
         item: ItemId,
@@ -154,16 +151,16 @@ impl Standing {
         let open = open_body(site, c, item, pattern, &m)?;
         match pattern.matchgroup {
             None => {
-                let body = with_externals(open, shared(alloc, m)?);
+                let body = with_externals(open, shared(site.alloc(), m)?);
                 let body = body_ended(site, body, end)?;
-                self.start_one(alloc, c, item, body)
+                self.start_one(site.alloc(), c, item, body)
             }
             Some(group) => {
                 let area = open_area(site, c, item, pattern, &m, group)?;
-                let externals = shared(alloc, m)?;
+                let externals = shared(site.alloc(), m)?;
                 let body = with_externals(open, shared_again(&externals)?);
                 let body = body_ended(site, body, end)?;
-                self.start_two(alloc, c, item, body, with_externals(area, externals))
+                self.start_two(site.alloc(), c, item, body, with_externals(area, externals))
             }
         }
     }
@@ -171,7 +168,6 @@ impl Standing {
     /// What a pick has found starts.
     pub(crate) fn start<S: Site>(
         &mut self,
-        alloc: Global,
         site: &S,
         c: usize,
         starting: Starting,
@@ -186,10 +182,10 @@ impl Standing {
             (λ _. Stands (length (S.here site.now).rules.items) c self.new) }
     {
         match starting {
-            Starting::Word { item, end } => self.start_word(alloc, site, c, item, end),
+            Starting::Word { item, end } => self.start_word(site, c, item, end),
             Starting::Empty { item } => self.start_empty(site, c, item),
             Starting::Matched { item, m } => match &site.item(item).kind {
-                ItemKind::Match(pattern) => self.start_match(alloc, site, c, item, pattern, &m),
+                ItemKind::Match(pattern) => self.start_match(site, c, item, pattern, &m),
                 _ => unreachable!(),
             },
             Starting::Region {
@@ -202,7 +198,7 @@ impl Standing {
                     starts,
                     skip: _,
                     ends: _,
-                } => self.start_region(alloc, site, c, item, starts.get(start), m, end),
+                } => self.start_region(site, c, item, starts.get(start), m, end),
                 _ => unreachable!(),
             },
         }

@@ -1,5 +1,10 @@
-//! How long the top frame stays.
-ghost use Rattle.std.specs.Prelude.{◌≡◌, ◌<◌, ◌≤◌, ℕ, false, length, reverse, None};
+//! How long nothing closes or starts.
+ghost use Rattle.std.specs.Prelude.{◌≡◌, ◌<◌, ◌≤◌, ℕ, [], false, length, reverse, IfOk, None, pos};
+ghost use Rattle.syn_base.specs.Looked.{one_line};
+ghost use Rattle.paint_rules.specs.Rules.{this_line};
+ghost use Rattle.line_paint.specs.Leads.{standing_of, Stands};
+ghost use Rattle.line_paint.specs.Quiet.{IsQuiet};
+ghost use Rattle.line_paint.specs.Turns.{Held};
 ghost use Rattle.paint_rules.specs.declared.Spot.TheVariants.{At};
 ghost use Rattle.paint_rules.specs.Painted.{done};
 ghost use Rattle.paint_rules.specs.Close.{is_reached, close_once};
@@ -7,9 +12,12 @@ ghost use Rattle.paint_rules.specs.States as rule;
 ghost use Rattle.paint_rules.specs.States.{Fits};
 
 use crate::Site;
+use crate::standing::Standing;
+use item_pick::PickMemory;
 use paint_rules::Spot;
 use region_ends::kept_end_over;
 use state_stack::Stack;
+use syn_base::Memory;
 
 /// A column before which an end isn't reached in the painted line: that of the end, or the line's
 /// length, where the end isn't in it.
@@ -25,7 +33,7 @@ fn reached_from(end: Option<Spot>, len: usize) -> usize
 
 /// A column before which nothing closes, where nothing changes until there: that of the top's kept
 /// end, or the line's end.
-pub(crate) fn closes_from<S: Site>(site: &S, stack: &Stack, is_over: bool) -> usize
+fn closes_from<S: Site>(site: &S, stack: &Stack, is_over: bool) -> usize
     requires { Fits (length (S.here site.now).rules.items) (reverse stack.now) }
     ensures { (d : ℕ) → d < result → (s : rule.Standing) → s.is_over ≡ is_over
         → close_once (S.here site.now) d s (reverse stack.now) ≡ done None }
@@ -37,4 +45,35 @@ pub(crate) fn closes_from<S: Site>(site: &S, stack: &Stack, is_over: bool) -> us
         None => site.len(),
         Some((top, below)) => reached_from(kept_end_over(site.items(), top, below), site.len()),
     }
+}
+
+/// A column from `c` on, up to the line's end, before which all from `c` on are quiet. No other line
+/// than those so far is looked at.
+pub(crate) fn quiet_until<S: Site>(
+    site: &S,
+    memory: &mut PickMemory,
+    c: usize,
+    standing: &Standing,
+) -> Result<usize, Memory>
+    requires valid { S.valid site.now }
+    requires memory { S.stands site.now memory.old }
+    requires within { c ≤ length (this_line (S.here site.now)) }
+    requires stands { Stands (length (S.here site.now).rules.items) c standing.now }
+    requires none_tried { standing.now.tried ≡ [] }
+    requires held { Held (one_line (pos (S.here site.now).line)) standing.now.looked }
+    ensures memory { S.stands site.now memory.new }
+    ensures quiet { IfOk result (λ to. (d : ℕ) → c ≤ d → d < to
+        → IsQuiet (S.here site.now) standing.now.looked d (standing_of standing.now)) }
+    ensures from { IfOk result (λ to. c ≤ to) }
+    ensures to { IfOk result (λ to. to ≤ length (this_line (S.here site.now))) }
+{
+    if standing.state.waiting.is_some() {
+        return Ok(c);
+    }
+    let closes = closes_from(site, &standing.state.stack, standing.is_over);
+    if closes <= c {
+        return Ok(c);
+    }
+    let starts = site.starts_from(memory, c, standing)?;
+    Ok(closes.min(starts))
 }

@@ -9,44 +9,34 @@ ghost use Rattle.line_paint.specs.Leads.{standing_of, Stands, Leads};
 ghost use Rattle.line_paint.specs.Turns.{Held, LeadsNext, next_start, turn};
 
 use crate::standing::Standing;
-use crate::{Picker, Site, Stop};
-use item_pick::Picked;
+use crate::{Site, Stop};
+use item_pick::{PickMemory, Picked};
 use paint_rules::Waiting;
-use std::alloc::Global;
 use syn_base::List;
 
 impl Standing {
     /// Starts what a pick finds; false where it finds nothing.
-    fn start_next<S: Site, M: Picker<S>>(
+    fn start_next<S: Site>(
         &mut self,
-        alloc: Global,
         site: &S,
-        memory: &mut M,
+        memory: &mut PickMemory,
         c: usize,
     ) -> Result<bool, Stop>
         requires valid { S.valid site.now }
-        requires memory { M.stands memory.old site.now }
+        requires memory { S.stands site.now memory.old }
         requires within { c ≤ length (this_line (S.here site.now)) }
         requires stands { Stands (length (S.here site.now).rules.items) c self.old }
         requires held { Held (one_line (pos (S.here site.now).line)) self.old.looked }
         ensures leads { LeadsNext result self.old self.new
             (next_start (S.here site.now) c (standing_of self.old)) }
-        ensures memory { M.stands memory.new site.now }
+        ensures memory { S.stands site.now memory.new }
         ensures stands { IfOk result
             (λ _. Stands (length (S.here site.now).rules.items) c self.new) }
     {
-        match memory.pick(
-            alloc,
-            site,
-            c,
-            &self.state,
-            self.floor,
-            &self.tried,
-            self.looked,
-        )? {
+        match site.pick(memory, c, self)? {
             Picked::Start(starting, looked) => {
                 self.looked = looked;
-                match self.start(alloc, site, c, starting) {
+                match self.start(site, c, starting) {
                     Ok(()) => Ok(true),
                     Err(stop) => Err(stop),
                 }
@@ -65,54 +55,42 @@ impl Standing {
     }
 
     /// One turn; false where it was the last.
-    fn turn<S: Site, M: Picker<S>>(
-        &mut self,
-        alloc: Global,
-        site: &S,
-        memory: &mut M,
-        c: usize,
-    ) -> Result<bool, Stop>
+    fn turn<S: Site>(&mut self, site: &S, memory: &mut PickMemory, c: usize) -> Result<bool, Stop>
         requires valid { S.valid site.now }
-        requires memory { M.stands memory.old site.now }
+        requires memory { S.stands site.now memory.old }
         requires within { c ≤ length (this_line (S.here site.now)) }
         requires stands { Stands (length (S.here site.now).rules.items) c self.old }
         requires held { Held (one_line (pos (S.here site.now).line)) self.old.looked }
         ensures leads { LeadsNext result self.old self.new
             (turn (S.here site.now) c (standing_of self.old)) }
-        ensures memory { M.stands memory.new site.now }
+        ensures memory { S.stands site.now memory.new }
         ensures stands { IfOk result
             (λ _. Stands (length (S.here site.now).rules.items) c self.new) }
     {
-        match self.close(alloc, site, memory, c) {
-            Ok(()) => self.start_next(alloc, site, memory, c),
+        match self.close(site, memory, c) {
+            Ok(()) => self.start_next(site, memory, c),
             Err(stop) => Err(stop),
         }
     }
 
     /// All turns at a column; at a column an item starts at most once.
-    fn turns<S: Site, M: Picker<S>>(
-        &mut self,
-        alloc: Global,
-        site: &S,
-        memory: &mut M,
-        c: usize,
-    ) -> Result<(), Stop>
+    fn turns<S: Site>(&mut self, site: &S, memory: &mut PickMemory, c: usize) -> Result<(), Stop>
         requires valid { S.valid site.now }
-        requires memory { M.stands memory.old site.now }
+        requires memory { S.stands site.now memory.old }
         requires within { c ≤ length (this_line (S.here site.now)) }
         requires stands { Stands (length (S.here site.now).rules.items) c self.old }
         requires held { Held (one_line (pos (S.here site.now).line)) self.old.looked }
         ensures leads { Leads result self.old self.new
             (turns (suc (length (S.here site.now).rules.items)) (S.here site.now) c
             (standing_of self.old)) }
-        ensures memory { M.stands memory.new site.now }
+        ensures memory { S.stands site.now memory.new }
         ensures stands { IfOk result
             (λ _. Stands (length (S.here site.now).rules.items) c self.new) }
     {
         let mut left = site.items().added() + 1;
         'turns: while left > 0 {
             left -= 1;
-            match self.turn(alloc, site, memory, c) {
+            match self.turn(site, memory, c) {
                 Ok(true) => {}
                 Ok(false) => return Ok(()),
                 Err(stop) => return Err(stop),
@@ -122,27 +100,26 @@ impl Standing {
     }
 
     /// What closes and starts at a column.
-    pub(crate) fn column<S: Site, M: Picker<S>>(
+    pub(crate) fn column<S: Site>(
         &mut self,
-        alloc: Global,
         site: &S,
-        memory: &mut M,
+        memory: &mut PickMemory,
         c: usize,
     ) -> Result<(), Stop>
         requires valid { S.valid site.now }
-        requires memory { M.stands memory.old site.now }
+        requires memory { S.stands site.now memory.old }
         requires within { c ≤ length (this_line (S.here site.now)) }
         requires stands { Stands (length (S.here site.now).rules.items) c self.old }
         requires held { Held (one_line (pos (S.here site.now).line)) self.old.looked }
         ensures leads { Leads result self.old self.new
             (column (S.here site.now) c (standing_of self.old)) }
-        ensures memory { M.stands memory.new site.now }
+        ensures memory { S.stands site.now memory.new }
         ensures stands { IfOk result
             (λ _. Stands (length (S.here site.now).rules.items) c self.new) }
     {
-        self.tried = List::new(alloc);
+        self.tried = List::new(site.alloc());
         self.state.waiting = stale(self.state.waiting);
-        self.turns(alloc, site, memory, c)
+        self.turns(site, memory, c)
     }
 }
 

@@ -3,7 +3,6 @@ pub mod Contexts
 pub mod Answers
 pub mod OnText
 pub mod Screens
-pub mod Memo
 -- what only code and proofs cite
 pub mod Steps
 pub mod LastParts

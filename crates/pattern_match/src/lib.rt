@@ -18,7 +18,6 @@ mod found;
 mod glance;
 mod look;
 mod made;
-mod memo;
 mod parts;
 mod programs;
 mod ready;
@@ -39,5 +38,4 @@ mod words;
 
 pub use answer::{Attempt, Caps, Match};
 pub use context::Context;
-pub use memo::{Entry, LineMemo};
 pub use programs::{Programs, Scratch, answers_stay_on_the_text};

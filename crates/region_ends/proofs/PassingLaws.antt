@@ -39,7 +39,7 @@ use Rattle.region_ends.specs.declared.passing.Passing.{Passing}
 use Rattle.region_ends.specs.declared.searching.Searching.{Searching}
 use Rattle.region_ends.specs.KeyAnswers.{AnswersStand}
 use Rattle.region_ends.specs.Opening.{IsToldOf, begins_elsewhere, begins_with, cannot_begin, differs, first_of, is_unopened}
-use Rattle.region_ends.specs.Passing.{IsOfRegion, IsPassedOver, IsPassing, are_cheap, are_shut, are_shut_anyway, are_shut_by, fails, is_end_passed, is_end_shut, is_idle, is_shut, is_shut_at, is_skip_shut, is_vain, is_skip_vain, is_cheap, is_skip_cheap}
+use Rattle.region_ends.specs.Passing.{IsOfRegion, IsPassedOver, IsPassing, are_shut, are_shut_anyway, are_shut_by, fails, is_end_passed, is_end_shut, is_shut, is_shut_at, is_skip_shut, is_cheap}
 use Rattle.region_ends.specs.Steps.{HoldsLine, search_in}
 use Rattle.region_ends.proofs.OpeningLaws.{attempt_fails, begins_here, told_elsewhere}
 use Rattle.region_ends.proofs.SearchLaws.{tried_at_is, end_absent, to_later}
@@ -67,6 +67,9 @@ all_reverse f (x ∷ xs) e =
 
 -- ---- one pattern
 
+no_less : (n : ℕ) → nat_lt n 0 ≡ false
+no_less n = grind (arith, nat_tests)
+
 -- it gives nothing at a column, and looks at no line that wasn't looked at before
 abbrev pub GivesNothing : Search → Looked → ℕ → Pattern → Type 0
 GivesNothing s k c pattern = looked_first (Some k) (tried_at s pattern c) ≡ Done None (Some k)
@@ -87,10 +90,6 @@ screened s text k c pattern held within from fail cheap =
     tried_at_is (search_in s text) pattern c k (tried.Absent (one_line (pos l))) less
     (omega (arith, h.cost, enough), ap (option_map (match_of text (place_at l (c - pattern.lc)))) h.way, h.looked)
     ∙ ap (λ (j : Looked). Done None (Some j)) held
-
-before_line : (s : Search) (k : Looked) (c : ℕ) (pattern : Pattern) → nat_lt c pattern.lc ≡ true → GivesNothing s k c pattern
-before_line s k c pattern e =
-    ap (λ b. looked_first (Some k) (elim b as (λ _. Painted Cause (Option Matched)) [ true ↦ done None | false ↦ attempted s.rules s.text s.item s.externals pattern (place_at s.from.line (c - pattern.lc)) >>= looks_at_end ])) e
 
 -- the text of the external with which it begins doesn't stand there
 module _ (s : Searching) (text : Text) (k : Looked) (c : ℕ) (pattern : Pattern) (held : HoldsLine k s.from.line) (enough : 1 ≤ s.matcher.budget) where
@@ -119,29 +118,32 @@ module _ (s : Searching) (text : Text) (k : Looked) (c : ℕ) (pattern : Pattern
 
 module _ (a : Passing) (s : Searching) (text : Text) (skip : Option Pattern) (ends : List Pattern) (of : IsPassing a s text skip ends)
     (k : Looked) (held : HoldsLine k s.from.line) (c : ℕ) (within : c ≤ length (line_at text s.from.line)) where
-  by_start : (pattern : Pattern) → is_cheap s.matcher.budget pattern ≡ true → (b : Bool) → nat_lt c pattern.lc ≡ b → (b || fails a (key_of a.sets.now a.line.now (c - pattern.lc)) pattern) ≡ true → GivesNothing (search_in s text) k c pattern
-  by_start pattern cheap true e vain = before_line (search_in s text) k c pattern e
-  by_start pattern cheap false e vain =
-      screened s text k c pattern held within e
-      (sym (λ i. is_futile (verdict (of.sets i) (of.ignore i) (key_of (of.sets i) (of.line i) (c - pattern.lc)) pattern.tree)) ∙ vain) cheap
+  abbrev key : Key
+  key = key_of a.sets.now a.line.now c
 
-  vain_gives : (pattern : Pattern) → is_vain a c pattern ≡ true → is_cheap s.matcher.budget pattern ≡ true → GivesNothing (search_in s text) k c pattern
-  vain_gives pattern vain cheap = by_start pattern cheap (nat_lt c pattern.lc) refl vain
+  shut_gives : (pattern : Pattern) → is_shut a.sets.now a.budget a.ignore key pattern ≡ true → GivesNothing (search_in s text) k c pattern
+  shut_gives pattern e =
+      let h = both (nat_eq pattern.lc 0) (fails a key pattern && is_cheap a.budget pattern) e in
+      let shut = both (fails a key pattern) (is_cheap a.budget pattern) h.1 in
+      let here : pattern.lc ≡ 0 = grind (arith, nat_tests, h.0) in
+      let at : c ≡ c - pattern.lc = omega (arith, here) in
+      screened s text k c pattern held within (subst (λ n. nat_lt c n ≡ false) (sym here) (no_less c))
+      (sym (λ i. is_futile (verdict (of.sets i) (of.ignore i) (key_of (of.sets i) (of.line i) (c - pattern.lc)) pattern.tree))
+      ∙ subst (λ n. fails a (key_of a.sets.now a.line.now n) pattern ≡ true) at shut.0)
+      (subst (λ n. is_cheap n pattern ≡ true) of.budget shut.1)
 
   -- ---- a column
 
-  skip_gives : (o : Option Pattern) → is_skip_vain a c o ≡ true → is_skip_cheap s.matcher.budget o ≡ true → looked_first (Some k) (skip_at (search_in s text) o c) ≡ Done NoSkip (Some k)
-  skip_gives None vain cheap = refl
-  skip_gives (Some pattern) vain cheap =
+  skip_gives : (o : Option Pattern) → is_skip_shut a.sets.now a.budget a.ignore key o ≡ true → looked_first (Some k) (skip_at (search_in s text) o c) ≡ Done NoSkip (Some k)
+  skip_gives None e = refl
+  skip_gives (Some pattern) e =
       goes_on k k (tried_at (search_in s text) pattern c) None
       (λ m. elim m as (λ _. Painted Cause Skip) [ None ↦ done NoSkip | Some m ↦ done (skip_to (search_in s text) c (offset_place text m pattern Me)) ])
-      (vain_gives pattern vain cheap)
+      (shut_gives pattern e)
 
   end_gives : (pattern : Pattern) → is_end_passed a c pattern ≡ true → GivesNothing (search_in s text) k c pattern
-  end_gives pattern e = elim (one_of (is_vain a c pattern && is_cheap a.budget pattern) _ e) [
-    | inl h ↦ (
-        let vain = both (is_vain a c pattern) (is_cheap a.budget pattern) h in
-        vain_gives pattern vain.0 (subst (λ n. is_cheap n pattern ≡ true) of.budget vain.1))
+  end_gives pattern e = elim (one_of (is_shut a.sets.now a.budget a.ignore key pattern) _ e) [
+    | inl h ↦ shut_gives pattern h
     | inr h ↦ elsewhere s text k c pattern held of.some (sym (λ i. cannot_begin (of.externals i) (of.ignore i) pattern (slice_get (of.line i) c)) ∙ h)
   ]
 
@@ -154,7 +156,7 @@ module _ (a : Passing) (s : Searching) (text : Text) (skip : Option Pattern) (en
   pub column_passed : (kind : ItemKind) (last : ℕ) → skip ≡ skip_of kind → ends ≡ ends_of kind → c ≤ last → IsPassedOver a c →
       looked_first (Some k) (end_from (search_in s text) kind (columns_from c last) c) ≡ looked_first (Some k) (end_from (search_in s text) kind (columns_from (suc c) last) (suc c))
   column_passed kind last sk en less passed =
-      let no_skip = skip_gives skip (subst (λ (o : Option Pattern). is_skip_vain a c o ≡ true) of.skip passed.skip) (sym (λ i. is_skip_cheap (of.budget i) (of.skip i)) ∙ passed.cheap) in
+      let no_skip = skip_gives skip (subst (λ (o : Option Pattern). is_skip_shut a.sets.now a.budget a.ignore key o ≡ true) of.skip passed.skip) in
       let all = subst (λ (ps : List Pattern). list_all (is_end_passed a c) ps ≡ true) of.ends passed.ends in
       let found = ends_give (reverse ends) (all_reverse (is_end_passed a c) ends all) in
       to_later (search_in s text) kind c last k less k
@@ -162,9 +164,6 @@ module _ (a : Passing) (s : Searching) (text : Text) (skip : Option Pattern) (en
       (subst (λ (ps : List Pattern). looked_first (Some k) (first_found (end_at (search_in s text) c) (reverse ps)) ≡ Done None (Some k)) en found)
 
 -- ---- what is kept
-
-no_less : (n : ℕ) → nat_lt n 0 ≡ false
-no_less n = grind (arith, nat_tests)
 
 either : (a b : Bool) → b ≡ true → (a || b) ≡ true
 either true b e = refl
@@ -174,35 +173,13 @@ either_first : (a b : Bool) → a ≡ true → (a || b) ≡ true
 either_first a b e = rw e refl
 
 module _ (a : Passing) (c : ℕ) (key : Key) (is : key ≡ key_of a.sets.now a.line.now c) where
-  shut_vain : (pattern : Pattern) → is_shut a.sets.now a.budget a.ignore key pattern ≡ true → is_vain a c pattern ≡ true
-  shut_vain pattern e =
-      let screen = is_futile (verdict a.sets.now a.ignore key pattern.tree) in
-      let h = both (nat_eq pattern.lc 0) (screen && is_cheap a.budget pattern) e in
-      let here : pattern.lc ≡ 0 = grind (arith, nat_tests, h.0) in
-      let shut = (both screen (is_cheap a.budget pattern) h.1).0 in
-      let at : c ≡ c - pattern.lc = omega (arith, here) in
-      either (nat_lt c pattern.lc) _ (subst (λ n. fails a (key_of a.sets.now a.line.now n) pattern ≡ true) at (subst (λ (k : Key). fails a k pattern ≡ true) is shut))
-
-  shut_cheap : (pattern : Pattern) → is_shut a.sets.now a.budget a.ignore key pattern ≡ true → is_cheap a.budget pattern ≡ true
-  shut_cheap pattern e =
-      let screen = is_futile (verdict a.sets.now a.ignore key pattern.tree) in
-      (both screen (is_cheap a.budget pattern) (both (nat_eq pattern.lc 0) (screen && is_cheap a.budget pattern) e).1).1
-
-  skip_shut_vain : (skip : Option Pattern) → is_skip_shut a.sets.now a.budget a.ignore key skip ≡ true → is_skip_vain a c skip ≡ true
-  skip_shut_vain None e = refl
-  skip_shut_vain (Some pattern) e = shut_vain pattern e
-
-  skip_shut_cheap : (skip : Option Pattern) → is_skip_shut a.sets.now a.budget a.ignore key skip ≡ true → is_skip_cheap a.budget skip ≡ true
-  skip_shut_cheap None e = refl
-  skip_shut_cheap (Some pattern) e = shut_cheap pattern e
-
   abbrev here : Option ℕ
   here = slice_get a.line.now c
 
   end_passed : is_unopened a.opening here ≡ true → (pattern : Pattern) → IsToldOf a.externals.now a.ignore a.opening pattern → is_end_shut a.sets.now a.budget a.ignore key pattern ≡ true → is_end_passed a c pattern ≡ true
   end_passed unopened pattern told e = elim (one_of (is_some (begins_with pattern)) _ e) [
-    | inl some ↦ either (is_vain a c pattern && is_cheap a.budget pattern) _ (told_elsewhere a.externals.now a.ignore pattern here a.opening some told unopened)
-    | inr shut ↦ either_first _ (cannot_begin a.externals.now a.ignore pattern here) (both_pass (is_vain a c pattern) (is_cheap a.budget pattern) (shut_vain pattern shut) (shut_cheap pattern shut))
+    | inl some ↦ either (is_shut a.sets.now a.budget a.ignore (key_of a.sets.now a.line.now c) pattern) _ (told_elsewhere a.externals.now a.ignore pattern here a.opening some told unopened)
+    | inr shut ↦ either_first _ (cannot_begin a.externals.now a.ignore pattern here) (subst (λ (k : Key). is_shut a.sets.now a.budget a.ignore k pattern ≡ true) is shut)
   ]
 
   ends_passed : is_unopened a.opening here ≡ true → (ps : List Pattern) → All (IsToldOf a.externals.now a.ignore a.opening) ps → list_all (is_end_shut a.sets.now a.budget a.ignore key) ps ≡ true → list_all (is_end_passed a c) ps ≡ true
@@ -218,25 +195,9 @@ module _ (a : Passing) (c : ℕ) (key : Key) (is : key ≡ key_of a.sets.now a.l
   shut_passed e told unopened =
       let h = both (is_skip_shut a.sets.now a.budget a.ignore key a.skip.now) (list_all (is_end_shut a.sets.now a.budget a.ignore key) a.ends.now) e in
       record {
-        skip = skip_shut_vain a.skip.now h.0;
-        cheap = skip_shut_cheap a.skip.now h.0;
+        skip = subst (λ (k : Key). is_skip_shut a.sets.now a.budget a.ignore k a.skip.now ≡ true) is h.0;
         ends = ends_passed unopened a.ends.now told h.1;
       }
-
--- a column where neither the skip nor an end can fit, within the budget, is passed over
-idle_ends : (a : Passing) (c : ℕ) (ps : List Pattern) → list_all (is_vain a c) ps ≡ true → list_all (is_cheap a.budget) ps ≡ true → list_all (is_end_passed a c) ps ≡ true
-idle_ends a c [] e h = refl
-idle_ends a c (p ∷ ps) e h =
-    let vain = both (is_vain a c p) (list_all (is_vain a c) ps) e in
-    let cheap = both (is_cheap a.budget p) (list_all (is_cheap a.budget) ps) h in
-    both_pass (is_end_passed a c p) (list_all (is_end_passed a c) ps)
-    (either_first _ (cannot_begin a.externals.now a.ignore p (slice_get a.line.now c)) (both_pass (is_vain a c p) (is_cheap a.budget p) vain.0 cheap.0)) (idle_ends a c ps vain.1 cheap.1)
-
-pub idle_passed : (a : Passing) (c : ℕ) → are_cheap a.budget a.skip.now a.ends.now ≡ true → is_idle a c ≡ true → IsPassedOver a c
-idle_passed a c few idle =
-    let vain = both (is_skip_vain a c a.skip.now) (list_all (is_vain a c) a.ends.now) idle in
-    let cheap = both (is_skip_cheap a.budget a.skip.now) (list_all (is_cheap a.budget) a.ends.now) few in
-    record { skip = vain.0; cheap = cheap.0; ends = idle_ends a c a.ends.now vain.1 cheap.1 }
 
 -- what stands before doesn't matter
 after_any : (sets : Sets) (budget : ℕ) (ignore : Bool) (next : Next) (skip : Option Pattern) (ends : List Pattern) (last : Last) →

@@ -22,45 +22,12 @@ use Rattle.region_ends.specs.Opening.{IsToldOf, begins_with, cannot_begin}
 abbrev pub fails : Passing → Key → Pattern → Bool
 fails a key pattern = is_futile (verdict a.sets.now a.ignore key pattern.tree)
 
--- with `lc` the pattern begins so many columns before, or not at all
-abbrev pub is_vain : Passing → ℕ → Pattern → Bool
-is_vain a c pattern =
-    nat_lt c pattern.lc || fails a (key_of a.sets.now a.line.now (c - pattern.lc)) pattern
-
-abbrev pub is_skip_vain : Passing → ℕ → Option Pattern → Bool
-is_skip_vain a c None = true
-is_skip_vain a c (Some pattern) = is_vain a c pattern
-
--- neither the skip nor an end can fit
-abbrev pub is_idle : Passing → ℕ → Bool
-is_idle a c = is_skip_vain a c a.skip.now && list_all (is_vain a c) a.ends.now
-
 -- ---- an attempt where the screen fails is within the budget
 
 abbrev pub is_cheap : ℕ → Pattern → Bool
 is_cheap budget pattern = not (nat_lt budget (failing_cost pattern.tree))
 
-abbrev pub is_skip_cheap : ℕ → Option Pattern → Bool
-is_skip_cheap budget None = true
-is_skip_cheap budget (Some pattern) = is_cheap budget pattern
-
-abbrev pub are_cheap : ℕ → Option Pattern → List Pattern → Bool
-are_cheap budget skip ends = is_skip_cheap budget skip && list_all (is_cheap budget) ends
-
 -- ---- a column that is passed over
-
--- an end can't fit, within the budget, or can't begin
-abbrev pub is_end_passed : Passing → ℕ → Pattern → Bool
-is_end_passed a c pattern =
-    is_vain a c pattern && is_cheap a.budget pattern
-    || cannot_begin a.externals.now a.ignore pattern (slice_get a.line.now c)
-
-pub record IsPassedOver (a : Passing) (c : ℕ) : Type 0 where
-  pub skip : is_skip_vain a c a.skip.now ≡ true
-  pub cheap : is_skip_cheap a.budget a.skip.now ≡ true
-  pub ends : list_all (is_end_passed a c) a.ends.now ≡ true
-
--- ---- what is kept of a region
 
 -- a pattern without `lc` fails at the columns with a key, within the budget
 abbrev pub is_shut : Sets → ℕ → Bool → Key → Pattern → Bool
@@ -71,6 +38,19 @@ is_shut sets budget ignore key pattern =
 abbrev pub is_skip_shut : Sets → ℕ → Bool → Key → Option Pattern → Bool
 is_skip_shut sets budget ignore key None = true
 is_skip_shut sets budget ignore key (Some pattern) = is_shut sets budget ignore key pattern
+
+-- an end can't fit, within the budget, or can't begin
+abbrev pub is_end_passed : Passing → ℕ → Pattern → Bool
+is_end_passed a c pattern =
+    is_shut a.sets.now a.budget a.ignore (key_of a.sets.now a.line.now c) pattern
+    || cannot_begin a.externals.now a.ignore pattern (slice_get a.line.now c)
+
+-- neither the skip nor an end can fit
+pub record IsPassedOver (a : Passing) (c : ℕ) : Type 0 where
+  pub skip : is_skip_shut a.sets.now a.budget a.ignore (key_of a.sets.now a.line.now c) a.skip.now ≡ true
+  pub ends : list_all (is_end_passed a c) a.ends.now ≡ true
+
+-- ---- what is kept of a region
 
 -- an end that begins with the text of an external is asked for by what stands there
 abbrev pub is_end_shut : Sets → ℕ → Bool → Key → Pattern → Bool
@@ -109,7 +89,6 @@ pub record IsOfRegion (a : Passing) : Type 0 where
   pub ignore : a.ignore ≡ (item_of a.items.now a.region).ignore
   pub skip : a.skip.now ≡ skip_of (item_of a.items.now a.region).kind
   pub ends : a.ends.now ≡ ends_of (item_of a.items.now a.region).kind
-  pub cheap : a.cheap ≡ true → are_cheap a.budget a.skip.now a.ends.now ≡ true
   pub opening : All (IsToldOf a.externals.now a.ignore a.opening) a.ends.now
 
 -- the line and the patterns are those of a search

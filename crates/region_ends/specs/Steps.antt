@@ -7,11 +7,13 @@ use Rattle.syn_base.specs.Looked.{hull_of, one_line}
 use Rattle.match_rules.specs.Ways.{Text, is_after}
 use Rattle.pattern_match.specs.declared.answer.Attempt.{Attempt}
 use Rattle.pattern_match.specs.declared.answer.Attempt.TheVariants as tried
+use Rattle.syntax_set.specs.Soundness.{AreSound}
 use Rattle.syntax_set.specs.declared.item.ItemKind.{ItemKind}
 use Rattle.paint_rules.specs.declared.RegionEnd.{RegionEnd}
 use Rattle.paint_rules.specs.Painted.{Painted, Done, looked_first, refusal_of}
 use Rattle.paint_rules.specs.Rules as rule
-use Rattle.paint_rules.specs.Rules.{Cause, Matched, place_at}
+use Rattle.paint_rules.specs.Rules.{Cause, Matched, item_of, place_at}
+use Rattle.paint_rules.specs.Close.{is_region}
 use Rattle.paint_rules.specs.ItemMatch.{columns_from}
 use Rattle.paint_rules.specs.EndInLine as rule_of
 use Rattle.paint_rules.specs.EndInLine.{Search, Skip, end_from}
@@ -24,6 +26,14 @@ use Rattle.region_ends.specs.Searches.{search_of, IsEnd}
 
 abbrev pub search_in : Searching → Text → Search
 search_in a text = search_of a.items.now a.matcher.sets.now a.matcher.budget text a.region a.externals.now a.from
+
+-- the items and the programs are sound together, and the region and the line are there
+pub record MaySearch (a : Searching) (text : Text) : Type 0 where
+  pub sound : AreSound a.items.now a.matcher.programs.now
+  pub item : a.region.0 < length a.items.now
+  pub region : is_region (item_of a.items.now a.region).kind ≡ true
+  pub present : a.from.line < length text
+  pub budget : 1 ≤ a.matcher.budget
 
 -- what each step stands on
 pub record IsReady (a : Searching) (text : Text) : Type 0 where

@@ -3,26 +3,21 @@ ghost use Rattle.std.specs.Prelude.{◌≡◌, ◌<◌, ◌≤◌, ◌^◌, ℕ,
 ghost use Rattle.char_class.specs.declared.sets.Sets.{Sets as SetsRules};
 ghost use Rattle.match_rules.specs.Ways.{Text};
 ghost use Rattle.syntax_set.specs.declared.added_item.AddedItem.{AddedItem};
-ghost use Rattle.syntax_set.specs.Soundness.{AreSound};
-ghost use Rattle.paint_rules.specs.Rules.{item_of, no_externals};
-ghost use Rattle.paint_rules.specs.Close.{is_region};
+ghost use Rattle.paint_rules.specs.Rules.{no_externals};
 ghost use Rattle.paint_rules.specs.EndInLine.{end_in_line};
 ghost use Rattle.region_ends.specs.Searches.{search_of, IsEnd};
 ghost use Rattle.region_ends.specs.Stretches.{answer_at};
 ghost use Rattle.region_ends.specs.EndMemo.{EndMemoStands, KnownStands, IsKept, TellsOf};
 ghost use Rattle.region_ends.specs.KeyAnswers.{AnswersStand};
 ghost use Rattle.region_ends.specs.Passing.{is_shut_at};
+ghost use Rattle.region_ends.specs.Steps.{MaySearch, search_in};
 
 use crate::key_answers::KeyAnswers;
-use crate::matching::Matcher;
 use crate::searching::{EndAnswer, Searched, Searching};
-use char_class::Sets;
 use paint_rules::RegionEnd;
-use pattern_match::Programs;
 use slots::Slots;
 use std::alloc::Global;
 use syn_base::{Externals, ItemId, Lines, Looked, Memory, Place};
-use syntax_set::ItemSet;
 
 /// Searches for the end of a region without externals, from the columns from `first` up to, and
 /// without, `to`, find this end, or none, and look at the line alone. Those from behind the end are
@@ -148,65 +143,44 @@ impl EndMemo {
     }
 }
 
-/// The same as `find_end`, with what is known of the line (`EndMemo::clear`) and, from line to line, of
-/// the columns at which no pattern of a region fits. `none` are nine empty texts (`Externals::none`):
-/// a search with other externals is made anew.
-pub fn find_end_by<T: Lines>(
-    alloc: Global,
-    items: &ItemSet,
-    programs: &Programs,
-    sets: &Sets,
-    lines: &T,
-    region: ItemId,
-    externals: &Externals,
-    none: &Externals,
-    from: Place,
-    memo: &mut EndMemo,
-    shut: &mut KeyAnswers,
-    budget: u64,
-) -> Result<EndAnswer, Memory>
-    requires sound { AreSound items.now programs.now }
-    requires item { region.0 < length items.now }
-    requires region { is_region (item_of items.now region).kind ≡ true }
-    requires present { from.line < length (T.lines lines.now) }
-    requires budget { 1 ≤ budget }
-    requires none { none.now ≡ no_externals }
-    requires memo { EndMemoStands items.now sets.now budget (T.lines lines.now) from.line
-        memo.old }
-    requires shut { AnswersStand (is_shut_at items.now sets.now budget) shut.old }
-    ensures end { IfOk result (λ a. IsEnd a region (end_in_line (search_of items.now sets.now budget
-        (T.lines lines.now) region externals.now from))) }
-    ensures memo { EndMemoStands items.now sets.now budget (T.lines lines.now) from.line
-        memo.new }
-    ensures shut { AnswersStand (is_shut_at items.now sets.now budget) shut.new }
-{
-    let matcher = Matcher {
-        alloc,
-        programs,
-        sets,
-        budget,
-    };
-    let searching = Searching {
-        matcher,
-        items,
-        region,
-        externals,
-        from,
-    };
-    if !externals.same(none) {
-        let searched = searching.anew(lines, shut)?;
-        return Ok(searched.answer);
+impl Searching<'_> {
+    /// The same as `find_end`, with what is known of the line (`EndMemo::clear`) and, from line to line,
+    /// of the columns at which no pattern of a region fits. `none` are nine empty texts
+    /// (`Externals::none`): a search with other externals is made anew.
+    pub fn find<T: Lines>(
+        &self,
+        lines: &T,
+        none: &Externals,
+        memo: &mut EndMemo,
+        shut: &mut KeyAnswers,
+    ) -> Result<EndAnswer, Memory>
+        requires may { MaySearch self.now (T.lines lines.now) }
+        requires none { none.now ≡ no_externals }
+        requires memo { EndMemoStands self.now.items.now self.now.matcher.sets.now
+            self.now.matcher.budget (T.lines lines.now) self.now.from.line memo.old }
+        requires shut { AnswersStand (is_shut_at self.now.items.now self.now.matcher.sets.now
+            self.now.matcher.budget) shut.old }
+        ensures end { IfOk result (λ a. IsEnd a self.now.region (end_in_line
+            (search_in self.now (T.lines lines.now)))) }
+        ensures memo { EndMemoStands self.now.items.now self.now.matcher.sets.now
+            self.now.matcher.budget (T.lines lines.now) self.now.from.line memo.new }
+        ensures shut { AnswersStand (is_shut_at self.now.items.now self.now.matcher.sets.now
+            self.now.matcher.budget) shut.new }
+    {
+        if !self.externals.same(none) {
+            return self.find_anew(lines, shut);
+        }
+        // The proof needs the bounds that this call tells of the text.
+        let _count = lines.len();
+        match memo.known(self.region, self.from) {
+            Some(end) => return Ok(answer_at(end, self.from.line)),
+            None => {}
+        }
+        let searched = self.anew(lines, shut)?;
+        match known_by(self.region, self.from.line, searched) {
+            Some(known) => memo.keep(known)?,
+            None => {}
+        }
+        Ok(searched.answer)
     }
-    // The proof needs the bounds that this call tells of the text.
-    let _count = lines.len();
-    match memo.known(region, from) {
-        Some(end) => return Ok(answer_at(end, from.line)),
-        None => {}
-    }
-    let searched = searching.anew(lines, shut)?;
-    match known_by(region, from.line, searched) {
-        Some(known) => memo.keep(known)?,
-        None => {}
-    }
-    Ok(searched.answer)
 }

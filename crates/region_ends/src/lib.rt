@@ -16,10 +16,10 @@ mod passing;
 mod searching;
 mod skips;
 
-pub use end_memo::{EndMemo, find_end_by};
+pub use end_memo::EndMemo;
 pub use keeping::{earlier_end, item_of, kept_end, kept_end_over};
 pub use key_answers::KeyAnswers;
 pub use matching::Matcher;
 pub use offsets::{earlier_place, later_place, moved_column, offset_place};
 pub use paint_rules::{RegionEnd, Which};
-pub use searching::{EndAnswer, find_end};
+pub use searching::{EndAnswer, Searching, find_end};

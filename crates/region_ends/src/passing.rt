@@ -5,7 +5,7 @@ ghost use Rattle.pattern_screens.specs.declared.key.Next.TheVariants as next;
 ghost use Rattle.pattern_screens.specs.Keys.{key_of, next_of};
 ghost use Rattle.region_ends.specs.KeyAnswers.{AnswersStand};
 ghost use Rattle.region_ends.specs.Opening.{is_unopened};
-ghost use Rattle.region_ends.specs.Passing.{are_cheap, are_shut, are_shut_anyway, are_shut_by, fails, is_cheap, is_end_shut, is_idle, is_shut, is_shut_at, is_skip_cheap, is_skip_shut, is_skip_vain, is_vain, IsOfRegion, IsPassedOver};
+ghost use Rattle.region_ends.specs.Passing.{are_shut, are_shut_anyway, are_shut_by, fails, is_cheap, is_end_shut, is_shut, is_shut_at, is_skip_shut, IsOfRegion, IsPassedOver};
 
 use crate::key_answers::KeyAnswers;
 use crate::opening::{Opening, begins_with, stands};
@@ -30,9 +30,6 @@ pub(crate) struct Passing<'a> {
     pub(crate) externals: &'a Externals,
     /// What the ends begin with that begin with the text of an external.
     pub(crate) opening: Opening,
-    /// Whether some pattern begins before the column (`lc`), and attempts where screens fail are
-    /// within the budget.
-    pub(crate) cheap: bool,
 }
 
 impl Passing<'_> {
@@ -41,54 +38,6 @@ impl Passing<'_> {
         ensures { result ≡ fails self.now key pattern.now }
     {
         screen(&pattern.tree, self.sets, self.ignore, key).is_futile()
-    }
-
-    /// Whether a pattern can't fit at a column with this key.
-    fn is_vain(&self, pattern: &Pattern, c: usize, key: Key) -> bool
-        requires column { c ≤ length self.now.line.now }
-        requires key { key ≡ key_of self.now.sets.now self.now.line.now c }
-        ensures { result ≡ is_vain self.now c pattern.now }
-    {
-        let before = pattern.lc as usize;
-        if before == 0 {
-            return self.fails(pattern, key);
-        }
-        c < before || self.fails(pattern, Key::of(self.sets, self.line, c - before))
-    }
-
-    /// Whether the skip can't.
-    fn is_skip_vain(&self, c: usize, key: Key) -> bool
-        requires column { c ≤ length self.now.line.now }
-        requires key { key ≡ key_of self.now.sets.now self.now.line.now c }
-        ensures { result ≡ is_skip_vain self.now c self.now.skip.now }
-    {
-        match self.skip {
-            None => true,
-            Some(pattern) => self.is_vain(pattern, c, key),
-        }
-    }
-
-    /// Whether none of some patterns can.
-    fn are_vain(&self, patterns: &[Pattern], c: usize, key: Key) -> bool
-        requires column { c ≤ length self.now.line.now }
-        requires key { key ≡ key_of self.now.sets.now self.now.line.now c }
-        ensures { result ≡ list_all (is_vain self.now c) patterns.now }
-    {
-        for pattern in patterns {
-            if !self.is_vain(pattern, c, key) {
-                return false;
-            }
-        }
-        true
-    }
-
-    /// Whether neither the skip nor an end can fit at a column.
-    fn is_idle(&self, c: usize) -> bool
-        requires { c ≤ length self.now.line.now }
-        ensures { result ≡ is_idle self.now c }
-    {
-        let key = Key::of(self.sets, self.line, c);
-        self.is_skip_vain(c, key) && self.are_vain(self.ends.as_slice(), c, key)
     }
 
     /// Whether a pattern can't fit at the columns with a key, whatever stands before them, and an
@@ -172,7 +121,24 @@ impl Passing<'_> {
         self.are_shut_anyway(Next::Code((number - KEYS) as u8))
     }
 
-    /// The same, by the answers that are kept. This one is kept too, if there is memory.
+    /// The same. The answer is kept, if there is memory.
+    fn are_shut_anew(&self, number: u16, answers: &mut KeyAnswers) -> bool
+        requires number { number < 777 + 256 }
+        requires of { IsOfRegion self.now }
+        requires answers { AnswersStand (is_shut_at self.now.items.now self.now.sets.now
+            self.now.budget) answers.old }
+        ensures answers { AnswersStand (is_shut_at self.now.items.now self.now.sets.now
+            self.now.budget) answers.new }
+        ensures shut { IsTrue result → are_shut_by self.now.sets.now self.now.budget
+            self.now.ignore number self.now.skip.now self.now.ends.now ≡ true }
+    {
+        let shut = self.are_shut_by(number);
+        match answers.keep(number, self.region, shut) {
+            Ok(()) | Err(Memory) => shut,
+        }
+    }
+
+    /// The same, by the answers that are kept.
     fn are_known_shut(&self, number: u16, answers: &mut KeyAnswers) -> bool
         requires number { number < 777 + 256 }
         requires of { IsOfRegion self.now }
@@ -184,28 +150,41 @@ impl Passing<'_> {
             self.now.ignore number self.now.skip.now self.now.ends.now ≡ true }
     {
         match answers.known(number, self.region) {
-            Some(shut) => return shut,
-            None => {}
-        }
-        let shut = self.are_shut_by(number);
-        match answers.keep(number, self.region, shut) {
-            Ok(()) | Err(Memory) => shut,
+            Some(shut) => shut,
+            None => self.are_shut_anew(number, answers),
         }
     }
 
-    /// The same where a character below 256 stands, whatever stands before.
-    fn are_known_anyway(&self, next: Next, answers: &mut KeyAnswers) -> bool
+    /// The same where a character of this code stands, whatever stands before.
+    fn is_told_of(&self, code: u8, answers: &mut KeyAnswers) -> bool
         requires of { IsOfRegion self.now }
         requires answers { AnswersStand (is_shut_at self.now.items.now self.now.sets.now
             self.now.budget) answers.old }
         ensures answers { AnswersStand (is_shut_at self.now.items.now self.now.sets.now
             self.now.budget) answers.new }
         ensures shut { IsTrue result → are_shut_anyway self.now.sets.now self.now.budget
-            self.now.ignore next self.now.skip.now self.now.ends.now ≡ true }
+            self.now.ignore (next.Code code) self.now.skip.now self.now.ends.now ≡ true }
     {
-        match next {
-            Next::Code(code) => self.are_known_shut(KEYS + code as u16, answers),
-            _ => false,
+        self.are_known_shut(KEYS + code as u16, answers)
+    }
+
+    /// The same of what stands at a column, if that is a character below 256: this costs least to ask.
+    fn is_told(&self, c: usize, answers: &mut KeyAnswers) -> bool
+        requires of { IsOfRegion self.now }
+        requires answers { AnswersStand (is_shut_at self.now.items.now self.now.sets.now
+            self.now.budget) answers.old }
+        ensures answers { AnswersStand (is_shut_at self.now.items.now self.now.sets.now
+            self.now.budget) answers.new }
+        ensures shut { IsTrue result → are_shut_anyway self.now.sets.now self.now.budget
+            self.now.ignore (next_of self.now.sets.now (slice_get self.now.line.now c))
+            self.now.skip.now self.now.ends.now ≡ true }
+    {
+        match self.line.get(c).copied() {
+            None => false,
+            Some(next) => match u8::try_from(next) {
+                Ok(code) => self.is_told_of(code, answers),
+                Err(_) => false,
+            },
         }
     }
 
@@ -233,72 +212,15 @@ impl Passing<'_> {
         if !self.is_unopened(c) {
             return false;
         }
+        if self.is_told(c, answers) {
+            return true;
+        }
         let key = Key::of(self.sets, self.line, c);
-        if self.are_known_anyway(key.next, answers) {
-            return true;
-        }
-        if self.are_known_shut(key.number(), answers) {
-            return true;
-        }
-        self.cheap && self.is_idle(c)
-    }
-
-    /// Whether a kept answer tells so of a character, by its code.
-    fn is_told_of(&self, code: u8, answers: &KeyAnswers) -> bool
-        requires of { IsOfRegion self.now }
-        requires answers { AnswersStand (is_shut_at self.now.items.now self.now.sets.now
-            self.now.budget) answers.now }
-        ensures { IsTrue result → are_shut_anyway self.now.sets.now self.now.budget self.now.ignore
-            (next.Code code) self.now.skip.now self.now.ends.now ≡ true }
-    {
-        match answers.known(KEYS + code as u16, self.region) {
-            Some(shut) => shut,
-            None => false,
-        }
-    }
-
-    /// Whether one does of what stands at a column.
-    fn is_told(&self, c: usize, answers: &KeyAnswers) -> bool
-        requires of { IsOfRegion self.now }
-        requires answers { AnswersStand (is_shut_at self.now.items.now self.now.sets.now
-            self.now.budget) answers.now }
-        ensures { IsTrue result → are_shut_anyway self.now.sets.now self.now.budget self.now.ignore
-            (next_of self.now.sets.now (slice_get self.now.line.now c)) self.now.skip.now
-            self.now.ends.now ≡ true }
-    {
-        match self.line.get(c).copied() {
-            None => false,
-            Some(next) => match u8::try_from(next) {
-                Ok(code) => self.is_told_of(code, answers),
-                Err(_) => false,
-            },
-        }
-    }
-
-    /// The first column from one on of which none does, or at which an end that begins with the text of
-    /// an external may begin, or the line's end. This costs little a column.
-    fn told_until(&self, c: usize, answers: &KeyAnswers) -> usize
-        requires column { c ≤ length self.now.line.now }
-        requires of { IsOfRegion self.now }
-        requires answers { AnswersStand (is_shut_at self.now.items.now self.now.sets.now
-            self.now.budget) answers.now }
-        ensures from { c ≤ result }
-        ensures within { result ≤ length self.now.line.now }
-        ensures idle { (k : ℕ) → c ≤ k → k < result → IsPassedOver self.now k }
-    {
-        for col in c..self.line.len() {
-            if !self.is_unopened(col) {
-                return col;
-            }
-            if !self.is_told(col, answers) {
-                return col;
-            }
-        }
-        self.line.len()
+        self.are_known_shut(key.number(), answers)
     }
 
     /// The first column from one on that isn't passed over; where all are, that behind the line's
-    /// end. Where attempts may be too costly none is.
+    /// end.
     pub(crate) fn idle_until(&self, c: usize, answers: &mut KeyAnswers) -> usize
         requires column { c ≤ length self.now.line.now }
         requires of { IsOfRegion self.now }
@@ -310,15 +232,13 @@ impl Passing<'_> {
         ensures within { result ≤ suc (length self.now.line.now) }
         ensures idle { (k : ℕ) → c ≤ k → k < result → IsPassedOver self.now k }
     {
-        let mut col = c;
-        'columns: while col <= self.line.len() {
-            let asked = self.told_until(col, answers);
-            if !self.passes(asked, answers) {
-                return asked;
+        let end = self.line.len() + 1;
+        for col in c..end {
+            if !self.passes(col, answers) {
+                return col;
             }
-            col = asked + 1;
         }
-        col
+        end
     }
 }
 
@@ -330,46 +250,4 @@ fn is_cheap(pattern: &Pattern, budget: u64) -> bool
         Some(cost) => cost <= budget,
         None => false,
     }
-}
-
-/// The same of the skip.
-fn is_skip_cheap(skip: &Option<Pattern>, budget: u64) -> bool
-    ensures { IsTrue result → is_skip_cheap budget skip.now ≡ true }
-{
-    match skip {
-        None => true,
-        Some(pattern) => is_cheap(pattern, budget),
-    }
-}
-
-/// The same of each of some patterns.
-fn are_all_cheap(patterns: &[Pattern], budget: u64) -> bool
-    ensures { IsTrue result → list_all (is_cheap budget) patterns.now ≡ true }
-{
-    for pattern in patterns {
-        if !is_cheap(pattern, budget) {
-            return false;
-        }
-    }
-    true
-}
-
-/// Whether a skip or one of some ends begins before the column at which it is tried (`lc`).
-pub(crate) fn looks_back(skip: &Option<Pattern>, ends: &List<Pattern>) -> bool {
-    let skips = match skip {
-        Some(pattern) => pattern.lc > 0,
-        None => false,
-    };
-    skips
-        || ends
-            .as_slice()
-            .iter()
-            .any(|pattern: &Pattern| -> bool { pattern.lc > 0 })
-}
-
-/// Whether attempts of a skip and of ends where their screens fail are within a budget.
-pub(crate) fn are_cheap(skip: &Option<Pattern>, ends: &List<Pattern>, budget: u64) -> bool
-    ensures { IsTrue result → are_cheap budget skip.now ends.now ≡ true }
-{
-    is_skip_cheap(skip, budget) && are_all_cheap(ends.as_slice(), budget)
 }

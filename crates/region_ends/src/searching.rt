@@ -16,14 +16,14 @@ ghost use Rattle.region_ends.specs.declared.searching.EndAnswer.TheVariants as a
 ghost use Rattle.region_ends.specs.KeyAnswers.{AnswersStand};
 ghost use Rattle.region_ends.specs.Passing.{is_shut_at, IsOfRegion, IsPassing};
 ghost use Rattle.region_ends.specs.Stretches.{IsFirst, IsSearched, TellsColumns};
-ghost use Rattle.region_ends.specs.Steps.{search_in, IsReady, EndsBefore, seen, IsTried, IsSkip, IsStep, GoesFurther, HoldsLine, StepHolds};
+ghost use Rattle.region_ends.specs.Steps.{search_in, IsReady, MaySearch, EndsBefore, seen, IsTried, IsSkip, IsStep, GoesFurther, HoldsLine, StepHolds};
 
 use crate::keeping::item_of;
 use crate::key_answers::KeyAnswers;
 use crate::matching::Matcher;
 use crate::offsets::{earlier_place, later_place, offset_place};
 use crate::opening::known_opening;
-use crate::passing::{Passing, are_cheap, looks_back};
+use crate::passing::Passing;
 use crate::skips::{SkipAnswer, skip_by};
 use char_class::Sets;
 use paint_rules::{RegionEnd, Which};
@@ -62,7 +62,7 @@ pub(crate) struct Searched {
 
 /// The search for the end of a region, from a place on.
 #[derive(Clone, Copy)]
-pub(crate) struct Searching<'a> {
+pub struct Searching<'a> {
     pub matcher: Matcher<'a>,
     pub items: &'a ItemSet,
     pub region: ItemId,
@@ -289,7 +289,6 @@ impl Searching<'_> {
             ends,
             externals: self.externals,
             opening: known_opening(ends.as_slice(), ignore, self.externals),
-            cheap: looks_back(skip, ends) && are_cheap(skip, ends, budget),
         }
     }
 
@@ -345,11 +344,7 @@ impl Searching<'_> {
         lines: &T,
         shut: &mut KeyAnswers,
     ) -> Result<Searched, Memory>
-        requires sound { AreSound self.now.items.now self.now.matcher.programs.now }
-        requires item { self.now.region.0 < length self.now.items.now }
-        requires region { is_region (item_of self.now.items.now self.now.region).kind ≡ true }
-        requires present { self.now.from.line < length (T.lines lines.now) }
-        requires budget { 1 ≤ self.now.matcher.budget }
+        requires may { MaySearch self.now (T.lines lines.now) }
         requires shut { AnswersStand (is_shut_at self.now.items.now self.now.matcher.sets.now
             self.now.matcher.budget) shut.old }
         ensures shut { AnswersStand (is_shut_at self.now.items.now self.now.matcher.sets.now
@@ -368,6 +363,21 @@ impl Searching<'_> {
             } => self.search(lines, skip, ends, shut),
             ItemKind::Keyword | ItemKind::Match(_) => unreachable!(),
         }
+    }
+
+    /// The same as `find_end`, with what is known, from line to line, of the columns at which no pattern
+    /// of a region fits.
+    pub fn find_anew<T: Lines>(&self, lines: &T, shut: &mut KeyAnswers) -> Result<EndAnswer, Memory>
+        requires may { MaySearch self.now (T.lines lines.now) }
+        requires shut { AnswersStand (is_shut_at self.now.items.now self.now.matcher.sets.now
+            self.now.matcher.budget) shut.old }
+        ensures shut { AnswersStand (is_shut_at self.now.items.now self.now.matcher.sets.now
+            self.now.matcher.budget) shut.new }
+        ensures end { IfOk result (λ a. IsEnd a self.now.region (end_in_line
+            (search_in self.now (T.lines lines.now)))) }
+    {
+        let searched = self.anew(lines, shut)?;
+        Ok(searched.answer)
     }
 }
 
@@ -405,7 +415,5 @@ pub fn find_end<T: Lines>(
         externals,
         from,
     };
-    let mut shut = KeyAnswers::new(alloc);
-    let searched = searching.anew(lines, &mut shut)?;
-    Ok(searched.answer)
+    searching.find_anew(lines, &mut KeyAnswers::new(alloc))
 }

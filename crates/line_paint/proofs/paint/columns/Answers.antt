@@ -81,21 +81,14 @@ quiet_until-requires-clause-held g c =
     (column h c.columns.c (standing_of c.columns.standing))
     (standing_of c.column.new.self) c.columns.invariant.held c.in-Ok.ensures.leads)
 
-pub show_quiet-requires-clause-quiet : goal.show_quiet-requires-clause-quiet
-show_quiet-requires-clause-quiet g c d a b =
+pub quiet_until-requires-clause-stands : goal.quiet_until-requires-clause-stands
+quiet_until-requires-clause-stands g c =
     let h = g.S.Site.here c.args.site.now in
-    let f = c.forget_tried.new.standing in
-    let P : List ItemId → Type 0 = λ ts. IsQuiet h f.looked d
-    (record {
-      stack = reverse (f.state).stack;
-      waiting = (f.state).waiting;
-      floor =
-          f.floor;
-      tried = reverse ts;
-      is_over = f.is_over;
-    }) in
-    subst P (sym (ap (λ (x : Standing). x.tried) c.forget_tried.ensures))
-    (c.in_ok-to.ensures.quiet d a b)
+    subst (λ (x : Standing). Stands (length h.rules.items) (c.columns.c + 1) x) (sym c.forget_tried.ensures)
+    (c.in-Ok.ensures.stands.0, c.in-Ok.ensures.stands.1, omega (arith, c.in-Ok.ensures.stands.2))
+
+pub quiet_until-requires-clause-none_tried : goal.quiet_until-requires-clause-none_tried
+quiet_until-requires-clause-none_tried g c = ap (λ (x : Standing). x.tried) c.forget_tried.ensures
 
 pub returns-in-Err-clause-painted : goal.returns-in-Err-clause-painted
 returns-in-Err-clause-painted g c =

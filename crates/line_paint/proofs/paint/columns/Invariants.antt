@@ -20,7 +20,7 @@ invariant-columns g l =
           (standing_of l.standing) l.spans);
       stands : Stands (length h.rules.items) l.c l.standing;
       held : Held (one_line (pos h.line)) (l.standing).looked;
-      memory : g.M.Picker.stands l.memory l.site;
+      memory : g.S.Site.stands l.site l.memory;
       within : l.c ≤ length (this_line h);
     }
 

@@ -1,22 +1,23 @@
 use Rattle.std.proofs.Common.{◌∙◌, sym, ap, subst, reverse}
 use Rattle.std.specs.Option.{ForSome}
 use Rattle.paint_rules.specs.Lists.{is_allowed_in}
+use Rattle.item_pick.specs.PartsSeen.{rules_by}
 use Rattle.item_pick.specs.Standing.{IsItem}
 use Rattle.item_pick.proofs.StackLaws.{allowed_within, container_fits, not_allowed}
 use Rattle.item_pick.proofs.picking.Picking.allowed.Goals as goal
 
 pub returns-then-is_body-clause-allowed : goal.returns-then-is_body-clause-allowed
 returns-then-is_body-clause-allowed g c i =
-    let r = g.S.Syntax.rules c.args.self.now.syntax.now in
+    let r = rules_by c.args.self.now.asked.now in
     allowed_within r (reverse c.args.stack.now) _ _ c.in-Some.ensures.0 (sym c.is_body.ensures ∙ c.if-is_body.true) i
     ∙ ap (λ o. is_allowed_in r o i) (sym c.container.ensures)
 
 pub returns-then-is_body-clause-fits : goal.returns-then-is_body-clause-fits
 returns-then-is_body-clause-fits g c =
-    let r = g.S.Syntax.rules c.args.self.now.syntax.now in
+    let r = rules_by c.args.self.now.asked.now in
     subst (λ o. ForSome o (IsItem r)) (sym c.container.ensures) (container_fits r (reverse c.args.stack.now) c.requires)
 
 pub returns-else-is_body-clause-allowed : goal.returns-else-is_body-clause-allowed
 returns-else-is_body-clause-allowed g c i =
-    let r = g.S.Syntax.rules c.args.self.now.syntax.now in
+    let r = rules_by c.args.self.now.asked.now in
     not_allowed r (reverse c.args.stack.now) _ _ c.in-Some.ensures.0 (sym c.is_body.ensures ∙ c.if-is_body.false) i

@@ -4,5 +4,5 @@ use Rattle.item_pick.proofs.picking.Picking.candidates.Goals as goal
 
 pub returns-clause-items : goal.returns-clause-items
 returns-clause-items g c =
-    candidates_there (length (g.S.Syntax.rules c.args.self.now.syntax.now).items) c.keywords.result.now c.args.word.now c.candidates.result
-    c.keywords.ensures.below c.candidates.ensures
+    let parts = c.args.self.now.asked.now.parts.now in
+    candidates_there (length parts.items.now) parts.keywords.now c.args.word.now c.candidates.result c.requires.words c.candidates.ensures

@@ -1,4 +1,5 @@
-use Rattle.std.proofs.Common.{◌≡◌, ◌∙◌, ◌-◌, suc, length, reverse, ap, arith}
+use Rattle.std.proofs.Common.{◌≡◌, ◌∙◌, ◌-◌, suc, length, reverse, arith}
+use Rattle.item_pick.specs.PartsSeen.{rules_by}
 use Rattle.item_pick.specs.Started.{start_if_free}
 use Rattle.item_pick.specs.Quiet.{item_numbered}
 use Rattle.item_pick.proofs.FoundLaws.{item_none, item_some, item_stops, items_skip}
@@ -8,20 +9,20 @@ use Rattle.item_pick.proofs.picking.Picking.first_start.Goals as goal
 
 pub items-init : goal.items-init
 items-init g c =
-    let f = start_if_free (g.S.Syntax.rules c.args.self.now.syntax.now) (g.T.Lines.lines c.args.self.now.lines.now) c.args.self.now.at c.args.self.now.floor (reverse c.args.self.now.tried.now) c.args.choice in
+    let f = start_if_free (rules_by c.args.self.now.asked.now) (g.T.Lines.lines c.args.self.now.lines.now) c.args.self.now.at c.args.self.now.floor (reverse c.args.self.now.tried.now) c.args.choice in
     let next = c.in_ok-left.ensures.next in
-    let count : c.added.result ≡ length (g.S.Syntax.rules c.args.self.now.syntax.now).items = c.added.ensures.number ∙ ap length c.items-2.ensures in
+    let count : c.added.result ≡ length (rules_by c.args.self.now.asked.now).items = c.added.ensures.number in
     record {
-      whole = items_skip f c.args.looked.now (length (g.S.Syntax.rules c.args.self.now.syntax.now).items) c.in_ok-left.left (c.added.result - c.in_ok-left.left) (omega (arith, next.behind, count))
+      whole = items_skip f c.args.looked.now (length (rules_by c.args.self.now.asked.now).items) c.in_ok-left.left (c.added.result - c.in_ok-left.left) (omega (arith, next.behind, count))
           (λ j a b. next.idle j a (omega (arith, b, count)));
       within = omega (arith, next.behind, count);
       held = c.requires.held;
-      memo = c.next_item.ensures.memo;
+      memory = c.next_item.ensures.memory;
     }
 
 pub items-preserved : goal.items-preserved
 items-preserved g c =
-    let f = start_if_free (g.S.Syntax.rules c.args.self.now.syntax.now) (g.T.Lines.lines c.args.self.now.lines.now) c.args.self.now.at c.args.self.now.floor (reverse c.args.self.now.tried.now) c.args.choice in
+    let f = start_if_free (rules_by c.args.self.now.asked.now) (g.T.Lines.lines c.args.self.now.lines.now) c.args.self.now.at c.args.self.now.floor (reverse c.args.self.now.tried.now) c.args.choice in
     let one : c.items.left ≡ suc (c.items.left - 1) = omega arith in
     let next = c.in_ok-left-in-None.ensures.next in
     let absent = rw c.in-None.is at c.in_ok-found.ensures.told in
@@ -33,12 +34,12 @@ items-preserved g c =
           next.idle);
       within = omega (arith, next.behind, c.items.invariant.within);
       held = held;
-      memo = c.next_item-in-None.ensures.memo;
+      memory = c.next_item-in-None.ensures.memory;
     }
 
 pub next_item-requires-in-None-clause-held : goal.next_item-requires-in-None-clause-held
 next_item-requires-in-None-clause-held g c =
-    let f = start_if_free (g.S.Syntax.rules c.args.self.now.syntax.now) (g.T.Lines.lines c.args.self.now.lines.now) c.args.self.now.at c.args.self.now.floor (reverse c.args.self.now.tried.now) c.args.choice in
+    let f = start_if_free (rules_by c.args.self.now.asked.now) (g.T.Lines.lines c.args.self.now.lines.now) c.args.self.now.at c.args.self.now.floor (reverse c.args.self.now.tried.now) c.args.choice in
     let absent = rw c.in-None.is at c.in_ok-found.ensures.told in
     still_held c.items.looked c.start_if_free.new.looked c.args.self.now.at.line (f (item_numbered (c.items.left - 1))) _ c.items.invariant.held absent
 
@@ -47,13 +48,13 @@ items-smaller g c = omega (arith, c.in_ok-left-in-None.ensures.next.behind, c.it
 
 pub returns-in-Some-clause-told : goal.returns-in-Some-clause-told
 returns-in-Some-clause-told g c =
-    let f = start_if_free (g.S.Syntax.rules c.args.self.now.syntax.now) (g.T.Lines.lines c.args.self.now.lines.now) c.args.self.now.at c.args.self.now.floor (reverse c.args.self.now.tried.now) c.args.choice in
+    let f = start_if_free (rules_by c.args.self.now.asked.now) (g.T.Lines.lines c.args.self.now.lines.now) c.args.self.now.at c.args.self.now.floor (reverse c.args.self.now.tried.now) c.args.choice in
     let next : c.items.left ≡ suc (c.items.left - 1) = omega arith in
     c.items.invariant.whole ∙ item_some f _ _ next _ _ _ (rw c.in-Some.is at c.in_ok-found.ensures.told)
 
 pub returns-in_err-found-clause-told : goal.returns-in_err-found-clause-told
 returns-in_err-found-clause-told g c =
-    let f = start_if_free (g.S.Syntax.rules c.args.self.now.syntax.now) (g.T.Lines.lines c.args.self.now.lines.now) c.args.self.now.at c.args.self.now.floor (reverse c.args.self.now.tried.now) c.args.choice in
+    let f = start_if_free (rules_by c.args.self.now.asked.now) (g.T.Lines.lines c.args.self.now.lines.now) c.args.self.now.at c.args.self.now.floor (reverse c.args.self.now.tried.now) c.args.choice in
     let next : c.items.left ≡ suc (c.items.left - 1) = omega arith in
     exits _ _ c.in_err-found.field-0.0 _ _ _ c.from_residual-in_err-found.ensures.1
     (stop_by _ _ _ c.items.invariant.whole (item_stops f _ _ next _ _ c.in_err-found.ensures.told))

@@ -1,4 +1,6 @@
 use Rattle.std.proofs.Common.{◌≡◌, ◌≤◌, length, reverse}
+use Rattle.item_pick.specs.Tables.{MemoryStands}
+use Rattle.item_pick.specs.PartsSeen.{rules_by}
 use Rattle.item_pick.specs.Started.{start_if_free}
 use Rattle.paint_rules.specs.Pick.{items_below}
 use Rattle.item_pick.specs.Screens.{HoldsLine}
@@ -8,14 +10,14 @@ use Rattle.item_pick.proofs.picking.Picking.first_start.Given as goal
 -- what is left are the items before
 abbrev pub invariant-items : goal.invariant-items
 invariant-items g l =
-    let r = g.S.Syntax.rules l.self.syntax.now in
+    let r = rules_by l.self.asked.now in
     let t = g.T.Lines.lines l.self.lines.now in
     let f = start_if_free r t l.self.at l.self.floor (reverse l.self.tried.now) l.choice in
     record {
       whole : found_after f l.fn.looked (items_below (length r.items)) ≡ found_after f l.looked (items_below l.left);
       within : l.left ≤ length r.items;
       held : HoldsLine l.looked l.self.at.line;
-      memo : g.M.Memo.stands l.memo l.self.syntax.now (g.T.Lines.lines l.self.lines.now) l.self.at.line;
+      memory : MemoryStands (rules_by l.self.asked.now) (g.T.Lines.lines l.self.lines.now) l.self.at.line l.memory;
     }
 
 abbrev pub decreases-items : goal.decreases-items

@@ -1,5 +1,6 @@
 use Rattle.std.proofs.Common.{◌≡◌, ◌≤◌, ◌+◌, ◌∙◌, suc, arith}
 use Rattle.paint_rules.specs.ItemMatch.{match_from}
+use Rattle.item_pick.specs.PartsSeen.{rules_by}
 use Rattle.item_pick.proofs.FoundLaws.{column_none, column_some, column_stops, skip_to}
 use Rattle.item_pick.proofs.MatchLaws.{match_begins, match_ends}
 use Rattle.item_pick.proofs.ToldLaws.{stop_by, told_stop}
@@ -8,24 +9,24 @@ use Rattle.item_pick.proofs.picking.Picking.item_match.Goals as goal
 
 pub columns-init : goal.columns-init
 columns-init g c =
-    let r = g.S.Syntax.rules c.args.self.now.syntax.now in
+    let r = rules_by c.args.self.now.asked.now in
     let t = g.T.Lines.lines c.args.self.now.lines.now in
     let next = c.in_ok-col.ensures.next in
     record {
-      whole = match_begins r t c.args.id c.args.pattern.now c.args.self.now.at c.last-last.result c.last-last.ensures.is c.columns_of-columns.result c.columns_of-columns.ensures
+      whole = match_begins r t c.args.by.now.item c.args.by.now.pattern.now c.args.self.now.at c.last-last.result c.last-last.ensures.is c.columns_of-columns.result c.columns_of-columns.ensures
           c.args.self.now.floor c.args.looked.now c.max-first.result (omega arith) (λ x h l within. omega (arith, h, l, within.0))
-          ∙ skip_to (match_from r t c.args.id c.args.pattern.now c.args.self.now.at) c.last-last.result c.args.looked.now c.max-first.result c.in_ok-col.col next.ahead
+          ∙ skip_to (match_from r t c.args.by.now.item c.args.by.now.pattern.now c.args.self.now.at) c.last-last.result c.args.looked.now c.max-first.result c.in_ok-col.col next.ahead
           (λ x a b h. next.idle x a b (omega (arith, h, c.last-last.ensures.is)));
       held = c.requires.held;
-      memo = c.next_column.ensures.memo;
+      memory = c.next_column.ensures.memory;
       from = next.ahead;
     }
 
 pub columns-preserved : goal.columns-preserved
 columns-preserved g c =
-    let r = g.S.Syntax.rules c.args.self.now.syntax.now in
+    let r = rules_by c.args.self.now.asked.now in
     let t = g.T.Lines.lines c.args.self.now.lines.now in
-    let f = match_from r t c.args.id c.args.pattern.now c.args.self.now.at in
+    let f = match_from r t c.args.by.now.item c.args.by.now.pattern.now c.args.self.now.at in
     let next = c.in_ok-col-in-Not.ensures.next in
     let absent = rw c.in-Not.is at c.in_ok-tried.ensures.told in
     let here : c.columns.col ≤ c.last-last.result = omega (arith, c.columns-test.true) in
@@ -37,15 +38,15 @@ columns-preserved g c =
           ∙ skip_to f c.last-last.result c.tried_from.new.looked (c.columns.col + 1) c.in_ok-col-in-Not.col next.ahead
           (λ x a b h. next.idle x a b (omega (arith, h, c.last-last.ensures.is))));
       held = held;
-      memo = c.next_column-in-Not.ensures.memo;
+      memory = c.next_column-in-Not.ensures.memory;
       from = omega (arith, next.ahead, c.columns.invariant.from);
     }
 
 pub next_column-requires-in-Not-clause-held : goal.next_column-requires-in-Not-clause-held
 next_column-requires-in-Not-clause-held g c =
-    let r = g.S.Syntax.rules c.args.self.now.syntax.now in
+    let r = rules_by c.args.self.now.asked.now in
     let t = g.T.Lines.lines c.args.self.now.lines.now in
-    let f = match_from r t c.args.id c.args.pattern.now c.args.self.now.at in
+    let f = match_from r t c.args.by.now.item c.args.by.now.pattern.now c.args.self.now.at in
     let absent = rw c.in-Not.is at c.in_ok-tried.ensures.told in
     still_held c.columns.looked c.tried_from.new.looked c.args.self.now.at.line (f c.columns.col) _ c.columns.invariant.held absent
 
@@ -65,8 +66,8 @@ returns-in_err-tried-clause-told g c =
 
 pub returns-clause-told : goal.returns-clause-told
 returns-clause-told g c =
-    let r = g.S.Syntax.rules c.args.self.now.syntax.now in
+    let r = rules_by c.args.self.now.asked.now in
     let t = g.T.Lines.lines c.args.self.now.lines.now in
     c.columns.invariant.whole
-    ∙ match_ends r t c.args.id c.args.pattern.now c.args.self.now.at c.last-last.result c.last-last.ensures.is c.columns_of-columns.result c.columns_of-columns.ensures
+    ∙ match_ends r t c.args.by.now.item c.args.by.now.pattern.now c.args.self.now.at c.last-last.result c.last-last.ensures.is c.columns_of-columns.result c.columns_of-columns.ensures
     _ c.columns.col (λ x h l within. omega (arith, h, l, within.1))

@@ -13,7 +13,7 @@ invariant-steps g l =
       whole : looked_first (Some (l.fn.self).looked) (closed h l.c (standing_of l.fn.self))
           ≡ looked_first (Some (l.self).looked) (closed_in l.left h l.c (standing_of l.self));
       stands : Stands (length h.rules.items) l.c l.self;
-      memory : g.M.Picker.stands l.memory l.site;
+      memory : g.S.Site.stands l.site l.memory;
     }
 
 abbrev pub decreases-steps : goal.decreases-steps

@@ -17,7 +17,7 @@ invariant-turns g l =
           (Some (l.self).looked) (turns l.left h l.c (standing_of l.self));
       stands : Stands (length h.rules.items) l.c l.self;
       held : Held (one_line (pos h.line)) (l.self).looked;
-      memory : g.M.Picker.stands l.memory l.site;
+      memory : g.S.Site.stands l.site l.memory;
     }
 
 abbrev pub decreases-turns : goal.decreases-turns

@@ -1,7 +1,7 @@
 use Rattle.std.proofs.Common.{◌∙◌, ap}
 use Rattle.std.specs.Prelude.{Some, Bool}
 use Rattle.region_ends.specs.Passing.{is_shut_at}
-use Rattle.region_ends.proofs.PassingLaws.{shut_by, shut_told}
+use Rattle.region_ends.proofs.PassingLaws.{shut_by}
 use Rattle.region_ends.proofs.passing.Passing.are_known_shut.Goals as goal
 
 pub returns-in-Some-clause-shut : goal.returns-in-Some-clause-shut
@@ -9,15 +9,3 @@ returns-in-Some-clause-shut c e =
     let a = c.args.self.now in
     shut_by a c.requires.of c.args.number
     (c.known.ensures (is_shut_at a.items.now a.sets.now a.budget) c.requires.answers (c.in-Some.is ∙ ap (λ (b : Bool). Some b) e))
-
-pub returns-in-Ok-clause-answers : goal.returns-in-Ok-clause-answers
-returns-in-Ok-clause-answers c =
-    let a = c.args.self.now in
-    c.keep.ensures (is_shut_at a.items.now a.sets.now a.budget) c.requires.answers
-    (λ e. shut_told a c.requires.of c.args.number (c.are_shut_by-shut.ensures e))
-
-pub returns-in-Ok-2-clause-answers : goal.returns-in-Ok-2-clause-answers
-returns-in-Ok-2-clause-answers c =
-    let a = c.args.self.now in
-    c.keep.ensures (is_shut_at a.items.now a.sets.now a.budget) c.requires.answers
-    (λ e. shut_told a c.requires.of c.args.number (c.are_shut_by-shut.ensures e))

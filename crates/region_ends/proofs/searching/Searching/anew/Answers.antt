@@ -26,5 +26,5 @@ returns-clause-columns g c = IfOk-weaker c.search.result _ _ (λ s is found e d 
     let late = search_in (record a { from = place_at a.from.line d }) text in
     let left : Painted Cause (Option RegionEnd) = looked_first (Some (one_line (pos a.from.line))) (end_from (search_in a text) kind (columns_from d (length (line_at text a.from.line))) d) in
     subst (λ (x : EndAnswer). IsEnd x a.region (end_in_line late)) (sym e)
-    (from_later a.items.now a.matcher.sets.now a.matcher.budget text a.region a.externals.now a.from d (omega (arith, low, known.from)) found c.requires.present reached
+    (from_later a.items.now a.matcher.sets.now a.matcher.budget text a.region a.externals.now a.from d (omega (arith, low, known.from)) found c.requires.may.present reached
     (subst (λ (x : EndAnswer). IsEnd x a.region left) e (known.same found e d low high)))) c.search.ensures.searched

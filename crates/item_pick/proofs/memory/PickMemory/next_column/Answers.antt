@@ -1,0 +1,57 @@
+use Rattle.std.proofs.Common.{arith, refl}
+use Rattle.item_pick.specs.PartsSeen.{rules_by}
+use Rattle.item_pick.proofs.FutileLaws.{futile_after, futile_by}
+use Rattle.item_pick.proofs.LineLaws.{barren_later}
+use Rattle.item_pick.proofs.TableLaws.{later_by, run_goes_on}
+use Rattle.item_pick.proofs.memory.PickMemory.next_column.Goals as goal
+
+pub returns-in_err-keep-clause-memory : goal.returns-in_err-keep-clause-memory
+returns-in_err-keep-clause-memory g c =
+    let p = c.args.picking.now in
+    let s = p.asked.now in
+    let r = rules_by s in
+    let t = g.T.Lines.lines p.lines.now in
+    let l = p.at.line in
+    let first = c.requires.start.first (omega (arith, c.if-start-ne0.false)) in
+    let entered = c.starts_nowhere.ensures.stands t l c.requires.memory in
+    let run = c.run_at-run.result in
+    let longer = run_goes_on r (futile_by s.parts.now.sets.now s.budget) (futile_after s.parts.now.sets.now s.budget) t l c.args.by.now.item c.args.by.now.pattern.now first run c.in_ok-to.to
+    c.run_at-run.ensures.tells.same (c.run_at-run.ensures.stands t l entered.line) (c.in_ok-to.ensures.missed t l entered.line) in
+    record { tables = c.first_open.ensures.stands; line = c.keep.ensures r t longer entered.line }
+
+pub returns-clause-memory : goal.returns-clause-memory
+returns-clause-memory g c =
+    let p = c.args.picking.now in
+    let s = p.asked.now in
+    let r = rules_by s in
+    let t = g.T.Lines.lines p.lines.now in
+    let l = p.at.line in
+    let first = c.requires.start.first (omega (arith, c.if-start-ne0.false)) in
+    let entered = c.starts_nowhere.ensures.stands t l c.requires.memory in
+    let run = c.run_at-run.result in
+    let longer = run_goes_on r (futile_by s.parts.now.sets.now s.budget) (futile_after s.parts.now.sets.now s.budget) t l c.args.by.now.item c.args.by.now.pattern.now first run c.in_ok-to.to
+    c.run_at-run.ensures.tells.same (c.run_at-run.ensures.stands t l entered.line) (c.in_ok-to.ensures.missed t l entered.line) in
+    record { tables = c.first_open.ensures.stands; line = c.keep.ensures r t longer entered.line }
+
+pub returns-clause-next : goal.returns-clause-next
+returns-clause-next g c =
+    let p = c.args.picking.now in
+    let s = p.asked.now in
+    let r = rules_by s in
+    let t = g.T.Lines.lines p.lines.now in
+    let l = p.at.line in
+    let first = c.requires.start.first (omega (arith, c.if-start-ne0.false)) in
+    let entered = c.starts_nowhere.ensures.stands t l c.requires.memory in
+    let run = c.run_at-run.result in
+    let longer = run_goes_on r (futile_by s.parts.now.sets.now s.budget) (futile_after s.parts.now.sets.now s.budget) t l c.args.by.now.item c.args.by.now.pattern.now first run c.in_ok-to.to
+    c.run_at-run.ensures.tells.same (c.run_at-run.ensures.stands t l entered.line) (c.in_ok-to.ensures.missed t l entered.line) in
+    later_by r t p.at c.args.by.now.item c.args.by.now.pattern.now first run c.args.col c.run_at-run.ensures.tells c.in_ok-to.to c.in_ok-to.ensures.from c.args.looked c.requires.held (c.if-not-holds.ensures refl) longer
+
+pub returns-then-branch-clause-next : goal.returns-then-branch-clause-next
+returns-then-branch-clause-next g c =
+    let p = c.args.picking.now in
+    let s = p.asked.now in
+    let r = rules_by s in
+    let t = g.T.Lines.lines p.lines.now in
+    barren_later r t p.at c.args.by.now.item (c.in_ok-starts_nowhere.ensures.nowhere c.if-branch.true t p.at.line c.requires.memory) c.requires.place.within c.args.looked c.requires.held
+    c.args.by.now.pattern.now c.requires.start.own.1 c.args.col c.max.result (omega (arith, c.max.ensures))
