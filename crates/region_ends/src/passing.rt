@@ -122,6 +122,7 @@ impl Passing<'_> {
     }
 
     /// The same. The answer is kept, if there is memory.
+    #[inline(never)]
     fn are_shut_anew(&self, number: u16, answers: &mut KeyAnswers) -> bool
         requires number { number < 777 + 256 }
         requires of { IsOfRegion self.now }
@@ -139,6 +140,7 @@ impl Passing<'_> {
     }
 
     /// The same, by the answers that are kept.
+    #[inline(always)]
     fn are_known_shut(&self, number: u16, answers: &mut KeyAnswers) -> bool
         requires number { number < 777 + 256 }
         requires of { IsOfRegion self.now }
@@ -156,6 +158,7 @@ impl Passing<'_> {
     }
 
     /// The same where a character of this code stands, whatever stands before.
+    #[inline(always)]
     fn is_told_of(&self, code: u8, answers: &mut KeyAnswers) -> bool
         requires of { IsOfRegion self.now }
         requires answers { AnswersStand (is_shut_at self.now.items.now self.now.sets.now
