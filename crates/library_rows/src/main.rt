@@ -21,6 +21,7 @@ mod links;
 mod new_items;
 mod outside;
 mod patterns;
+mod picks;
 mod printed;
 mod scripts;
 mod streams;
@@ -107,6 +108,7 @@ fn answer_inside(
         "page" => printed::page_of_line(alloc, arguments, answer),
         "collection" => patterns::collection(alloc, arguments, answer),
         "copy" => patterns::copied(alloc, arguments, answer),
+        "pick" => picks::of_none(alloc, arguments, answer),
         "items" => items::carry_out_all(alloc, arguments, answer),
         "reader" => streams::reader(arguments, answer),
         "source" => streams::source(alloc, arguments, answer),
