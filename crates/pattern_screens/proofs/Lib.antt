@@ -1,9 +1,9 @@
+pub mod Bounded
 pub mod Stands
 pub mod Taking
 pub mod StillAtoms
-pub mod StillParts
 pub mod LinedParts
-pub mod LooseLooks
+pub mod InVain
 pub mod Screened
 pub mod FirstScreens
 pub mod FailingLaws

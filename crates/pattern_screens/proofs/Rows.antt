@@ -1,5 +1,5 @@
 -- Worked rows: what screens say of patterns, and what their attempts do.
-use Rattle.std.specs.Prelude.{◌≡◌, ℕ, true, false, List, [], ◌∷◌, Some, None, codes, pos, refl}
+use Rattle.std.specs.Prelude.{◌≡◌, ℕ, Bool, true, false, List, [], ◌∷◌, Some, None, codes, pos, refl}
 use Rattle.char_class.specs.CharSet.{set_has, is_member}
 use Rattle.char_class.specs.Folds.{is_same, range_holds}
 use Rattle.char_class.specs.declared.sets.Sets.{Sets}
@@ -14,12 +14,10 @@ use Rattle.pattern_screens.specs.Behind.{behind_cost, is_cheap_behind}
 use Rattle.pattern_screens.specs.FirstAtoms.{first_cost}
 use Rattle.pattern_screens.specs.Following.{fails_after}
 use Rattle.pattern_screens.specs.Keys.{key_of}
-use Rattle.pattern_screens.specs.Screens.{verdict}
+use Rattle.pattern_screens.specs.Screens.{is_futile}
 use Rattle.pattern_screens.specs.Bounds.{most_cost}
 use Rattle.pattern_screens.specs.Rest.{rest_fails}
 use Rattle.pattern_screens.specs.Rooms.{room_of}
-use Rattle.pattern_screens.specs.declared.verdict.Verdict.{Verdict}
-use Rattle.pattern_screens.specs.declared.verdict.Verdict.TheVariants.{Passes, Fails, FailsSeeingBefore}
 
 abbrev ch : ℕ → Shape
 ch c = one (Char c)
@@ -31,43 +29,43 @@ letters = record { ident = codes "abcdefghijklmnopqrstuvwxyz"; keyword = codes "
 abbrev tree_of : Shape → PatternTree
 tree_of node = record { node = node; case = None; groups = 0; externals = 0; moves_start = false; line_end = false }
 
-abbrev screen : Shape → List ℕ → ℕ → Verdict
-screen node line col = verdict letters false (key_of letters line col) (tree_of node)
+abbrev screen : Shape → List ℕ → ℕ → Bool
+screen node line col = is_futile letters false (key_of letters line col) (tree_of node)
 
 -- `\(a\)\@1<!b` at the `c` of `cab`, and at its `b`
-pub behind_then_character : screen (seq (before (group (ch 97) 1) true (behind.Most 1)) (ch 98)) (codes "cab") 0 ≡ FailsSeeingBefore
+pub behind_then_character : screen (seq (before (group (ch 97) 1) true (behind.Most 1)) (ch 98)) (codes "cab") 0 ≡ false
 unfolding is_same set_has is_member range_holds
 behind_then_character = refl
 
-pub behind_and_taken : screen (seq (before (group (ch 97) 1) true (behind.Most 1)) (ch 98)) (codes "cab") 2 ≡ Passes
+pub behind_and_taken : screen (seq (before (group (ch 97) 1) true (behind.Most 1)) (ch 98)) (codes "cab") 2 ≡ false
 unfolding is_same set_has is_member range_holds
 behind_and_taken = refl
 
 -- `a*b` at the `c`: the head is passed over
-pub optional_head : screen (seq (repeat (ch 97) 0 None false) (ch 98)) (codes "cab") 0 ≡ Fails
+pub optional_head : screen (seq (repeat (ch 97) 0 None false) (ch 98)) (codes "cab") 0 ≡ true
 unfolding is_same set_has is_member range_holds
 optional_head = refl
 
-pub optional_head_taken : screen (seq (repeat (ch 97) 0 None false) (ch 98)) (codes "cab") 1 ≡ Passes
+pub optional_head_taken : screen (seq (repeat (ch 97) 0 None false) (ch 98)) (codes "cab") 1 ≡ false
 unfolding is_same set_has is_member range_holds
 optional_head_taken = refl
 
 -- `\<a` inside a word, and `^a` behind the first column
-pub inside_a_word : screen (seq (one WordStart) (ch 97)) (codes "cab") 1 ≡ Fails
+pub inside_a_word : screen (seq (one WordStart) (ch 97)) (codes "cab") 1 ≡ true
 unfolding is_same set_has is_member range_holds
 inside_a_word = refl
 
-pub behind_the_line_start : screen (seq (one LineStart) (ch 97)) (codes "cab") 1 ≡ Fails
+pub behind_the_line_start : screen (seq (one LineStart) (ch 97)) (codes "cab") 1 ≡ true
 unfolding is_same set_has is_member range_holds
 behind_the_line_start = refl
 
 -- `\(ab\)\@!a` at the `c`, where the look may go on
-pub look_that_may_go_on : screen (seq (ahead (seq (ch 97) (ch 98)) true) (ch 97)) (codes "cab") 0 ≡ Fails
+pub look_that_may_go_on : screen (seq (ahead (seq (ch 97) (ch 98)) true) (ch 97)) (codes "cab") 0 ≡ true
 unfolding is_same set_has is_member range_holds
 look_that_may_go_on = refl
 
 -- `\(\zs\|\%^\)\@=x`: the look ends at its first way, so whether the line before is looked at isn't told
-pub cut_look : screen (seq (ahead (or (one MatchStart) (one FileStart)) false) (ch 120)) (codes "cab") 1 ≡ Passes
+pub cut_look : screen (seq (ahead (or (one MatchStart) (one FileStart)) false) (ch 120)) (codes "cab") 1 ≡ false
 unfolding is_same set_has is_member range_holds
 cut_look = refl
 

@@ -1,9 +1,8 @@
 -- What an atom does at a column, where it takes nothing.
-use Rattle.std.proofs.Common.{◌≡◌, ℕ, zero, suc, ◌≤◌, inl, Bool, true, false, List, [], ◌∷◌, length, refl, sym, ap, ◌∙◌, arith, subst}
+use Rattle.std.proofs.Common.{◌≡◌, ℕ, zero, suc, ◌≤◌, Bool, true, false, List, [], ◌∷◌, length, refl, sym, ap, ◌∙◌, arith, subst}
 use Rattle.std.specs.Prelude.{Option, Some, None, pos, ◌&&◌, not, nat_lt, nat_eq, slice_get, if◌then◌else◌}
-use Rattle.std.proofs.lemmas.Int.{ints}
 use Rattle.std.proofs.lemmas.Bool.Decides.{nat_tests}
-use Rattle.std.proofs.lemmas.Option.{same_Some, none-some}
+use Rattle.std.proofs.lemmas.Option.{none-some}
 use Rattle.char_class.specs.Classes.{class_holds}
 use Rattle.char_class.specs.Folds.{is_same}
 use Rattle.char_class.specs.declared.sets.Sets.{Sets}
@@ -11,7 +10,7 @@ use Rattle.syn_base.specs.declared.looked.Looked.{Looked}
 use Rattle.syn_base.specs.declared.places.Place.{Place}
 use Rattle.syn_base.specs.Looked.{one_line}
 use Rattle.pattern_items.specs.declared.atom.Atom.{Atom}
-use Rattle.pattern_items.specs.declared.atom.Atom.TheVariants.{Char, Any, Is, Set, LineEnd, LineStart, LineStop, WordStart, WordStop, FileStart, FileStop, MatchStart, MatchStop, LineNumber, Ref, ExternalRef}
+use Rattle.pattern_items.specs.declared.atom.Atom.TheVariants.{Char, Any, Is, Set, LineEnd, LineStart, LineStop, WordStart, WordStop, MatchStart, MatchStop}
 use Rattle.match_rules.specs.Ways.{Context, Way, line_at, place, behind_character, behind_line_end}
 use Rattle.match_rules.specs.Atoms.{character_at, is_line_end, only_if, behind_if, behind_one, behind_one_or_end, fits, lines_looked, way_behind, keyword_at, keyword_before, keyword_in, has_keyword, turned_round}
 use Rattle.match_rules.specs.Collections.{collection_holds}
@@ -23,10 +22,9 @@ use Rattle.pattern_screens.specs.MayTake.{may_take, takes_end}
 use Rattle.pattern_screens.specs.Bounds.{atom_ways}
 use Rattle.pattern_screens.specs.declared.key.Key.{Key}
 use Rattle.pattern_screens.specs.declared.key.Next.TheVariants as next
-use Rattle.pattern_screens.specs.declared.still.Still.{Still}
-use Rattle.pattern_screens.specs.Screens.{still, at_file_start, unless, still_atom}
-use Rattle.pattern_screens.specs.ScreenLaw.{two_lines}
-use Rattle.pattern_screens.proofs.Stands.{Stands, Stands-bounds, Within}
+use Rattle.pattern_screens.specs.Screens.{still, unless, still_atom}
+use Rattle.pattern_screens.proofs.Bounded.{relaxed}
+use Rattle.pattern_screens.proofs.Stands.{LooksAt, Stands, Told, told, untold}
 use Rattle.pattern_screens.proofs.Taking.{not-taken}
 
 -- a place's key
@@ -90,54 +88,23 @@ column-key x number col h =
 
 -- ---- one tick
 
-dead-tick : (w : Way) (a : Atom) (o : Option Place) (l : Looked) → o ≡ None → l ≡ one_line (pos w.at.line) → Stands w.at (still false) 0 1 (Tick l ∷ behind_fit w a o)
+dead-tick : (w : Way) (a : Atom) (o : Option Place) (l : Looked) → o ≡ None → LooksAt w.at.line l → Stands w.at (still false) 0 1 (Tick l ∷ behind_fit w a o)
 dead-tick w a None l e h = record {
-  here = tt;
-  few = omega arith;
-  cheap = omega arith;
+  bounded = record { here = tt; few = omega arith; cheap = omega arith; seen = (h, tt) };
   none = λ _. refl;
   some = λ e. absurd (cc);
-  seen = (h, tt);
-  before = λ e. absurd (cc);
 }
 dead-tick w a (Some p) l e h = absurd (none-some p (sym e))
 
-tick-if : (w : Way) (a : Atom) (b c : Bool) → c ≡ b → (way_behind w w.at a).at ≡ w.at → Stands w.at (still b) 1 1 (Tick (one_line (pos w.at.line)) ∷ behind_fit w a (only_if c w.at))
-tick-if w a true true e h = record {
-  here = (h, tt);
-  few = omega arith;
-  cheap = omega arith;
+tick-if : (w : Way) (a : Atom) (b : Bool) → (way_behind w w.at a).at ≡ w.at → Stands w.at (still b) 1 1 (Tick (one_line (pos w.at.line)) ∷ behind_fit w a (only_if b w.at))
+tick-if w a true h = record {
+  bounded = record { here = (h, tt); few = omega arith; cheap = omega arith; seen = (refl, tt) };
   none = λ e. absurd (cc);
   some = λ e. omega arith;
-  seen = (refl, tt);
-  before = λ e. absurd (cc);
 }
-tick-if w a false false e h = Stands-bounds w.at (still false) 0 1 1 1 _ (omega arith) (omega arith) (dead-tick w a None (one_line (pos w.at.line)) refl refl)
-tick-if w a true false e h = absurd (cc)
-tick-if w a false true e h = absurd (cc)
-
-within-two : (line : ℕ) → Within line (two_lines line)
-within-two line = record { low = grind (arith, ints); high = grind (arith, ints); unnumbered = refl }
-
-file-tick : (w : Way) (l : Looked) (b c : Bool) → l ≡ two_lines w.at.line → (b ≡ false → c ≡ false) → Stands w.at (at_file_start b) 1 1 (Tick l ∷ behind_fit w FileStart (only_if c w.at))
-file-tick w l b true e h = record {
-  here = (refl, tt);
-  few = omega arith;
-  cheap = omega arith;
-  none = λ f. absurd (let k = h f in cc);
-  some = λ e. absurd (cc);
-  seen = (subst (Within w.at.line) (sym e) (within-two w.at.line), tt);
-  before = λ _. inl e;
-}
-file-tick w l b false e h = record {
-  here = tt;
-  few = omega arith;
-  cheap = omega arith;
-  none = λ e. refl;
-  some = λ e. absurd (cc);
-  seen = (subst (Within w.at.line) (sym e) (within-two w.at.line), tt);
-  before = λ _. inl e;
-}
+tick-if w a false h =
+    let dead = dead-tick w a None (one_line (pos w.at.line)) refl refl in
+    record { bounded = relaxed dead.bounded (omega arith) (omega arith); none = dead.none; some = dead.some }
 
 -- ---- what takes a character
 
@@ -157,10 +124,9 @@ without_end with_end test None h = refl
 without_end with_end test (Some c) h = h
 
 -- an atom that takes none of what stands here
-taking : (x : Context) (w : Way) (a : Atom) (t : Bool) (s : Still) → lines_looked x w a ≡ one_line (pos w.at.line) → (t ≡ false → fits x w a ≡ None) → unless t ≡ Some s → Stands w.at s 0 1 (tried x w a)
-taking x w a true s l f e = absurd (none-some s e)
-taking x w a false s l f e =
-    subst (λ r. Stands w.at r 0 1 (tried x w a)) (same_Some (still false) s e) (dead-tick w a (fits x w a) (lines_looked x w a) (f refl) l)
+taking : (x : Context) (w : Way) (a : Atom) (t : Bool) → LooksAt w.at.line (lines_looked x w a) → (t ≡ false → fits x w a ≡ None) → Told w.at (unless t) 0 1 (tried x w a)
+taking x w a true l f = untold
+taking x w a false l f = told (dead-tick w a (fits x w a) (lines_looked x w a) (f refl) l)
 
 and-ends : (a b c : Bool) → b ≡ c → c ≡ false → (a && b) ≡ false
 and-ends true b c e h = e ∙ h
@@ -189,40 +155,31 @@ none-taken : (x : Context) (p : Place) (key : Key) → IsKeyAt x p key → (a : 
 none-taken x p key k a h = not-taken x.sets x.ignore a (character_at x.text p) (ap (may_take x.sets x.ignore a) k.next ∙ h)
 
 -- an atom that goes by what stands beside it
-standing : (w : Way) (a : Atom) (b c : Bool) (s : Still) → c ≡ b → (way_behind w w.at a).at ≡ w.at → Some (still b) ≡ Some s →
-    Stands w.at s 1 1 (Tick (one_line (pos w.at.line)) ∷ behind_fit w a (only_if c w.at))
-standing w a b c s e h is =
-    subst (λ r. Stands w.at r 1 1 (Tick (one_line (pos w.at.line)) ∷ behind_fit w a (only_if c w.at))) (same_Some (still b) s is) (tick-if w a b c e h)
+standing : (w : Way) (a : Atom) (b c : Bool) → c ≡ b → (way_behind w w.at a).at ≡ w.at → Told w.at (Some (still b)) 1 1 (Tick (one_line (pos w.at.line)) ∷ behind_fit w a (only_if c w.at))
+standing w a b c e h = told (subst (λ c. Stands w.at (still b) 1 1 (Tick (one_line (pos w.at.line)) ∷ behind_fit w a (only_if c w.at))) (sym e) (tick-if w a b h))
 
-pub atom-stands : (x : Context) (w : Way) (key : Key) → IsKeyAt x w.at key → (a : Atom) (s : Still) → still_atom x.sets x.ignore key a ≡ Some s → Stands w.at s (atom_ways a) 1 (tried x w a)
-atom-stands x w key k (Char c) s e =
-    taking x w (Char c) (may_take x.sets x.ignore (Char c) key.next) s refl
-    (λ h. one-fails x w.at (λ d. is_same c d x.ignore) (none-taken x w.at key k (Char c) h)) e
-atom-stands x w key k (Any with_end) s e =
-    taking x w (Any with_end) (may_take x.sets x.ignore (Any with_end) key.next) s refl
-    (λ h. one-or-end-fails x w.at key k with_end (λ d. true) (none-taken x w.at key k (Any with_end) h)) e
-atom-stands x w key k (Is class negative with_end) s e =
-    taking x w (Is class negative with_end) (may_take x.sets x.ignore (Is class negative with_end) key.next) s refl
-    (λ h. one-or-end-fails x w.at key k with_end (λ d. turned_round negative (class_holds class d x.sets)) (none-taken x w.at key k (Is class negative with_end) h)) e
-atom-stands x w key k (Set ranges) s e =
-    taking x w (Set ranges) (may_take x.sets x.ignore (Set ranges) key.next) s refl
-    (λ h. one-or-end-fails x w.at key k ranges.line_end (λ d. collection_holds ranges d x.sets x.ignore) (none-taken x w.at key k (Set ranges) h)) e
-atom-stands x w key k LineEnd s e =
-    taking x w LineEnd (is_end key.next) s refl (λ h. ap (λ b. only_if b (behind_line_end w.at)) (line-ends x w.at key k h)) e
-atom-stands x w key k LineStart s e = standing w LineStart (is_first key.last) (nat_eq w.at.col 0) s k.first refl e
-atom-stands x w key k LineStop s e = standing w LineStop (is_end key.next) (nat_eq w.at.col (length (line_at x.text w.at.line))) s k.stop refl e
-atom-stands x w key k WordStart s e =
-    standing w WordStart (is_keyword x.sets key.next && not (is_after_keyword key.last)) (keyword_at x w.at && not (keyword_before x w.at)) s
-    (λ i. k.keyword i && not (k.after i)) refl e
-atom-stands x w key k WordStop s e =
-    standing w WordStop (is_after_keyword key.last && not (is_keyword x.sets key.next)) (keyword_before x w.at && not (keyword_at x w.at)) s
-    (λ i. k.after i && not (k.keyword i)) refl e
-atom-stands x w key k FileStart s e =
-    subst (λ r. Stands w.at r 1 1 (tried x w FileStart)) (same_Some (at_file_start (is_first key.last)) s e)
-    (file-tick w (lines_looked x w FileStart) (is_first key.last) (nat_eq w.at.line 0 && nat_eq w.at.col 0) refl (λ h. and-ends (nat_eq w.at.line 0) (nat_eq w.at.col 0) (is_first key.last) k.first h))
-atom-stands x w key k FileStop s e = absurd (none-some s e)
-atom-stands x w key k MatchStart s e = standing w MatchStart true true s refl refl e
-atom-stands x w key k MatchStop s e = standing w MatchStop true true s refl refl e
-atom-stands x w key k (LineNumber how number) s e = absurd (none-some s e)
-atom-stands x w key k (Ref number) s e = absurd (none-some s e)
-atom-stands x w key k (ExternalRef number) s e = absurd (none-some s e)
+pub atom-stands : (x : Context) (w : Way) (key : Key) → IsKeyAt x w.at key → (a : Atom) → Told w.at (still_atom x.sets x.ignore key a) (atom_ways false a) 1 (tried x w a)
+atom-stands x w key k (Char c) =
+    taking x w (Char c) (may_take x.sets x.ignore (Char c) key.next) refl
+    (λ h. one-fails x w.at (λ d. is_same c d x.ignore) (none-taken x w.at key k (Char c) h))
+atom-stands x w key k (Any with_end) =
+    taking x w (Any with_end) (may_take x.sets x.ignore (Any with_end) key.next) refl
+    (λ h. one-or-end-fails x w.at key k with_end (λ d. true) (none-taken x w.at key k (Any with_end) h))
+atom-stands x w key k (Is class negative with_end) =
+    taking x w (Is class negative with_end) (may_take x.sets x.ignore (Is class negative with_end) key.next) refl
+    (λ h. one-or-end-fails x w.at key k with_end (λ d. turned_round negative (class_holds class d x.sets)) (none-taken x w.at key k (Is class negative with_end) h))
+atom-stands x w key k (Set ranges) =
+    taking x w (Set ranges) (may_take x.sets x.ignore (Set ranges) key.next) refl
+    (λ h. one-or-end-fails x w.at key k ranges.line_end (λ d. collection_holds ranges d x.sets x.ignore) (none-taken x w.at key k (Set ranges) h))
+atom-stands x w key k LineEnd = taking x w LineEnd (is_end key.next) refl (λ h. ap (λ b. only_if b (behind_line_end w.at)) (line-ends x w.at key k h))
+atom-stands x w key k LineStart = standing w LineStart (is_first key.last) (nat_eq w.at.col 0) k.first refl
+atom-stands x w key k LineStop = standing w LineStop (is_end key.next) (nat_eq w.at.col (length (line_at x.text w.at.line))) k.stop refl
+atom-stands x w key k WordStart =
+    standing w WordStart (is_keyword x.sets key.next && not (is_after_keyword key.last)) (keyword_at x w.at && not (keyword_before x w.at))
+    (λ i. k.keyword i && not (k.after i)) refl
+atom-stands x w key k WordStop =
+    standing w WordStop (is_after_keyword key.last && not (is_keyword x.sets key.next)) (keyword_before x w.at && not (keyword_at x w.at))
+    (λ i. k.after i && not (k.keyword i)) refl
+atom-stands x w key k MatchStart = standing w MatchStart true true refl refl
+atom-stands x w key k MatchStop = standing w MatchStop true true refl refl
+atom-stands x w key k _ = untold

@@ -1,39 +1,20 @@
 -- What is known part by part is what is known of the whole.
-use Rattle.std.proofs.Common.{◌≡◌, Bool, true, false, refl, sym, ap}
-use Rattle.std.specs.Prelude.{Option, Some, None, ◌&&◌, ◌||◌, if◌then◌else◌}
+use Rattle.std.proofs.Common.{◌≡◌, Bool, true, false, refl, ap}
+use Rattle.std.specs.Prelude.{Option, Some, None, ◌&&◌, if◌then◌else◌}
+use Rattle.std.proofs.Math.Bool.{and_assoc, or_assoc}
 use Rattle.pattern_screens.specs.declared.still.Still.{Still}
 use Rattle.pattern_screens.specs.Screens.{then_still, or_still, mapped, both, in_turn}
-use Rattle.pattern_screens.proofs.StillParts.{same_still}
 
-and-assoc : (a b c : Bool) → (a && (b && c)) ≡ ((a && b) && c)
-and-assoc true b c = refl
-and-assoc false b c = refl
+then-assoc : (a b c : Still) → then_still (then_still a b) c ≡ then_still a (then_still b c)
+then-assoc a b c = λ i. record { reaches = and_assoc a.reaches b.reaches c.reaches i; surely = and_assoc a.surely b.surely c.surely i }
 
-or-assoc : (a b c : Bool) → (a || (b || c)) ≡ ((a || b) || c)
-or-assoc true b c = refl
-or-assoc false b c = refl
-
-sure-assoc : (p a q b c : Bool) → (p || (a && (q || (b && c)))) ≡ ((p || (a && q)) || ((a && b) && c))
-sure-assoc true a q b c = refl
-sure-assoc false true q b c = refl
-sure-assoc false false q b c = refl
-
-then-assoc : (a b c : Still) → then_still a (then_still b c) ≡ then_still (then_still a b) c
-then-assoc a b c =
-    same_still (then_still a (then_still b c)) (then_still (then_still a b) c)
-    (and-assoc a.reaches b.reaches c.reaches) (and-assoc a.surely b.surely c.surely) (or-assoc a.before b.before c.before)
-    (sure-assoc a.surely_before a.surely b.surely_before b.surely c.surely_before)
-
-or-still-assoc : (a b c : Still) → or_still a (or_still b c) ≡ or_still (or_still a b) c
-or-still-assoc a b c =
-    same_still (or_still a (or_still b c)) (or_still (or_still a b) c)
-    (or-assoc a.reaches b.reaches c.reaches) (or-assoc a.surely b.surely c.surely) (or-assoc a.before b.before c.before)
-    (or-assoc a.surely_before b.surely_before c.surely_before)
+or-still-assoc : (a b c : Still) → or_still (or_still a b) c ≡ or_still a (or_still b c)
+or-still-assoc a b c = λ i. record { reaches = or_assoc a.reaches b.reaches c.reaches i; surely = or_assoc a.surely b.surely c.surely i }
 
 turn-by : (s a : Still) (o : Option Still) (p q : Bool) → p ≡ true →
     (if (p && q) then mapped (then_still (then_still s a)) o else Some (then_still s a)) ≡ (if p then mapped (then_still s) (if q then mapped (then_still a) o else Some a) else Some s)
 turn-by s a None true true e = refl
-turn-by s a (Some b) true true e = ap (λ t. Some t) (sym (then-assoc s a b))
+turn-by s a (Some b) true true e = ap (λ t. Some t) (then-assoc s a b)
 turn-by s a o true false e = refl
 turn-by s a o false q e = absurd (cc)
 
@@ -44,7 +25,7 @@ turn-in-turn s a o e = turn-by s a o s.reaches a.reaches e
 -- and of a choice
 pub either-or : (s a : Still) (o : Option Still) → both or_still (Some (or_still s a)) o ≡ both or_still (Some s) (both or_still (Some a) o)
 either-or s a None = refl
-either-or s a (Some b) = ap (λ t. Some t) (sym (or-still-assoc s a b))
+either-or s a (Some b) = ap (λ t. Some t) (or-still-assoc s a b)
 
 pub ruleset turns = (turn-in-turn)
 

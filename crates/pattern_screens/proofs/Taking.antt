@@ -2,24 +2,24 @@
 use Rattle.std.proofs.Common.{◌≡◌, ℕ, ◌≤◌, Bool, true, false, List, [], ◌∷◌, refl, sym, ap, ◌∙◌, arith}
 use Rattle.std.specs.Prelude.{Option, Some, None, ◌||◌, ◌&&◌, not, nat_le, nat_lt, if◌then◌else◌}
 use Rattle.std.specs.List.{list_any}
+use Rattle.std.proofs.lemmas.Bool.{or_parts}
 use Rattle.std.proofs.lemmas.Bool.Decides.{nat_tests}
 use Rattle.char_class.specs.CharSet.{set_has}
 use Rattle.char_class.specs.Classes.{class_holds, is_digit, is_printable}
 use Rattle.char_class.specs.Folds.{is_same, range_holds}
 use Rattle.char_class.specs.declared.sets.Sets.{Sets}
 use Rattle.syn_base.specs.declared.class.Class.{Class}
-use Rattle.syn_base.specs.declared.class.Class.TheVariants.{White, Digit, Hex, Octal, Word, Head, Alpha, Lower, Upper, Ident, Keyword, File, Print, IdentNoDigit, KeywordNoDigit, FileNoDigit, PrintNoDigit}
+use Rattle.syn_base.specs.declared.class.Class.TheVariants.{Alpha, Lower, Upper, Ident, Keyword, File, Print, IdentNoDigit, KeywordNoDigit, FileNoDigit, PrintNoDigit}
 use Rattle.pattern_items.specs.declared.atom.Atom.{Atom}
-use Rattle.pattern_items.specs.declared.atom.Atom.TheVariants.{Char, Any, Is, Set, LineEnd, LineStart, LineStop, WordStart, WordStop, FileStart, FileStop, MatchStart, MatchStop, LineNumber, Ref, ExternalRef}
+use Rattle.pattern_items.specs.declared.atom.Atom.TheVariants.{Char, Is, Set}
 use Rattle.pattern_items.specs.declared.atom.SetPart.{SetPart}
-use Rattle.pattern_items.specs.declared.atom.SetPart.TheVariants.{Range, Of, Punct, Cntrl, Graph, Space}
+use Rattle.pattern_items.specs.declared.atom.SetPart.TheVariants.{Range, Of}
 use Rattle.match_rules.specs.Atoms.{turned_round}
 use Rattle.match_rules.specs.Collections.{class_in_set, part_holds}
 use Rattle.pattern_screens.specs.PlainAtoms.{plain_takes, takes}
 use Rattle.pattern_screens.specs.Keys.{next_of, other_of}
 use Rattle.pattern_screens.specs.declared.key.Next.TheVariants as next
 use Rattle.pattern_screens.specs.MayTake.{class_has_other, part_may_hold, may_take_other, takes_end, may_take}
-use Rattle.pattern_screens.proofs.Stands.{both_false}
 
 -- ---- characters from 256 on
 
@@ -35,15 +35,6 @@ all-printed : (c : ℕ) → 256 ≤ c → is_printable c ≡ true
 all-printed c h = grind (arith, nat_tests)
 
 other-class : (class : Class) (c : ℕ) (sets : Sets) → 256 ≤ c → class_holds class c sets ≡ class_has_other class (class_holds Keyword c sets)
-other-class White c sets h = grind (arith, nat_tests)
-other-class Digit c sets h = grind (arith, nat_tests)
-other-class Hex c sets h = grind (arith, nat_tests)
-other-class Octal c sets h = grind (arith, nat_tests)
-other-class Word c sets h = grind (arith, nat_tests)
-other-class Head c sets h = grind (arith, nat_tests)
-other-class Alpha c sets h = grind (arith, nat_tests)
-other-class Lower c sets h = grind (arith, nat_tests)
-other-class Upper c sets h = grind (arith, nat_tests)
 other-class Ident c sets h = same-sets sets.ident sets.keyword c h
 other-class Keyword c sets h = refl
 other-class File c sets h = same-sets sets.file sets.keyword c h
@@ -52,27 +43,12 @@ other-class IdentNoDigit c sets h = no-digit (set_has sets.ident c) c h ∙ same
 other-class KeywordNoDigit c sets h = no-digit (set_has sets.keyword c) c h
 other-class FileNoDigit c sets h = no-digit (set_has sets.file c) c h ∙ same-sets sets.file sets.keyword c h
 other-class PrintNoDigit c sets h = no-digit (is_printable c) c h ∙ all-printed c h
+other-class _ c sets h = grind (arith, nat_tests)
 
 other-in-set : (class : Class) (c : ℕ) (sets : Sets) (ignore : Bool) → 256 ≤ c → class_in_set class c sets ignore ≡ class_has_other class (class_holds Keyword c sets)
-other-in-set White c sets ignore h = other-class White c sets h
-other-in-set Digit c sets ignore h = other-class Digit c sets h
-other-in-set Hex c sets ignore h = other-class Hex c sets h
-other-in-set Octal c sets ignore h = other-class Octal c sets h
-other-in-set Word c sets ignore h = other-class Word c sets h
-other-in-set Head c sets ignore h = other-class Head c sets h
-other-in-set Alpha c sets ignore h = other-class Alpha c sets h
 other-in-set Lower c sets true h = other-class Alpha c sets h
-other-in-set Lower c sets false h = other-class Lower c sets h
 other-in-set Upper c sets true h = other-class Alpha c sets h
-other-in-set Upper c sets false h = other-class Upper c sets h
-other-in-set Ident c sets ignore h = other-class Ident c sets h
-other-in-set Keyword c sets ignore h = other-class Keyword c sets h
-other-in-set File c sets ignore h = other-class File c sets h
-other-in-set Print c sets ignore h = other-class Print c sets h
-other-in-set IdentNoDigit c sets ignore h = other-class IdentNoDigit c sets h
-other-in-set KeywordNoDigit c sets ignore h = other-class KeywordNoDigit c sets h
-other-in-set FileNoDigit c sets ignore h = other-class FileNoDigit c sets h
-other-in-set PrintNoDigit c sets ignore h = other-class PrintNoDigit c sets h
+other-in-set class c sets ignore h = other-class class c sets h
 
 low-range : (low high c : ℕ) (ignore : Bool) → 256 ≤ c → (ignore || nat_le 256 high) ≡ false → range_holds low high c ignore ≡ false
 unfolding range_holds
@@ -82,15 +58,12 @@ low-range low high c false h e = grind (arith, nat_tests, e)
 part-not : (part : SetPart) (c : ℕ) (sets : Sets) (ignore : Bool) → 256 ≤ c → part_may_hold (class_holds Keyword c sets) ignore part ≡ false → part_holds part c sets ignore ≡ false
 part-not (Range low high) c sets ignore h e = low-range low high c ignore h e
 part-not (Of class) c sets ignore h e = other-in-set class c sets ignore h ∙ e
-part-not Punct c sets ignore h e = grind (arith, nat_tests)
-part-not Cntrl c sets ignore h e = grind (arith, nat_tests)
-part-not Graph c sets ignore h e = grind (arith, nat_tests)
-part-not Space c sets ignore h e = grind (arith, nat_tests)
+part-not _ c sets ignore h e = grind (arith, nat_tests)
 
 parts-not : (parts : List SetPart) (c : ℕ) (sets : Sets) (ignore : Bool) → 256 ≤ c → list_any (part_may_hold (class_holds Keyword c sets) ignore) parts ≡ false → list_any (λ part. part_holds part c sets ignore) parts ≡ false
 parts-not [] c sets ignore h e = refl
 parts-not (part ∷ parts) c sets ignore h e =
-    let k = both_false (part_may_hold (class_holds Keyword c sets) ignore part) (list_any (part_may_hold (class_holds Keyword c sets) ignore) parts) e in
+    let k = or_parts (part_may_hold (class_holds Keyword c sets) ignore part) (list_any (part_may_hold (class_holds Keyword c sets) ignore) parts) e in
     λ i. part-not part c sets ignore h k.0 i || parts-not parts c sets ignore h k.1 i
 
 low-character : (d c : ℕ) (ignore : Bool) → 256 ≤ c → (ignore || nat_le 256 d) ≡ false → is_same d c ignore ≡ false
@@ -104,23 +77,11 @@ collection-not false any e h = h
 
 other-not : (sets : Sets) (ignore : Bool) (a : Atom) (c : ℕ) → 256 ≤ c → may_take_other (class_holds Keyword c sets) ignore a ≡ false → plain_takes sets ignore a c ≡ false
 other-not sets ignore (Char d) c h e = low-character d c ignore h e
-other-not sets ignore (Any with_end) c h e = absurd (cc)
 other-not sets ignore (Is class negative with_end) c h e = ap (turned_round negative) (other-class class c sets h) ∙ e
 other-not sets ignore (Set ranges) c h e =
-    let k = both_false ranges.not (list_any (part_may_hold (class_holds Keyword c sets) ignore) ranges.parts) e in
+    let k = or_parts ranges.not (list_any (part_may_hold (class_holds Keyword c sets) ignore) ranges.parts) e in
     collection-not ranges.not (list_any (λ part. part_holds part c sets ignore) ranges.parts) k.0 (parts-not ranges.parts c sets ignore h k.1)
-other-not sets ignore LineEnd c h e = absurd (cc)
-other-not sets ignore LineStart c h e = absurd (cc)
-other-not sets ignore LineStop c h e = absurd (cc)
-other-not sets ignore WordStart c h e = absurd (cc)
-other-not sets ignore WordStop c h e = absurd (cc)
-other-not sets ignore FileStart c h e = absurd (cc)
-other-not sets ignore FileStop c h e = absurd (cc)
-other-not sets ignore MatchStart c h e = absurd (cc)
-other-not sets ignore MatchStop c h e = absurd (cc)
-other-not sets ignore (LineNumber how number) c h e = absurd (cc)
-other-not sets ignore (Ref number) c h e = absurd (cc)
-other-not sets ignore (ExternalRef number) c h e = absurd (cc)
+other-not sets ignore _ c h e = absurd (cc)
 
 -- ---- what stands at a column
 

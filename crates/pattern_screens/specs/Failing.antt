@@ -4,13 +4,13 @@ use Rattle.char_class.specs.declared.sets.Sets.{Sets}
 use Rattle.vim_pattern.specs.Tree.{PatternTree}
 use Rattle.pattern_screens.specs.Bounds.{failing_cost}
 use Rattle.pattern_screens.specs.Keys.{is_first, key_numbered}
-use Rattle.pattern_screens.specs.Screens.{is_futile, verdict}
+use Rattle.pattern_screens.specs.Screens.{is_futile}
 use Rattle.pattern_screens.specs.declared.key.Key.{Key}
 
 -- at a column with this key
 abbrev pub fails : Sets → ℕ → Bool → Key → PatternTree → Bool
 fails sets budget ignore key tree =
-    is_futile (verdict sets ignore key tree) && not (nat_lt budget (failing_cost tree))
+    is_futile sets ignore key tree && not (nat_lt budget (failing_cost tree))
 
 -- at a column whose key has this number; by a number that is none of a key nothing is known
 abbrev pub fails_at : Sets → ℕ → Bool → ℕ → PatternTree → Bool

@@ -1,10 +1,7 @@
--- Parts that stay in their line and look at it alone, whatever they take, and that take few turns:
--- how many ways and ticks they have at most.
+-- Parts that stay in their line and look at it alone, whatever they take, and that take few turns.
 use Rattle.std.specs.Prelude.{ℕ, zero, suc, ◌+◌, ◌*◌, Bool, true, false, ◌&&◌, not, nat_le, Option, Some, None}
 use Rattle.pattern_items.specs.declared.atom.Atom.{Atom}
 use Rattle.pattern_items.specs.declared.atom.Atom.TheVariants.{LineStart, LineStop, WordStart, WordStop, MatchStart, MatchStop}
-use Rattle.pattern_items.specs.declared.item.Behind.{Behind}
-use Rattle.pattern_items.specs.declared.item.Behind.TheVariants as behind
 use Rattle.vim_pattern.specs.Shape.{Shape, empty, one, seq, or, and, group, external, repeat, ahead, before, whole}
 use Rattle.match_rules.specs.Counts.{is_spent}
 use Rattle.pattern_screens.specs.PlainAtoms.{is_plain}
@@ -65,37 +62,3 @@ chain_cost ways cost (suc turns) = cost + ways * chain_cost ways cost turns
 abbrev pub most_turns : Option ℕ → ℕ
 most_turns None = 0
 most_turns (Some most) = most
-
-abbrev pub any_ways : Shape → ℕ
-any_ways (seq a b) = any_ways a * any_ways b
-any_ways (or a b) = any_ways a + any_ways b
-any_ways (and a b) = 1 * any_ways b
-any_ways (group part number) = any_ways part
-any_ways (external part number) = any_ways part
-any_ways (repeat part least most lazy) =
-    chain_ways (any_ways part) (suc (most_turns most))
-any_ways _ = 1
-
-abbrev pub any_cost : Shape → ℕ
-any_cost empty = 0
-any_cost (one a) = 1
-any_cost (seq a b) = any_cost a + any_ways a * any_cost b
-any_cost (or a b) = any_cost a + any_cost b
-any_cost (and a b) = any_cost a + 1 * any_cost b
-any_cost (group part number) = any_cost part
-any_cost (external part number) = any_cost part
-any_cost (repeat part least most lazy) =
-    chain_cost (any_ways part) (any_cost part) (suc (most_turns most))
-any_cost (ahead part negative) = any_cost part
-any_cost (before part negative limit) = any_cost part
-any_cost (whole part) = any_cost part
-
--- a look behind from so many places at most
-abbrev pub is_near : Behind → Bool
-is_near behind.Any = false
-is_near (behind.Most limit) = true
-
--- from how many places it tries its part
-abbrev pub most_starts : Behind → ℕ
-most_starts behind.Any = 0
-most_starts (behind.Most limit) = limit + 1

@@ -1,6 +1,5 @@
 -- Where a screen fails at a column of a line, in each text with that line an attempt from there has
--- no way, its cost is within the bound, and it looks at exactly that line, or at it and the line
--- before.
+-- no way, its cost is within the bound, and it looks at exactly that line.
 use Rattle.std.specs.Prelude.{◌≡◌, ℕ, ◌≤◌, pos, ◌-ℤ◌, Bool, true, false, None, length, if◌then◌else◌}
 use Rattle.syn_base.specs.declared.looked.Looked.{Looked}
 use Rattle.syn_base.specs.declared.places.Place.{Place}
@@ -10,10 +9,8 @@ use Rattle.vim_pattern.specs.Tree.{PatternTree}
 use Rattle.match_rules.specs.Ways.{Context, place, line_at}
 use Rattle.match_rules.specs.Attempt.{Answer, attempt, lines_of}
 use Rattle.pattern_screens.specs.declared.key.Key.{Key}
-use Rattle.pattern_screens.specs.declared.verdict.Verdict.{Verdict}
-use Rattle.pattern_screens.specs.declared.verdict.Verdict.TheVariants.{Passes, Fails, FailsSeeingBefore}
 use Rattle.pattern_screens.specs.Keys.{key_of}
-use Rattle.pattern_screens.specs.Screens.{verdict}
+use Rattle.pattern_screens.specs.Screens.{is_futile}
 use Rattle.pattern_screens.specs.Bounds.{failing_cost}
 
 -- a line and the one before
@@ -30,22 +27,16 @@ pub record IsInVain (start : Place) (bound : ℕ) (before : Bool) (answer : Answ
     pub cost : answer.cost ≤ bound
     pub looked : lines_of start answer ≡ lines_seen before start.line
 
--- what a verdict says of an attempt
-abbrev pub IsVerdict : Verdict → Place → ℕ → Answer → Type 0
-IsVerdict Passes start bound answer = Unit {0}
-IsVerdict Fails start bound answer = IsInVain start bound false answer
-IsVerdict FailsSeeingBefore start bound answer = IsInVain start bound true answer
-
--- the law at the columns with a key
-abbrev pub IsSoundAt : PatternTree → Sets → Bool → Key → Verdict → Type 0
-IsSoundAt tree sets ignore key told =
-    (x : Context) (line col : ℕ) → x.sets ≡ sets → x.ignore ≡ ignore →
+-- the law at the columns with a key, where this says whether an attempt there is known to fail
+abbrev pub IsSoundAt : PatternTree → Sets → Bool → Key → Bool → Type 0
+IsSoundAt tree sets ignore key futile =
+    (x : Context) (line col : ℕ) → futile ≡ true → x.sets ≡ sets → x.ignore ≡ ignore →
     col ≤ length (line_at x.text line) →
     key_of sets (line_at x.text line) col ≡ key →
-    IsVerdict told (place line col) (failing_cost tree) (attempt tree x (place line col))
+    IsInVain (place line col) (failing_cost tree) false (attempt tree x (place line col))
 
 abbrev pub AreSound : Type 0
 AreSound =
     (tree : PatternTree) (x : Context) (line col : ℕ) → col ≤ length (line_at x.text line) →
-    IsVerdict (verdict x.sets x.ignore (key_of x.sets (line_at x.text line) col) tree)
-    (place line col) (failing_cost tree) (attempt tree x (place line col))
+    is_futile x.sets x.ignore (key_of x.sets (line_at x.text line) col) tree ≡ true →
+    IsInVain (place line col) (failing_cost tree) false (attempt tree x (place line col))

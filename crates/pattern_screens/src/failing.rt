@@ -4,8 +4,8 @@ ghost use Rattle.pattern_screens.specs.Failing.{fails, fails_at, FailsPastFirst}
 ghost use Rattle.pattern_screens.specs.Keys.{is_first, key_numbered};
 
 use crate::bounds::failing_cost;
+use crate::futile::is_futile;
 use crate::key::{KEYS, Key, is_first};
-use crate::verdict::screen;
 use char_class::Sets;
 use vim_pattern::Tree;
 
@@ -16,7 +16,7 @@ pub fn fails(tree: &Tree, sets: &Sets, ignore: bool, key: Key, budget: u64) -> b
     ensures { IsTrue result → fails sets.now budget ignore key tree.now ≡ true }
 {
     match failing_cost(tree) {
-        Some(cost) => cost <= budget && screen(tree, sets, ignore, key).is_futile(),
+        Some(cost) => cost <= budget && is_futile(tree, sets, ignore, key),
         None => false,
     }
 }

@@ -17,7 +17,7 @@ mod bounds;
 mod failing;
 mod first;
 mod following;
-mod joined;
+mod futile;
 mod key;
 mod lined;
 mod near_lines;
@@ -26,7 +26,6 @@ mod rest;
 mod rooms;
 mod seen;
 mod still;
-mod verdict;
 
 pub use atoms::part_has;
 pub use behind::{begins_behind, longest_behind};
@@ -34,15 +33,14 @@ pub use bounds::failing_cost;
 pub use failing::{fails, fails_at, fails_past_first};
 pub use first::screen_cost;
 pub use following::{fails_after, takes_first};
+pub use futile::is_futile;
 pub use key::{KEYS, Key, Last, Next, number_line};
 pub use lined::is_spent;
 pub use near_lines::{are_within, two_lines};
 pub use rest::rest_fails;
-pub use verdict::{Verdict, screen};
 
-/// Where the verdict of a screen isn't that it passes, an attempt has no way, its cost is within
-/// the pattern's bound, and it looks at exactly its line, or at it and the line before, as the
-/// verdict says.
+/// Where the screen of a pattern says so, an attempt has no way, its cost is within the pattern's bound,
+/// and it looks at exactly its line.
 pub fn screens_are_sound()
     ensures { AreSound }
 {}

@@ -2,10 +2,10 @@
 ghost use Rattle.std.specs.Prelude.{◌≡◌};
 ghost use Rattle.vim_pattern.specs.Shape.{bare};
 ghost use Rattle.match_rules.specs.Counts.{is_spent};
-ghost use Rattle.pattern_screens.specs.Lined.{is_few, is_lined, is_lined_atom, is_near, tries_first};
+ghost use Rattle.pattern_screens.specs.Lined.{is_few, is_lined, is_lined_atom, tries_first};
 
 use crate::atoms::is_plain;
-use pattern_items::{Atom, Behind};
+use pattern_items::Atom;
 use vim_pattern::Node;
 
 /// Whether a part stays in its line and takes few turns, whatever it takes.
@@ -87,13 +87,6 @@ pub(crate) fn is_few(most: Option<u32>) -> bool
         Some(most) => most <= 1000,
         None => false,
     }
-}
-
-/// Whether a look behind has a limit.
-pub(crate) fn is_near(limit: Behind) -> bool
-    ensures { result ≡ is_near limit }
-{
-    matches!(limit, Behind::Most(_))
 }
 
 /// Whether a count takes no turn.

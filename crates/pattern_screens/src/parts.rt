@@ -5,13 +5,10 @@ ghost use Rattle.pattern_screens.specs.Screens.{both, in_turn, or_maybe, or_stil
 ghost use Rattle.pattern_screens.specs.Lined.{is_lined};
 
 use crate::atoms::may_take;
-use crate::joined::{
-    at_file_start, behind_here, cut, maybe, or_still, still, stops, then_still, turned, unless,
-};
 use crate::key::{Key, is_after_keyword, is_end, is_first, is_keyword};
-use crate::lined::{is_lined, is_near, is_spent, tries_first};
+use crate::lined::{is_lined, is_spent};
 use crate::seen::By;
-use crate::still::Still;
+use crate::still::{Still, unless};
 use pattern_items::Atom;
 use vim_pattern::Node;
 
@@ -21,7 +18,7 @@ pub(crate) fn still_of(node: &Node, by: &By, key: Key) -> Option<Still>
     ensures { result ≡ still_of by.now.sets.now by.now.ignore key (bare node.now) }
 {
     match node {
-        Node::Empty => Some(still(true)),
+        Node::Empty => Some(Still::new(true)),
         Node::One(atom) => still_atom(atom, by, key),
         Node::Seq(a, b) => {
             let first = still_of(a, by, key)?;
@@ -35,8 +32,7 @@ pub(crate) fn still_of(node: &Node, by: &By, key: Key) -> Option<Still>
             let first = still_look(a, still_of(a, by, key), false)?;
             still_behind(first, b, by, key)
         }
-        Node::Group(a, _) => still_of(a, by, key),
-        Node::External(a, _) => still_of(a, by, key),
+        Node::Group(a, _) | Node::External(a, _) | Node::Whole(a) => still_of(a, by, key),
         Node::Repeat {
             part,
             least,
@@ -44,24 +40,13 @@ pub(crate) fn still_of(node: &Node, by: &By, key: Key) -> Option<Still>
             lazy: _,
         } => {
             if is_spent(*most) {
-                return Some(still(true));
+                return Some(Still::new(true));
             }
             let part = still_of(part, by, key)?;
-            Some(if *least == 0 { stops(part) } else { part })
+            Some(if *least == 0 { Still::new(true) } else { part })
         }
         Node::Ahead { part, not } => still_look(part, still_of(part, by, key), *not),
-        Node::Before {
-            part,
-            not: _,
-            limit,
-        } => {
-            if is_near(*limit) && is_lined(part) {
-                Some(behind_here(tries_first(part)))
-            } else {
-                None
-            }
-        }
-        Node::Whole(a) => Some(cut(still_of(a, by, key)?)),
+        Node::Before { .. } => None,
     }
 }
 
@@ -77,14 +62,14 @@ fn still_behind(first: Still, node: &Node, by: &By, key: Key) -> Option<Still>
     while known.reaches {
         match rest {
             Node::Seq(a, b) => {
-                known = then_still(known, still_of(a, by, key)?);
+                known = known.then(still_of(a, by, key)?);
                 rest = b;
             }
             Node::And(a, b) => {
-                known = then_still(known, still_look(a, still_of(a, by, key), false)?);
+                known = known.then(still_look(a, still_of(a, by, key), false)?);
                 rest = b;
             }
-            _ => return Some(then_still(known, still_of(rest, by, key)?)),
+            _ => return Some(known.then(still_of(rest, by, key)?)),
         }
     }
     Some(known)
@@ -100,10 +85,10 @@ fn still_either(one: Still, node: &Node, by: &By, key: Key) -> Option<Still>
     let mut known = one;
     let mut rest = node;
     while let Node::Or(a, b) = rest {
-        known = or_still(known, still_of(a, by, key)?);
+        known = known.or(still_of(a, by, key)?);
         rest = b;
     }
-    Some(or_still(known, still_of(rest, by, key)?))
+    Some(known.or(still_of(rest, by, key)?))
 }
 
 /// What a look does, by what is known of its part.
@@ -111,15 +96,22 @@ fn still_look(part: &Node, known: Option<Still>, negative: bool) -> Option<Still
     ensures { result ≡ or_maybe (is_lined (bare part.now)) (still_look negative known) }
 {
     match known {
-        Some(a) => Some(if negative { turned(a) } else { cut(a) }),
-        None => { if is_lined(part) { Some(maybe()) } else { None } }
+        Some(a) => Some(if negative { a.turned() } else { a }),
+        None => {
+            if is_lined(part) {
+                Some(Still::maybe())
+            } else {
+                None
+            }
+        }
     }
 }
 
 /// What an atom does. Nothing may be said of a line number: whether it fits hangs on the number of
 /// the line, which no key tells, while what a screen says is kept for all lines with that key. A
-/// verdict beside it would also let pass over an attempt that looks at the number, and the painted
-/// line would then be taken over where it stands at another number.
+/// word beside it would also let pass over an attempt that looks at the number, and the painted
+/// line would then be taken over where it stands at another number. So with the file's start, at
+/// which an attempt looks at the line before too.
 fn still_atom(atom: &Atom, by: &By, key: Key) -> Option<Still>
     ensures { result ≡ still_atom by.now.sets.now by.now.ignore key atom.now }
 {
@@ -128,16 +120,16 @@ fn still_atom(atom: &Atom, by: &By, key: Key) -> Option<Still>
             unless(may_take(by, atom, key.next))
         }
         Atom::LineEnd => unless(is_end(key.next)),
-        Atom::LineStart => Some(still(is_first(key.last))),
-        Atom::LineStop => Some(still(is_end(key.next))),
+        Atom::LineStart => Some(Still::new(is_first(key.last))),
+        Atom::LineStop => Some(Still::new(is_end(key.next))),
         Atom::WordStart => {
-            Some(still(is_keyword(by.sets, key.next) && !is_after_keyword(key.last)))
+            Some(Still::new(is_keyword(by.sets, key.next) && !is_after_keyword(key.last)))
         }
         Atom::WordStop => {
-            Some(still(is_after_keyword(key.last) && !is_keyword(by.sets, key.next)))
+            Some(Still::new(is_after_keyword(key.last) && !is_keyword(by.sets, key.next)))
         }
-        Atom::FileStart => Some(at_file_start(is_first(key.last))),
-        Atom::MatchStart | Atom::MatchStop => Some(still(true)),
-        Atom::FileStop | Atom::LineNumber { .. } | Atom::Ref(_) | Atom::ExternalRef(_) => None,
+        Atom::MatchStart | Atom::MatchStop => Some(Still::new(true)),
+        Atom::FileStart | Atom::FileStop | Atom::LineNumber { .. } => None,
+        Atom::Ref(_) | Atom::ExternalRef(_) => None,
     }
 }

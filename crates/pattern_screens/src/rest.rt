@@ -5,9 +5,9 @@ ghost use Rattle.pattern_screens.specs.Bounds.{failing_cost};
 ghost use Rattle.pattern_screens.specs.Rest.{rest_fails, rest_tree, second_of};
 
 use crate::bounds::most_cost;
+use crate::futile::is_dead;
 use crate::key::{KEYS, Key};
 use crate::seen::By;
-use crate::verdict::node_verdict;
 use char_class::Sets;
 use vim_pattern::{Node, Tree};
 
@@ -43,7 +43,7 @@ pub fn rest_fails(tree: &Tree, sets: &Sets, ignore: bool, number: u16) -> bool
         sets,
         ignore: tree.case.unwrap_or(ignore),
     };
-    node_verdict(rest, &by, Key::numbered(number)).is_futile()
+    is_dead(rest, &by, Key::numbered(number))
 }
 
 /// What it costs at most where it fails so.

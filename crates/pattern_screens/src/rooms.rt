@@ -3,7 +3,7 @@ ghost use Rattle.std.specs.Prelude.{◌≡◌, Some, IfSome};
 ghost use Rattle.vim_pattern.specs.Shape.{bare};
 ghost use Rattle.pattern_screens.specs.Rooms.{room_of, turns_room};
 
-use crate::bounds::{Bound, chain, first_bound, or_bound, then_bound};
+use crate::bounds::{Bound, ONE_WAY};
 use crate::lined::{is_few, is_lined_atom};
 use vim_pattern::Node;
 
@@ -31,7 +31,7 @@ fn limited_room(most: u64, least: u32, turns: u32, part: Bound) -> Option<Bound>
         });
     }
     if is_few(Some(turns)) {
-        chain(part, u64::from(turns) + 1)
+        part.chain(u64::from(turns) + 1)
     } else {
         None
     }
@@ -53,7 +53,7 @@ pub(crate) fn room_of(most: u64, node: &Node) -> Option<Bound>
     ensures { IfSome result (λ room. room_of most (bare node.now) ≡ Some room) }
 {
     match node {
-        Node::Empty => Some(Bound { ways: 1, cost: 0 }),
+        Node::Empty => Some(ONE_WAY),
         Node::One(atom) => {
             if is_lined_atom(atom) {
                 Some(Bound { ways: 1, cost: 1 })
@@ -63,15 +63,15 @@ pub(crate) fn room_of(most: u64, node: &Node) -> Option<Bound>
         }
         Node::Seq(a, b) => {
             let first = room_of(most, a)?;
-            then_bound(first, room_of(most, b)?)
+            first.then(room_of(most, b)?)
         }
         Node::Or(a, b) => {
             let one = room_of(most, a)?;
-            or_bound(one, room_of(most, b)?)
+            one.or(room_of(most, b)?)
         }
         Node::And(a, b) => {
-            let first = first_bound(room_of(most, a)?);
-            then_bound(first, room_of(most, b)?)
+            let first = room_of(most, a)?.first();
+            first.then(room_of(most, b)?)
         }
         Node::Group(a, _) | Node::External(a, _) => room_of(most, a),
         Node::Repeat {
@@ -80,8 +80,8 @@ pub(crate) fn room_of(most: u64, node: &Node) -> Option<Bound>
             most: turns,
             lazy: _,
         } => turns_room(most, *least, *turns, room_of(most, part)?),
-        Node::Ahead { part, not: _ } => Some(first_bound(room_of(most, part)?)),
+        Node::Ahead { part, not: _ } => Some(room_of(most, part)?.first()),
         Node::Before { .. } => None,
-        Node::Whole(a) => Some(first_bound(room_of(most, a)?)),
+        Node::Whole(a) => Some(room_of(most, a)?.first()),
     }
 }

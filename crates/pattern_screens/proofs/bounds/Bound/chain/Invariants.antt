@@ -1,6 +1,6 @@
 use Rattle.std.proofs.Common.{◌≡◌}
 use Rattle.pattern_screens.specs.Bounds.{chain_of}
-use Rattle.pattern_screens.proofs.bounds.chain.Given as goal
+use Rattle.pattern_screens.proofs.bounds.Bound.chain.Given as goal
 
 abbrev pub invariant-loop-turn : goal.invariant-loop-turn
-invariant-loop-turn l = l.all ≡ chain_of l.part l.turn
+invariant-loop-turn l = l.all ≡ chain_of l.self l.turn
