@@ -9,7 +9,7 @@ use Rattle.syntax_set.specs.declared.item.ItemKind.TheVariants.{Keyword, Match, 
 use Rattle.syntax_set.specs.declared.item.Pattern.{Pattern}
 use Rattle.paint_rules.specs.Rules.{Rules, item_of}
 use Rattle.pattern_screens.specs.Following.{fails_after}
-use Rattle.pattern_screens.proofs.Stands.{both_true}
+use Rattle.std.proofs.lemmas.Bool.{and_parts as both_true}
 use Rattle.item_pick.specs.Firsts.{Asks, first_asked, idles_before, IsToldOfFirst, sits_by, some_asked, some_idle}
 use Rattle.item_pick.specs.Standing.{has_one_start, IsFirst, IsPatternOf}
 use Rattle.item_pick.specs.Tables.{is_kind_screened, is_screened, stays_out, StaysOut}

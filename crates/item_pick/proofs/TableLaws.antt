@@ -31,7 +31,7 @@ use Rattle.pattern_screens.specs.Failing.{fails, fails_at}
 use Rattle.pattern_screens.specs.Following.{fails_after, takes_first}
 use Rattle.pattern_screens.specs.Keys.{is_first, key_numbered, key_of, last_of}
 use Rattle.pattern_screens.specs.declared.key.Key.{Key}
-use Rattle.pattern_screens.proofs.Stands.{both_true}
+use Rattle.std.proofs.lemmas.Bool.{and_parts as both_true}
 use Rattle.item_pick.specs.declared.choice.Choice.{Choice}
 use Rattle.item_pick.specs.declared.line_known.LineKnown.{LineKnown}
 use Rattle.item_pick.specs.declared.runs.Run.{Run}

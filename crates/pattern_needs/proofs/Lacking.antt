@@ -1,6 +1,7 @@
 -- A part that needs what a line lacks has no way in that line.
 use Rattle.std.proofs.Common.{◌≡◌, ℕ, ◌≤◌, Bool, true, false, List, [], ◌∷◌, ◌++◌, length, refl, sym, ap, ◌∙◌, arith, subst, inl, inr, ◌⊎◌}
 use Rattle.std.specs.Prelude.{Option, Some, None, ◌&&◌, not, slice_get, if◌then◌else◌}
+use Rattle.std.proofs.lemmas.Bool.{or_parts}
 use Rattle.std.proofs.lemmas.Bool.Decides.{nat_tests}
 use Rattle.std.proofs.lemmas.Option.{same_Some, none-some}
 use Rattle.syn_base.specs.declared.places.Place.{Place}
@@ -17,8 +18,7 @@ use Rattle.match_rules.proofs.TurnLaws.{turns-forced}
 use Rattle.pattern_screens.specs.FirstAtoms.{is_forced}
 use Rattle.pattern_screens.specs.PlainAtoms.{is_plain, plain_fits, plain_takes}
 use Rattle.pattern_screens.proofs.FirstScreens.{any-append, cond-some, fits-told, forced-parts, lists-are}
-use Rattle.pattern_screens.proofs.Stands.{both_false, followed-none, followed-ways, ways-append, ways_of}
-use Rattle.pattern_screens.proofs.StillParts.{first-ways}
+use Rattle.pattern_screens.proofs.Bounded.{ended-ways, first-none, followed-none, followed-ways, ways-append, ways_of}
 use Rattle.pattern_needs.specs.LineRooms.{look_then, or_room, room_of, then_room}
 use Rattle.pattern_needs.specs.Needs.{are_characters, needed, rather, some_takes}
 use Rattle.pattern_needs.specs.declared.room.Room.{Room}
@@ -36,20 +36,11 @@ none-followed a f h = ap ways_of (followed-none a f h) ∙ h
 none-after : (P : Way → Type 0) (a : List Mark) (f : Way → List Mark) → AllWays P a → ((v : Way) → P v → HasNone (f v)) → HasNone (followed a f)
 none-after P a f h k = omega (arith, followed-ways P 0 a f h (λ v p. omega (arith, k v p)))
 
-none-first : (marks : List Mark) → HasNone marks → first_way marks ≡ None
-none-first [] h = refl
-none-first (Tick l ∷ marks) h = none-first marks h
-none-first (Reach w ∷ marks) h = absurd (omega arith)
-
 none-looked : (w : Way) (marks : List Mark) → HasNone marks → HasNone (look false w marks)
-none-looked w marks h =
-    ap (λ o. ways_of (ticks_first marks ++ look_end false w o)) (none-first marks h)
-    ∙ ways-append (ticks_first marks) [] ∙ omega (arith, first-ways marks)
+none-looked w marks h = ended-ways (look_end false w) marks None (first-none marks h)
 
 none-whole : (marks : List Mark) → HasNone marks → HasNone (ticks_first marks ++ reach_if (first_way marks))
-none-whole marks h =
-    ap (λ o. ways_of (ticks_first marks ++ reach_if o)) (none-first marks h)
-    ∙ ways-append (ticks_first marks) [] ∙ omega (arith, first-ways marks)
+none-whole marks h = ended-ways reach_if marks None (first-none marks h)
 
 -- the ways behind a look are where it stands
 looked-at : (P : Place → Type 0) (w : Way) (o : Option Way) → P w.at → AllWays (λ v. P v.at) (look_end false w o)
@@ -85,7 +76,7 @@ module _ (x : Context) (line from : ℕ) where
 
   lacks-one : (a : Atom) → Lacks (a ∷ []) → (col : ℕ) → from ≤ col → (o : Option ℕ) → slice_get (line_at x.text line) col ≡ o → plain_fits x.sets x.ignore o a ≡ false
   lacks-one a h col later None e = refl
-  lacks-one a h col later (Some c) e = (both_false (plain_takes x.sets x.ignore a c) false (h col c later e)).0
+  lacks-one a h col later (Some c) e = (or_parts (plain_takes x.sets x.ignore a c) false (h col c later e)).0
 
   one-none : (a : Atom) → is_plain a ≡ true → Lacks (a ∷ []) → (w : Way) → IsFrom x line from w.at → HasNone (visits x (one a) w)
   one-none a plain h w at =

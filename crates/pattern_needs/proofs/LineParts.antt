@@ -1,28 +1,24 @@
 -- Parts that stay in a line of at most so many characters: how many ways and ticks they have.
-use Rattle.std.proofs.Common.{◌≡◌, ℕ, zero, suc, ◌+◌, ◌*◌, ◌<◌, ◌≤◌, Bool, true, false, List, [], ◌∷◌, length, refl, sym, arith, subst, inl, inr, ◌⊎◌}
+use Rattle.std.proofs.Common.{◌≡◌, ℕ, zero, suc, ◌+◌, ◌*◌, ◌≤◌, Bool, true, false, List, [], ◌∷◌, length, refl, sym, arith, subst, inl, inr, ◌⊎◌}
 use Rattle.std.specs.Prelude.{Option, Some, None, ◌&&◌, nat_lt, nat_eq, if◌then◌else◌}
+use Rattle.std.proofs.lemmas.Bool.{and_parts}
 use Rattle.std.proofs.lemmas.Bool.Decides.{nat_tests}
 use Rattle.std.proofs.lemmas.Option.{same_Some, none-some}
 use Rattle.std.proofs.Math.Nat.{suc-mul}
 use Rattle.syn_base.specs.declared.places.Place.{Place}
-use Rattle.syn_base.specs.Looked.{one_line}
-use Rattle.std.specs.Prelude.{pos}
 use Rattle.vim_pattern.specs.Shape.{Shape, empty, one, seq, or, and, group, external, repeat, ahead, before, whole}
 use Rattle.match_rules.specs.Ways.{Context, Way, line_at, is_after}
-use Rattle.match_rules.specs.Marks.{Mark, Tick, Reach, followed}
+use Rattle.match_rules.specs.Marks.{Mark, Tick, Reach}
 use Rattle.match_rules.specs.Counts.{places_behind, free_turns, turns, one_less, less_by, is_spent}
-use Rattle.match_rules.specs.Looks.{look}
 use Rattle.match_rules.specs.Visits.{visits, noted, noted_external}
-use Rattle.match_rules.proofs.MarkLaws.{AllWays, AllWays-followed}
+use Rattle.match_rules.proofs.MarkLaws.{AllWays}
 use Rattle.pattern_screens.specs.Lined.{is_few, is_lined_atom}
-use Rattle.pattern_screens.proofs.Stands.{AllTicks-followed, both_true, followed-ticks, followed-ways, one_true, times-le, ways_of}
-use Rattle.pattern_screens.proofs.LinedParts.{IsIn, Lined, LinedAt, lined, lined-bounds, reach-lined, nothing-lined, or-lined, then-lined, noted-lined, look-lined, whole-lined, if-lined, in-order-lined, turns-lined as counted-turns}
+use Rattle.pattern_screens.proofs.Bounded.{either, free, looking, noting, one-or, one-then, reached, relaxed, then-known, whole-way}
+use Rattle.pattern_screens.proofs.LinedParts.{IsIn, Lined, LinedAt, lined, turns-lined as counted-turns}
+use Rattle.pattern_screens.proofs.RoomParts.{HasRoom, column-behind, once-lined, room-down, single-cost, single-ways}
 use Rattle.pattern_needs.specs.LineRooms.{both_rooms, chain_room, counted, endless_room, first_room, look_then, optional_room, or_room, room_of, then_room, turns_room, up_to_first}
 use Rattle.pattern_needs.specs.declared.room.Room.{Room}
 use Rattle.pattern_needs.proofs.Forwards.{IsLater, goes-forwards}
-
-none-lined : (x : Context) (line m c : ℕ) → Lined x line m c []
-none-lined x line m c = lined-bounds x line 0 m 0 c [] (omega arith) (omega arith) (nothing-lined x line)
 
 -- ---- places from a column of a line on
 
@@ -41,105 +37,36 @@ from-later x line from w (Reach v ∷ marks) h k l =
     let same : w.at.line ≡ v.at.line = omega (arith, h.on, k.0.on) in
     (record { on = k.0.on; within = k.0.within; from = omega (arith, h.from, l.0.col same) }, from-later x line from w marks h k.1 l.1)
 
--- what follows is asked of ways of which more is known
-pub then-on : (x : Context) (line m n c d : ℕ) (P : Way → Type 0) (a : List Mark) (f : Way → List Mark) → Lined x line m c a → AllWays P a → ((v : Way) → P v → Lined x line n d (f v)) → Lined x line (m * n) (c + m * d) (followed a f)
-then-on x line m n c d P a f h p k = record {
-  here = AllWays-followed P (λ v. IsIn x line v.at) a f p (λ v e. (k v e).here);
-  few = omega (arith, followed-ways P n a f p (λ v e. (k v e).few), times-le (ways_of a) m n h.few);
-  cheap = omega (arith, followed-ticks P d a f p (λ v e. (k v e).cheap), times-le (ways_of a) m d h.few, h.cheap);
-  seen = AllTicks-followed P (λ l. l ≡ one_line (pos line)) a f p h.seen (λ v e. (k v e).seen);
-}
-
 -- ---- counts
 
-is_less : (a b : ℕ) → nat_lt a b ≡ true → a < b
-is_less a b e = grind (arith, nat_tests)
-
--- behind a place of a line is a greater column
-column-behind : (line : ℕ) (p q : Place) → p.line ≡ line → q.line ≡ line → is_after p q ≡ true → q.col < p.col
-column-behind line p q e f h = elim (one_true (nat_lt q.line p.line) (nat_eq q.line p.line && nat_lt q.col p.col) h) [
-  | inl below ↦ absurd (omega (arith, is_less q.line p.line below, e, f))
-  | inr here ↦ is_less q.col p.col (both_true (nat_eq q.line p.line) (nat_lt q.col p.col) here).1
-]
-
-more-cost : (k c : ℕ) → c + 1 * (suc k * c) ≤ suc (suc k) * c
-more-cost k c = let s : suc (suc k) * c ≡ suc k * c + c = suc-mul (suc k) c in omega arith
-
 no-more : (k c : ℕ) → suc k * c ≤ suc (suc k) * c
-no-more k c = let s : suc (suc k) * c ≡ suc k * c + c = suc-mul (suc k) c in omega arith
+no-more k c = omega (arith, suc-mul (suc k) c)
 
 module _ (x : Context) (line c : ℕ) (part : Way → List Mark) (lazy : Bool) (stays : LinedAt x line 1 c part) (forwards : (w : Way) → AllWays (IsLater w.at) (part w)) where
   -- the ways of a turn don't go back
   onwards : (w : Way) → IsIn x line w.at → AllWays (λ v. IsFrom x line w.at.col v.at) (part w)
   onwards w h = from-later x line w.at.col w (part w) (record { on = h.on; within = h.within; from = omega arith }) (stays w h).here (forwards w)
 
-  stop-lined : (k : ℕ) (w : Way) → IsIn x line w.at → Lined x line (suc k) (suc k * c) (Reach w ∷ [])
-  stop-lined k w h = lined-bounds x line 1 (suc k) 0 (suc k * c) (Reach w ∷ []) (omega arith) (omega arith) (reach-lined x line w h)
-
   -- each free turn takes a character, of those that are left
   free-lined : (left k : ℕ) (count : Option ℕ) (w : Way) → IsIn x line w.at → length (line_at x.text line) ≤ w.at.col + k → Lined x line (suc k) (suc k * c) (free_turns part lazy left count w)
-  free-lined zero k count w h room = stop-lined k w h
-  free-lined (suc left) zero count w h room =
-      if-lined x line 1 (1 * c) (is_spent count) (Reach w ∷ []) _ (λ _. stop-lined 0 w h)
-      (λ _. lined-bounds x line (1 * 0 + 1) 1 (c + 1 * 0) (1 * c) _ (omega arith) (omega arith)
-      (in-order-lined x line (1 * 0) (c + 1 * 0) lazy _ w h
-      (then-lined x line 1 0 c 0 (part w) _ (stays w h)
-      (λ v i. if-lined x line 0 0 (is_after v.at w.at) _ []
-      (λ e. absurd (omega (arith, column-behind line v.at w.at i.on h.on e, i.within, room)))
-      (λ _. none-lined x line 0 0)))))
-  free-lined (suc left) (suc k) count w h room =
-      if-lined x line (suc (suc k)) (suc (suc k) * c) (is_spent count) (Reach w ∷ []) _ (λ _. stop-lined (suc k) w h)
-      (λ _. lined-bounds x line (1 * suc k + 1) (suc (suc k)) (c + 1 * (suc k * c)) (suc (suc k) * c) _ (omega arith) (more-cost k c)
-      (in-order-lined x line (1 * suc k) (c + 1 * (suc k * c)) lazy _ w h
-      (then-lined x line 1 (suc k) c (suc k * c) (part w) _ (stays w h)
-      (λ v i. if-lined x line (suc k) (suc k * c) (is_after v.at w.at) _ []
-      (λ e. free-lined left k (one_less count) v i (omega (arith, column-behind line v.at w.at i.on h.on e, room)))
-      (λ _. none-lined x line (suc k) (suc k * c))))))
+  free-lined left k count w h room =
+      relaxed (free part lazy stays (HasRoom x line) (room-down x line) left k count w h room) (omega (arith, single-ways k)) (omega (arith, single-cost k c))
 
   -- one forced turn may take nothing: it stands for all that are left
   forced-lined : (least k : ℕ) (count : Option ℕ) (w : Way) → IsIn x line w.at → length (line_at x.text line) ≤ w.at.col + k → Lined x line (suc k) (suc (suc k) * c) (turns x.text part lazy least count w)
-  forced-lined zero k count w h room =
-      lined-bounds x line (suc k) (suc k) (suc k * c) (suc (suc k) * c) _ (omega arith) (no-more k c) (free-lined (suc (places_behind x.text w.at)) k count w h room)
-  forced-lined (suc least) zero count w h room =
-      if-lined x line 1 (2 * c) (is_spent count) (Reach w ∷ []) _
-      (λ _. lined-bounds x line 1 1 (1 * c) (2 * c) (Reach w ∷ []) (omega arith) (no-more 0 c) (stop-lined 0 w h))
-      (λ _. lined-bounds x line (1 * 1) 1 (c + 1 * (1 * c)) (2 * c) _ (omega arith) (more-cost 0 c)
-      (then-on x line 1 1 c (1 * c) (λ v. IsFrom x line w.at.col v.at) (part w) _ (stays w h) (onwards w h)
-      (λ v i. if-lined x line 1 (1 * c) (is_after v.at w.at) _ _
-      (λ e. absurd (omega (arith, column-behind line v.at w.at i.on h.on e, i.within, room)))
-      (λ _. free-lined (suc (places_behind x.text v.at)) 0 (less_by count (suc least)) v (in-line x line w.at.col v.at i) (omega (arith, i.from, room))))))
-  forced-lined (suc least) (suc k) count w h room =
-      if-lined x line (suc (suc k)) (suc (suc (suc k)) * c) (is_spent count) (Reach w ∷ []) _
-      (λ _. lined-bounds x line (suc (suc k)) (suc (suc k)) (suc (suc k) * c) (suc (suc (suc k)) * c) (Reach w ∷ []) (omega arith) (no-more (suc k) c) (stop-lined (suc k) w h))
-      (λ _. lined-bounds x line (1 * suc (suc k)) (suc (suc k)) (c + 1 * (suc (suc k) * c)) (suc (suc (suc k)) * c) _ (omega arith) (more-cost (suc k) c)
-      (then-on x line 1 (suc (suc k)) c (suc (suc k) * c) (λ v. IsFrom x line w.at.col v.at) (part w) _ (stays w h) (onwards w h)
-      (λ v i. if-lined x line (suc (suc k)) (suc (suc k) * c) (is_after v.at w.at) _ _
-      (λ e. lined-bounds x line (suc k) (suc (suc k)) (suc (suc k) * c) (suc (suc k) * c) _ (omega arith) (omega arith)
-      (forced-lined least k (one_less count) v (in-line x line w.at.col v.at i) (omega (arith, column-behind line v.at w.at i.on h.on e, room))))
-      (λ _. free-lined (suc (places_behind x.text v.at)) (suc k) (less_by count (suc least)) v (in-line x line w.at.col v.at i) (omega (arith, i.from, room))))))
+  forced-lined zero k count w h room = relaxed (free-lined (suc (places_behind x.text w.at)) k count w h room) (omega arith) (no-more k c)
+  forced-lined (suc least) k count w h room =
+      either (Lined x line (suc k) (suc (suc k) * c)) (is_spent count) (Reach w ∷ []) _ (λ _. relaxed (reached w h) (omega arith) (omega arith))
+      (λ _. relaxed (then-known (λ v. IsFrom x line w.at.col v.at) _ (onwards w h) (stays w h) (λ v i. either (Lined x line (suc k) (suc k * c)) (is_after v.at w.at) _ _
+      (λ e. elim k as (λ j. length (line_at x.text line) ≤ w.at.col + j → Lined x line (suc j) (suc j * c) (turns x.text part lazy least (one_less count) v)) [
+        | zero ↦ λ full. absurd (omega (arith, column-behind line v.at w.at i.on h.on e, i.within, full))
+        | suc j ↦ λ some. relaxed (forced-lined least j (one_less count) v (in-line x line w.at.col v.at i) (omega (arith, column-behind line v.at w.at i.on h.on e, some))) (omega arith) (omega arith)
+      ] room)
+      (λ _. free-lined (suc (places_behind x.text v.at)) k (less_by count (suc least)) v (in-line x line w.at.col v.at i) (omega (arith, i.from, room)))))
+      (omega arith) (omega (arith, suc-mul (suc k) c)))
 
   endless-lined : (most : ℕ) → length (line_at x.text line) ≤ most → (least : ℕ) (count : Option ℕ) (w : Way) → IsIn x line w.at → Lined x line (most + 1) ((most + 2) * c) (turns x.text part lazy least count w)
-  endless-lined most few least count w h =
-      let e : most + 1 ≡ suc most = omega arith in
-      let f : most + 2 ≡ suc (suc most) = omega arith in
-      subst (λ (n : ℕ). Lined x line n ((most + 2) * c) (turns x.text part lazy least count w)) (sym e)
-      (subst (λ (n : ℕ). Lined x line (suc most) (n * c) (turns x.text part lazy least count w)) (sym f)
-      (forced-lined least most count w h (omega (arith, few))))
-
-module _ (x : Context) (line m c : ℕ) (part : Way → List Mark) (lazy : Bool) (stays : LinedAt x line m c part) where
-  stopped : (left : ℕ) (v : Way) → free_turns part lazy left (Some 0) v ≡ Reach v ∷ []
-  stopped zero v = refl
-  stopped (suc left) v = refl
-
-  -- a part that may be left out
-  once-lined : (w : Way) → IsIn x line w.at → Lined x line (m + 1) c (turns x.text part lazy 0 (Some 1) w)
-  once-lined w h =
-      in-order-lined x line m c lazy _ w h
-      (lined-bounds x line (m * 1) m (c + m * 0) c _ (omega arith) (omega arith)
-      (then-lined x line m 1 c 0 (part w) _ (stays w h)
-      (λ v i. if-lined x line 1 0 (is_after v.at w.at) _ []
-      (λ _. subst (Lined x line 1 0) (sym (stopped (places_behind x.text w.at) v)) (reach-lined x line v i))
-      (λ _. none-lined x line 1 0))))
+  endless-lined most few least count w h = relaxed (forced-lined least most count w h (omega (arith, few))) (omega arith) (omega arith)
 
 -- ---- what is known of the parts
 
@@ -183,15 +110,15 @@ module _ (x : Context) (line most : ℕ) (few : length (line_at x.text line) ≤
 
   once : (least count : ℕ) (lazy : Bool) (a : Room) (part : Way → List Mark) → RoomAt a part → (nat_eq least 0 && nat_eq count 1) ≡ true → LinedAt x line (a.ways + 1) a.cost (turns x.text part lazy least (Some count))
   once least count lazy a part stays e =
-      let f = both_true (nat_eq least 0) (nat_eq count 1) e in
+      let f = and_parts (nat_eq least 0) (nat_eq count 1) e in
       subst (λ n. LinedAt x line (a.ways + 1) a.cost (turns x.text part lazy n (Some count))) (sym (is_same least 0 f.0))
       (subst (λ n. LinedAt x line (a.ways + 1) a.cost (turns x.text part lazy 0 (Some n))) (sym (is_same count 1 f.1))
-      (λ w h. once-lined x line a.ways a.cost part lazy stays w h))
+      (once-lined part lazy stays))
 
   endless : (least : ℕ) (count : Option ℕ) (lazy : Bool) (a room : Room) (part : Way → List Mark) → ((w : Way) → AllWays (IsLater w.at) (part w)) → RoomAt a part → endless_room most a ≡ Some room → RoomAt room (turns x.text part lazy least count)
   endless least count lazy a room part forwards stays e =
       let t = if-none (nat_lt 1 a.ways) (record { ways = most + 1; cost = (most + 2) * a.cost }) room e in
-      let one : LinedAt x line 1 a.cost part = λ v i. lined-bounds x line a.ways 1 a.cost a.cost (part v) (isnt_less 1 a.ways t.0) (omega arith) (stays v i) in
+      let one : LinedAt x line 1 a.cost part = λ v i. relaxed (stays v i) (isnt_less 1 a.ways t.0) (omega arith) in
       subst (λ (r : Room). RoomAt r (turns x.text part lazy least count)) t.1 (λ w h. endless-lined x line a.cost part lazy one forwards most few least count w h)
 
   turns-lined : (least : ℕ) (count : Option ℕ) (lazy : Bool) (a room : Room) (part : Way → List Mark) → ((w : Way) → AllWays (IsLater w.at) (part w)) → RoomAt a part → turns_room most least count a ≡ Some room → RoomAt room (turns x.text part lazy least count)
@@ -201,14 +128,14 @@ module _ (x : Context) (line most : ℕ) (few : length (line_at x.text line) ≤
         | inl is ↦ subst (λ (r : Room). RoomAt r (turns x.text part lazy least (Some count))) is.1 (once least count lazy a part stays is.0)
         | inr more ↦ elim more [
           | inl is ↦ subst (λ (r : Room). RoomAt r (turns x.text part lazy least (Some count))) is.1
-              (λ w h. counted-turns x line a.ways a.cost part lazy stays least count (Some count) w h (omega arith))
+              (λ w h. counted-turns part lazy stays least count (Some count) w h (omega arith))
           | inr is ↦ endless least (Some count) lazy a room part forwards stays is
         ]
       ]
 
   -- a part has no more ways and ticks than its room
   pub room-lined : (node : Shape) (room : Room) → room_of most node ≡ Some room → RoomAt room (visits x node)
-  room-lined empty room e = subst (λ (r : Room). RoomAt r (visits x empty)) (same_Some (record { ways = 1; cost = 0 }) room e) (λ v i. reach-lined x line v i)
+  room-lined empty room e = subst (λ (r : Room). RoomAt r (visits x empty)) (same_Some (record { ways = 1; cost = 0 }) room e) (λ v i. reached v i)
   room-lined (one a) room e =
       let t = if-some (is_lined_atom a) (record { ways = 1; cost = 1 }) room e in
       subst (λ (r : Room). RoomAt r (visits x (one a))) t.1 (lined x line (one a) t.0)
@@ -217,25 +144,23 @@ module _ (x : Context) (line most : ℕ) (few : length (line_at x.text line) ≤
       let s = t.0 in
       let u = t.1.0 in
       subst (λ (q : Room). RoomAt q (visits x (seq a b))) t.1.1.1.1
-      (λ v i. then-lined x line s.ways u.ways s.cost u.cost (visits x a v) (visits x b) (room-lined a s t.1.1.0 v i) (λ w j. room-lined b u t.1.1.1.0 w j))
+      (λ v i. one-then (visits x b) (room-lined a s t.1.1.0 v i) (λ w j. room-lined b u t.1.1.1.0 w j))
   room-lined (or a b) room e =
       let t = both-are or_room (room_of most a) (room_of most b) room e in
       let s = t.0 in
       let u = t.1.0 in
       subst (λ (q : Room). RoomAt q (visits x (or a b))) t.1.1.1.1
-      (λ v i. or-lined x line s.ways u.ways s.cost u.cost (visits x a v) (visits x b v) (room-lined a s t.1.1.0 v i) (room-lined b u t.1.1.1.0 v i))
+      (λ v i. one-or (room-lined a s t.1.1.0 v i) (room-lined b u t.1.1.1.0 v i))
   room-lined (and a b) room e =
       let t = both-are look_then (room_of most a) (room_of most b) room e in
       let s = t.0 in
       let u = t.1.0 in
       subst (λ (q : Room). RoomAt q (visits x (and a b))) t.1.1.1.1
-      (λ v i. then-lined x line 1 u.ways s.cost u.cost (look false v (visits x a v)) (visits x b)
-      (look-lined x line s.ways s.cost false v (visits x a v) i (room-lined a s t.1.1.0 v i))
-      (λ w j. room-lined b u t.1.1.1.0 w j))
+      (λ v i. one-then (visits x b) (looking false v i (room-lined a s t.1.1.0 v i)) (λ w j. room-lined b u t.1.1.1.0 w j))
   room-lined (group part number) room e =
-      λ v i. noted-lined x line room.ways room.cost (visits x part v) (noted number v.at) (room-lined part room e v i) (λ u k. reach-lined x line _ k)
+      λ v i. noting (noted number v.at) (room-lined part room e v i) (λ u k. reached _ k)
   room-lined (external part number) room e =
-      λ v i. noted-lined x line room.ways room.cost (visits x part v) (noted_external number v.at) (room-lined part room e v i) (λ u k. reach-lined x line _ k)
+      λ v i. noting (noted_external number v.at) (room-lined part room e v i) (λ u k. reached _ k)
   room-lined (repeat part least count lazy) room e =
       let t = counted-is most (room_of most part) least count room e in
       turns-lined least count lazy t.0 room (visits x part) (goes-forwards x part) (room-lined part t.0 t.1.0) t.1.1
@@ -243,10 +168,10 @@ module _ (x : Context) (line most : ℕ) (few : length (line_at x.text line) ≤
       let t = first-is (room_of most part) room e in
       let s = t.0 in
       subst (λ (q : Room). RoomAt q (visits x (ahead part negative))) t.1.1
-      (λ v i. look-lined x line s.ways s.cost negative v (visits x part v) i (room-lined part s t.1.0 v i))
+      (λ v i. looking negative v i (room-lined part s t.1.0 v i))
   room-lined (before part negative limit) room e = absurd (none-some room e)
   room-lined (whole part) room e =
       let t = first-is (room_of most part) room e in
       let s = t.0 in
       subst (λ (q : Room). RoomAt q (visits x (whole part))) t.1.1
-      (λ v i. whole-lined x line s.ways s.cost (visits x part v) (room-lined part s t.1.0 v i))
+      (λ v i. whole-way (room-lined part s t.1.0 v i))

@@ -21,8 +21,8 @@ use Rattle.pattern_screens.specs.declared.key.Last.TheVariants as lasts
 use Rattle.pattern_screens.specs.declared.key.Next.{Next}
 use Rattle.pattern_screens.specs.declared.key.Next.TheVariants as nexts
 use Rattle.pattern_screens.specs.Keys.{key_numbered, key_of, next_of}
-use Rattle.pattern_screens.specs.Screens.{is_futile, verdict}
-use Rattle.pattern_screens.proofs.Screened.{futile}
+use Rattle.pattern_screens.specs.Screens.{is_futile}
+use Rattle.pattern_screens.proofs.Screened.{law as futile}
 use Rattle.syntax_set.specs.declared.item.ItemKind.{ItemKind}
 use Rattle.syntax_set.specs.declared.item.Pattern.{Pattern}
 use Rattle.paint_rules.specs.Painted.{Painted, Done, looked_first, ◌>>=◌, done, first_found}
@@ -78,7 +78,7 @@ within_budget : (budget cost : ℕ) → not (nat_lt budget cost) ≡ true → co
 within_budget budget cost e = grind (arith, nat_tests)
 
 screened : (s : Searching) (text : Text) (k : Looked) (c : ℕ) (pattern : Pattern) → HoldsLine k s.from.line → c ≤ length (line_at text s.from.line) → nat_lt c pattern.lc ≡ false →
-    is_futile (verdict s.matcher.sets.now (item_of s.items.now s.region).ignore (key_of s.matcher.sets.now (line_at text s.from.line) (c - pattern.lc)) pattern.tree) ≡ true →
+    is_futile s.matcher.sets.now (item_of s.items.now s.region).ignore (key_of s.matcher.sets.now (line_at text s.from.line) (c - pattern.lc)) pattern.tree ≡ true →
     is_cheap s.matcher.budget pattern ≡ true → GivesNothing (search_in s text) k c pattern
 unfolding attempt_by
 screened s text k c pattern held within from fail cheap =
@@ -128,7 +128,7 @@ module _ (a : Passing) (s : Searching) (text : Text) (skip : Option Pattern) (en
       let here : pattern.lc ≡ 0 = grind (arith, nat_tests, h.0) in
       let at : c ≡ c - pattern.lc = omega (arith, here) in
       screened s text k c pattern held within (subst (λ n. nat_lt c n ≡ false) (sym here) (no_less c))
-      (sym (λ i. is_futile (verdict (of.sets i) (of.ignore i) (key_of (of.sets i) (of.line i) (c - pattern.lc)) pattern.tree))
+      (sym (λ i. is_futile (of.sets i) (of.ignore i) (key_of (of.sets i) (of.line i) (c - pattern.lc)) pattern.tree)
       ∙ subst (λ n. fails a (key_of a.sets.now a.line.now n) pattern ≡ true) at shut.0)
       (subst (λ n. is_cheap n pattern ≡ true) of.budget shut.1)
 

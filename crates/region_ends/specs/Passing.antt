@@ -11,7 +11,7 @@ use Rattle.pattern_screens.specs.declared.key.Next.{Next}
 use Rattle.pattern_screens.specs.declared.key.Next.TheVariants as next
 use Rattle.pattern_screens.specs.Bounds.{failing_cost}
 use Rattle.pattern_screens.specs.Keys.{key_numbered, key_of}
-use Rattle.pattern_screens.specs.Screens.{is_futile, verdict}
+use Rattle.pattern_screens.specs.Screens.{is_futile}
 use Rattle.paint_rules.specs.Rules.{item_of}
 use Rattle.paint_rules.specs.EndInLine.{ends_of, skip_of}
 use Rattle.region_ends.specs.declared.passing.Passing.{Passing}
@@ -20,7 +20,7 @@ use Rattle.region_ends.specs.Opening.{IsToldOf, begins_with, cannot_begin}
 
 -- at columns with this key an attempt has no way, and looks at its line alone
 abbrev pub fails : Passing → Key → Pattern → Bool
-fails a key pattern = is_futile (verdict a.sets.now a.ignore key pattern.tree)
+fails a key pattern = is_futile a.sets.now a.ignore key pattern.tree
 
 -- ---- an attempt where the screen fails is within the budget
 
@@ -33,7 +33,7 @@ is_cheap budget pattern = not (nat_lt budget (failing_cost pattern.tree))
 abbrev pub is_shut : Sets → ℕ → Bool → Key → Pattern → Bool
 is_shut sets budget ignore key pattern =
     nat_eq pattern.lc 0
-    && (is_futile (verdict sets ignore key pattern.tree) && is_cheap budget pattern)
+    && (is_futile sets ignore key pattern.tree && is_cheap budget pattern)
 
 abbrev pub is_skip_shut : Sets → ℕ → Bool → Key → Option Pattern → Bool
 is_skip_shut sets budget ignore key None = true

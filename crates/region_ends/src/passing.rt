@@ -10,7 +10,7 @@ ghost use Rattle.region_ends.specs.Passing.{are_shut, are_shut_anyway, are_shut_
 use crate::key_answers::KeyAnswers;
 use crate::opening::{Opening, begins_with, stands};
 use char_class::Sets;
-use pattern_screens::{KEYS, Key, Last, Next, failing_cost, screen};
+use pattern_screens::{KEYS, Key, Last, Next, failing_cost, is_futile};
 use syn_base::{Externals, ItemId, List, Memory};
 use syntax_set::{ItemSet, Pattern};
 
@@ -37,7 +37,7 @@ impl Passing<'_> {
     fn fails(&self, pattern: &Pattern, key: Key) -> bool
         ensures { result ≡ fails self.now key pattern.now }
     {
-        screen(&pattern.tree, self.sets, self.ignore, key).is_futile()
+        is_futile(&pattern.tree, self.sets, self.ignore, key)
     }
 
     /// Whether a pattern can't fit at the columns with a key, whatever stands before them, and an
