@@ -1,8 +1,7 @@
 -- Patterns that begin with a look behind without a limit: what an attempt does at a column where what
 -- follows the look fails.
 use Rattle.std.specs.Prelude.{◌+◌, ◌*◌, ℕ, Bool, false, not, nat_lt, Option, Some, None, if◌then◌else◌}
-use Rattle.pattern_items.specs.declared.item.Behind.{Behind}
-use Rattle.pattern_items.specs.declared.item.Behind.TheVariants.{Any, Most}
+use Rattle.pattern_items.specs.declared.item.Behind.TheVariants.{Any}
 use Rattle.vim_pattern.specs.Shape.{Shape, seq, before}
 use Rattle.vim_pattern.specs.Tree.{PatternTree}
 use Rattle.pattern_screens.specs.Bounds.{failing_cost}
@@ -16,12 +15,9 @@ abbrev pub from_starts : ℕ → Option Bound → Option ℕ
 from_starts most None = None
 from_starts most (Some room) = Some (room.cost * (most + 2))
 
-abbrev pub limit_cost : ℕ → Behind → Shape → Option ℕ
-limit_cost most Any part = if tries_first part then from_starts most (room_of most part) else None
-limit_cost most (Most limit) part = None
-
 abbrev pub piece_cost : ℕ → Shape → Option ℕ
-piece_cost most (before part negative limit) = limit_cost most limit part
+piece_cost most (before part negative Any) =
+    if tries_first part then from_starts most (room_of most part) else None
 piece_cost most _ = None
 
 -- what the look costs at most with which a pattern begins

@@ -6,10 +6,18 @@ ghost use Rattle.pattern_screens.specs.PlainAtoms.{is_plain, plain_takes};
 ghost use Rattle.pattern_screens.specs.MayTake.{class_has_other, may_take, may_take_other, part_may_hold, takes_end};
 
 use crate::key::Next;
-use crate::seen::By;
 use char_class::{Sets, class_has, range_has, same};
 use pattern_items::{Atom, CharRanges, SetPart};
 use syn_base::Class;
+
+/// What atoms and screens go by, beside what stands there.
+#[derive(Clone, Copy)]
+pub(crate) struct By<'a> {
+    /// The sets of the classes.
+    pub(crate) sets: &'a Sets,
+    /// Whether case is ignored.
+    pub(crate) ignore: bool,
+}
 
 /// Whether an atom is one of characters alone.
 pub(crate) fn is_plain(atom: &Atom) -> bool

@@ -1,7 +1,7 @@
 //! Patterns that begin with a look behind without a limit, at columns where what follows it fails.
 ghost use Rattle.std.specs.Prelude.{◌≡◌, Some, IfSome, IsTrue, true};
 ghost use Rattle.vim_pattern.specs.Shape.{bare};
-ghost use Rattle.pattern_screens.specs.Behind.{behind_cost, is_cheap_behind, is_within, limit_cost, piece_cost};
+ghost use Rattle.pattern_screens.specs.Behind.{behind_cost, is_cheap_behind, is_within, piece_cost};
 
 use crate::lined::tries_first;
 use crate::rest::failing_rest_cost;
@@ -27,22 +27,6 @@ fn is_behind(piece: &Node) -> bool {
 
 /// What a look behind without a limit costs at most, where its line and the one before have so many
 /// characters together: its part is tried from each column of both.
-fn limit_cost(most: u64, limit: Behind, part: &Node) -> Option<u64>
-    ensures { IfSome result (λ cost. limit_cost most limit (bare part.now) ≡ Some cost) }
-{
-    match limit {
-        Behind::Any => {
-            if tries_first(part) {
-                room_of(most, part)?.cost.checked_mul(most.checked_add(2)?)
-            } else {
-                None
-            }
-        }
-        Behind::Most(_) => None,
-    }
-}
-
-/// The same of a piece that may be one.
 fn piece_cost(most: u64, piece: &Node) -> Option<u64>
     ensures { IfSome result (λ cost. piece_cost most (bare piece.now) ≡ Some cost) }
 {
@@ -50,8 +34,14 @@ fn piece_cost(most: u64, piece: &Node) -> Option<u64>
         Node::Before {
             part,
             not: _,
-            limit,
-        } => limit_cost(most, *limit, part),
+            limit: Behind::Any,
+        } => {
+            if tries_first(part) {
+                room_of(most, part)?.cost.checked_mul(most.checked_add(2)?)
+            } else {
+                None
+            }
+        }
         _ => None,
     }
 }
@@ -66,22 +56,16 @@ fn behind_cost(most: u64, node: &Node) -> Option<u64>
     }
 }
 
-/// Whether what a look and what follows it cost is within a budget.
-fn is_within(budget: u64, behind: u64, rest: u64) -> bool
-    ensures { IsTrue result → is_within budget (Some behind) rest ≡ true }
-{
-    match behind.checked_add(rest) {
-        Some(all) => all <= budget,
-        None => false,
-    }
-}
-
-/// Whether it is in lines of at most so many characters together, where what follows costs so much.
+/// Whether the look and what follows it, which costs so much, are within a budget in lines of at most
+/// so many characters together.
 fn is_cheap(tree: &Tree, budget: u64, most: u64, rest: u64) -> bool
     ensures { IsTrue result → is_within budget (behind_cost most tree.now.node) rest ≡ true }
 {
-    match behind_cost(most, &tree.node) {
-        Some(behind) => is_within(budget, behind, rest),
+    let Some(behind) = behind_cost(most, &tree.node) else {
+        return false;
+    };
+    match behind.checked_add(rest) {
+        Some(all) => all <= budget,
         None => false,
     }
 }

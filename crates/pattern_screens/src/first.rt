@@ -5,6 +5,7 @@ ghost use Rattle.vim_pattern.specs.Shape.{bare};
 ghost use Rattle.pattern_screens.specs.FirstAtoms.{first_atoms, first_cost, is_forced};
 
 use crate::atoms::is_plain;
+use crate::lined::is_spent;
 use syn_base::Memory;
 use vim_pattern::{Node, Tree};
 
@@ -34,8 +35,7 @@ fn count_first(node: &Node) -> Result<Option<u64>, Memory>
                 _ => Ok(None),
             }
         }
-        Node::Group(a, _) => count_first(a),
-        Node::External(a, _) => count_first(a),
+        Node::Group(a, _) | Node::External(a, _) => count_first(a),
         Node::Repeat {
             part,
             least,
@@ -56,8 +56,5 @@ fn count_first(node: &Node) -> Result<Option<u64>, Memory>
 fn is_forced(least: u32, most: Option<u32>) -> bool
     ensures { result ≡ is_forced least most }
 {
-    match most {
-        Some(most) => least > 0 && most > 0,
-        None => least > 0,
-    }
+    least > 0 && !is_spent(most)
 }

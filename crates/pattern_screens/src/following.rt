@@ -1,6 +1,6 @@
 //! Patterns that begin with an atom of one character, or one of two, at columns behind which what
 //! follows it fails.
-ghost use Rattle.std.specs.Prelude.{◌≡◌, ◌+◌, ◌*◌, nat_lt, not, IfSome, IsTrue, true};
+ghost use Rattle.std.specs.Prelude.{◌≡◌, ◌+◌, ◌*◌, IfSome, IsTrue, true};
 ghost use Rattle.vim_pattern.specs.Shape.{bare};
 ghost use Rattle.pattern_screens.specs.Following.{fails_after, takes_first, takes_leaf, takes_piece};
 
@@ -50,23 +50,16 @@ fn cost_of_two(rest: u64) -> Option<u64>
     rest.checked_add(1)?.checked_mul(2)
 }
 
-/// Whether the first piece and what follows it cost no more than a budget.
-fn is_enough(budget: u64, rest: u64) -> bool
-    ensures { IsTrue result → not (nat_lt budget (2 * (rest + 1))) ≡ true }
-{
-    match cost_of_two(rest) {
-        Some(cost) => cost <= budget,
-        None => false,
-    }
-}
-
 /// Whether an attempt of a pattern that begins with such a piece is known to have no way, to look at
 /// its line alone and to cost no more than a budget, one column before one whose key has this number.
 pub fn fails_after(tree: &Tree, sets: &Sets, ignore: bool, number: u16, budget: u64) -> bool
     ensures { IsTrue result → fails_after sets.now budget ignore number tree.now ≡ true }
 {
-    match rest_cost(tree, sets, ignore, number) {
-        Some(rest) => is_enough(budget, rest),
+    let Some(rest) = rest_cost(tree, sets, ignore, number) else {
+        return false;
+    };
+    match cost_of_two(rest) {
+        Some(cost) => cost <= budget,
         None => false,
     }
 }

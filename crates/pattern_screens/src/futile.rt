@@ -4,9 +4,9 @@ ghost use Rattle.vim_pattern.specs.Shape.{bare};
 ghost use Rattle.pattern_screens.specs.Screens.{is_dead, is_futile, still_of};
 ghost use Rattle.pattern_screens.specs.ScreenLaw.{IsSoundAt};
 
+use crate::atoms::By;
 use crate::key::Key;
 use crate::parts::still_of;
-use crate::seen::By;
 use char_class::Sets;
 use vim_pattern::{Node, Tree};
 

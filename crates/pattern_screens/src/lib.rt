@@ -24,7 +24,6 @@ mod near_lines;
 mod parts;
 mod rest;
 mod rooms;
-mod seen;
 mod still;
 
 pub use atoms::part_has;

@@ -16,11 +16,8 @@ pub(crate) fn is_lined(node: &Node) -> bool
     match node {
         Node::Empty => true,
         Node::One(atom) => is_lined_atom(atom),
-        Node::Seq(a, b) => is_lined(a) && are_lined(b),
-        Node::Or(a, b) => is_lined(a) && are_lined(b),
-        Node::And(a, b) => is_lined(a) && are_lined(b),
-        Node::Group(a, _) => is_lined(a),
-        Node::External(a, _) => is_lined(a),
+        Node::Seq(a, b) | Node::Or(a, b) | Node::And(a, b) => is_lined(a) && are_lined(b),
+        Node::Group(a, _) | Node::External(a, _) | Node::Whole(a) => is_lined(a),
         Node::Repeat {
             part,
             least: _,
@@ -29,7 +26,6 @@ pub(crate) fn is_lined(node: &Node) -> bool
         } => is_few(*most) && is_lined(part),
         Node::Ahead { part, not: _ } => is_lined(part),
         Node::Before { .. } => false,
-        Node::Whole(a) => is_lined(a),
     }
 }
 
@@ -39,29 +35,13 @@ fn are_lined(node: &Node) -> bool
     ensures { result ≡ is_lined (bare node.now) }
 {
     let mut rest = node;
-    loop {
-        match rest {
-            Node::Seq(a, b) => {
-                if !is_lined(a) {
-                    return false;
-                }
-                rest = b;
-            }
-            Node::Or(a, b) => {
-                if !is_lined(a) {
-                    return false;
-                }
-                rest = b;
-            }
-            Node::And(a, b) => {
-                if !is_lined(a) {
-                    return false;
-                }
-                rest = b;
-            }
-            _ => return is_lined(rest),
+    while let Node::Seq(a, b) | Node::Or(a, b) | Node::And(a, b) = rest {
+        if !is_lined(a) {
+            return false;
         }
+        rest = b;
     }
+    is_lined(rest)
 }
 
 /// Whether an atom stays in its line.
@@ -83,20 +63,14 @@ pub(crate) fn is_lined_atom(atom: &Atom) -> bool
 pub(crate) fn is_few(most: Option<u32>) -> bool
     ensures { result ≡ is_few most }
 {
-    match most {
-        Some(most) => most <= 1000,
-        None => false,
-    }
+    matches!(most, Some(most) if most <= 1000)
 }
 
 /// Whether a count takes no turn.
 pub fn is_spent(most: Option<u32>) -> bool
     ensures { result ≡ is_spent most }
 {
-    match most {
-        Some(most) => most == 0,
-        None => false,
-    }
+    matches!(most, Some(0))
 }
 
 /// Whether a part tries an atom before its first way.
@@ -104,29 +78,16 @@ pub(crate) fn tries_first(node: &Node) -> bool
     ensures { result ≡ tries_first (bare node.now) }
 {
     match node {
-        Node::Empty => false,
+        Node::Empty | Node::Before { .. } => false,
         Node::One(_) => true,
-        Node::Seq(a, _) => tries_first(a),
-        Node::Or(a, _) => tries_first(a),
-        Node::And(a, _) => tries_first(a),
-        Node::Group(a, _) => tries_first(a),
-        Node::External(a, _) => tries_first(a),
+        Node::Seq(a, _) | Node::Or(a, _) | Node::And(a, _) => tries_first(a),
+        Node::Group(a, _) | Node::External(a, _) | Node::Whole(a) => tries_first(a),
         Node::Repeat {
             part,
             least,
             most,
             lazy,
-        } => {
-            if is_spent(*most) {
-                false
-            } else if *least == 0 {
-                !*lazy && tries_first(part)
-            } else {
-                tries_first(part)
-            }
-        }
+        } => { !is_spent(*most) && !(*least == 0 && *lazy) && tries_first(part) }
         Node::Ahead { part, not: _ } => tries_first(part),
-        Node::Before { .. } => false,
-        Node::Whole(a) => tries_first(a),
     }
 }

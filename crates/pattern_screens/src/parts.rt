@@ -4,10 +4,9 @@ ghost use Rattle.vim_pattern.specs.Shape.{bare};
 ghost use Rattle.pattern_screens.specs.Screens.{both, in_turn, or_maybe, or_still, still_atom, still_look, still_of};
 ghost use Rattle.pattern_screens.specs.Lined.{is_lined};
 
-use crate::atoms::may_take;
+use crate::atoms::{By, may_take};
 use crate::key::{Key, is_after_keyword, is_end, is_first, is_keyword};
 use crate::lined::{is_lined, is_spent};
-use crate::seen::By;
 use crate::still::{Still, unless};
 use pattern_items::Atom;
 use vim_pattern::Node;

@@ -4,10 +4,10 @@ ghost use Rattle.vim_pattern.specs.Shape.{bare};
 ghost use Rattle.pattern_screens.specs.Bounds.{failing_cost};
 ghost use Rattle.pattern_screens.specs.Rest.{rest_fails, rest_tree, second_of};
 
+use crate::atoms::By;
 use crate::bounds::most_cost;
 use crate::futile::is_dead;
 use crate::key::{KEYS, Key};
-use crate::seen::By;
 use char_class::Sets;
 use vim_pattern::{Node, Tree};
 

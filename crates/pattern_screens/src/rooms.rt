@@ -7,43 +7,21 @@ use crate::bounds::{Bound, ONE_WAY};
 use crate::lined::{is_few, is_lined_atom};
 use vim_pattern::Node;
 
-/// A count without a limit by its part: one that forces one turn at most.
-fn endless_room(most: u64, least: u32, part: Bound) -> Option<Bound>
-    ensures { IfSome result (λ room. turns_room most least None part ≡ Some room) }
-{
-    if 1 < least || 1 < part.ways {
-        return None;
-    }
-    Some(Bound {
-        ways: most.checked_add(1)?,
-        cost: most.checked_add(2)?.checked_mul(part.cost)?,
-    })
-}
-
-/// Any other count by its part.
-fn limited_room(most: u64, least: u32, turns: u32, part: Bound) -> Option<Bound>
-    ensures { IfSome result (λ room. turns_room most least (Some turns) part ≡ Some room) }
-{
-    if least == 0 && turns == 1 {
-        return Some(Bound {
-            ways: part.ways.checked_add(1)?,
-            cost: part.cost,
-        });
-    }
-    if is_few(Some(turns)) {
-        part.chain(u64::from(turns) + 1)
-    } else {
-        None
-    }
-}
-
-/// A count by its part.
+/// A count by its part: one without a limit has to force one turn at most.
 fn turns_room(most: u64, least: u32, turns: Option<u32>, part: Bound) -> Option<Bound>
     ensures { IfSome result (λ room. turns_room most least turns part ≡ Some room) }
 {
     match turns {
-        None => endless_room(most, least, part),
-        Some(turns) => limited_room(most, least, turns, part),
+        None if least <= 1 && part.ways <= 1 => Some(Bound {
+            ways: most.checked_add(1)?,
+            cost: most.checked_add(2)?.checked_mul(part.cost)?,
+        }),
+        Some(1) if least == 0 => Some(Bound {
+            ways: part.ways.checked_add(1)?,
+            cost: part.cost,
+        }),
+        Some(turns) if is_few(Some(turns)) => part.chain(u64::from(turns) + 1),
+        _ => None,
     }
 }
 
