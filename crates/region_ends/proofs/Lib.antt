@@ -1,4 +1,5 @@
 pub mod AttemptLaws
+pub mod CommonLaws
 pub mod KeptEndLaws
 pub mod LimitLaws
 pub mod LookedLaws

@@ -6,7 +6,7 @@ use Rattle.syn_base.specs.declared.looked.Looked.{Looked}
 use Rattle.syn_base.specs.Looked.{hull_of, lesser, greater, one_line}
 use Rattle.syn_base.proofs.HullLaws.{hull_assoc, hull_comm}
 use Rattle.paint_rules.specs.Painted.{Painted, Done, Refused, looked_first}
-use Rattle.region_ends.specs.Steps.{HoldsLine}
+use Rattle.region_ends.specs.Stretches.{HoldsLine}
 
 wider : (j n : Looked) (l : ℕ) → HoldsLine j l → HoldsLine (hull_of j n) l
 wider j n l h =

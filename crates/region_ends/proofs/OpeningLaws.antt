@@ -24,7 +24,7 @@ use Rattle.pattern_screens.specs.ScreenLaw.{IsInVain}
 use Rattle.syntax_set.specs.declared.item.Pattern.{Pattern}
 use Rattle.region_ends.specs.declared.opening.Opening.{Opening}
 use Rattle.region_ends.specs.declared.opening.Opening.TheVariants.{Nothing, With, Unknown}
-use Rattle.region_ends.specs.Opening.{IsToldOf, begins_elsewhere, begins_with, cannot_begin, differs, external_of, first_external, first_of, is_unopened, stands}
+use Rattle.region_ends.specs.Opening.{IsToldOf, begins_with, external_of, first_external, first_of, is_unopened, stands}
 
 -- ---- the first atom
 
@@ -60,6 +60,11 @@ first_is (before s negative limit) number e = absurd (cc)
 first_is (whole s) number e = absurd (cc)
 
 -- ---- its text doesn't stand there
+
+-- another character stands where the text would begin, or none
+abbrev pub differs : Option ℕ → Bool → Option ℕ → Bool
+differs None ignore next = false
+differs (Some c) ignore next = not (stands c ignore next)
 
 only_not : (b : Bool) (p : Place) → not b ≡ true → only_if b p ≡ None
 only_not true p e = absurd (cc)
@@ -119,10 +124,6 @@ module _ (externals : List (List ℕ)) (ignore : Bool) (pattern : Pattern) where
   none_told (With c asked) e = λ number h. absurd (cc)
   none_told Unknown e = tt
 
-  pub nothing_first : (told : Opening) → IsToldOf externals ignore Nothing pattern ⊎ IsToldOf externals ignore told pattern → IsToldOf externals ignore told pattern
-  nothing_first told (inl e) = none_told told e
-  nothing_first told (inr h) = h
-
   pub nothing_last : (told : Opening) → IsToldOf externals ignore told pattern ⊎ IsToldOf externals ignore Nothing pattern → IsToldOf externals ignore told pattern
   nothing_last told (inl h) = h
   nothing_last told (inr e) = none_told told e
@@ -132,15 +133,10 @@ module _ (externals : List (List ℕ)) (ignore : Bool) (pattern : Pattern) where
   same_told told (inr h) = h
 
 -- it tells where the end can't begin
-module _ (externals : List (List ℕ)) (ignore : Bool) (pattern : Pattern) (next : Option ℕ) where
-  by_told : (opening : Opening) (o : Option ℕ) → begins_with pattern ≡ o → is_some o ≡ true → IsToldOf externals ignore opening pattern → is_unopened opening next ≡ true →
-      begins_elsewhere o externals (ignores_case pattern.tree ignore) next ≡ true
-  by_told opening None e some told unopened = absurd (cc)
-  by_told Nothing (Some number) e some told unopened = absurd (cc)
-  by_told (With c asked) (Some number) e some told unopened =
-      let h = told number e in
-      (λ i. differs (h.0 i) (h.1 i) next) ∙ unopened
-  by_told Unknown (Some number) e some told unopened = absurd (cc)
-
-  pub told_elsewhere : (opening : Opening) → is_some (begins_with pattern) ≡ true → IsToldOf externals ignore opening pattern → is_unopened opening next ≡ true → cannot_begin externals ignore pattern next ≡ true
-  told_elsewhere opening some told unopened = by_told opening (begins_with pattern) refl some told unopened
+pub told_differs : (externals : List (List ℕ)) (ignore : Bool) (pattern : Pattern) (next : Option ℕ) (opening : Opening) (number : ℕ) → begins_with pattern ≡ Some number →
+    IsToldOf externals ignore opening pattern → is_unopened opening next ≡ true → differs (first_of externals number) (ignores_case pattern.tree ignore) next ≡ true
+told_differs externals ignore pattern next Nothing number e told unopened = absurd (cc)
+told_differs externals ignore pattern next (With c asked) number e told unopened =
+    let h = told number e in
+    (λ i. differs (h.0 i) (h.1 i) next) ∙ unopened
+told_differs externals ignore pattern next Unknown number e told unopened = absurd (cc)

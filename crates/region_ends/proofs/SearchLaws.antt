@@ -2,7 +2,7 @@
 use Rattle.std.proofs.Common.{◌≡◌, ℕ, zero, suc, ◌+◌, ◌-◌, ◌<◌, ◌≤◌, Bool, true, false, List, [], ◌∷◌, length, refl, sym, ap, ◌∙◌, arith, subst}
 use Rattle.std.specs.Prelude.{Option, Some, None, pos, nat_lt, slice_get, get_or, reverse, take}
 use Rattle.std.specs.Option.{option_map}
-use Rattle.std.proofs.lemmas.List.{take_more, reverse-append}
+use Rattle.std.proofs.lemmas.Option.{get_or_from_slice_get}
 use Rattle.std.proofs.lemmas.Bool.Decides.{nat_tests}
 use Rattle.syn_base.specs.declared.looked.Looked.{Looked}
 use Rattle.syn_base.specs.declared.places.ItemId.{ItemId}
@@ -27,6 +27,7 @@ use Rattle.region_ends.specs.Attempts.{IsAttempted}
 use Rattle.region_ends.specs.Searches.{IsEnd}
 use Rattle.region_ends.specs.Steps.{IsTried, IsSkip, seen, EndsBefore}
 use Rattle.region_ends.proofs.AttemptLaws.{within}
+use Rattle.region_ends.proofs.CommonLaws.{last_first}
 
 -- what stays on a text ends in a line that has a number
 pub ends_before : (text : Text) (start : Place) (count : ℕ) (t : Attempt) → IsToldOn text start t → length text < count → EndsBefore count t
@@ -48,62 +49,26 @@ tried_at_is s pattern c looked t less h =
     let P : Bool → Type 0 = λ b. IsTried (seen looked t) s.item (looked_first (Some looked) (elim b as (λ _. Painted Cause (Option Matched)) [ true ↦ done None | false ↦ attempted s.rules s.text s.item s.externals pattern (place_at s.from.line (c - pattern.lc)) >>= looks_at_end ])) in
     subst P (sym e) (seen_first s.item looked _ t (within s.item s.rules.budget _ t h))
 
--- one end pattern
-first_end : (s : Search) (c : ℕ) (looked : Looked) (pattern : Pattern) (rest : List Pattern) →
-    looked_first (Some looked) (first_found (end_at s c) (pattern ∷ rest))
-    ≡ (looked_first (Some looked) (tried_at s pattern c) >>= (λ m. done (option_map (end_made s pattern) m)))
+-- ---- the end patterns at a column
+
+-- what the first of some gives, or those behind it
+abbrev pub after_try : Search → Pattern → List Pattern → ℕ → Painted Cause (Option Matched) → Painted Cause (Option RegionEnd)
+after_try s pattern rest c p = (p >>= (λ m. done (option_map (end_made s pattern) m)))
     >>= (λ found. elim found as (λ _. Painted Cause (Option RegionEnd)) [ None ↦ first_found (end_at s c) rest | Some b ↦ done (Some b) ])
+
+pub first_end : (s : Search) (c : ℕ) (looked : Looked) (pattern : Pattern) (rest : List Pattern) →
+    looked_first (Some looked) (first_found (end_at s c) (pattern ∷ rest)) ≡ after_try s pattern rest c (looked_first (Some looked) (tried_at s pattern c))
 first_end s c looked pattern rest =
     let f = λ (m : Option Matched). done {E = Cause} (option_map (end_made s pattern) m) in
     let h = λ (found : Option RegionEnd). elim found as (λ _. Painted Cause (Option RegionEnd)) [ None ↦ first_found (end_at s c) rest | Some b ↦ done (Some b) ] in
     first_bind (Some looked) (tried_at s pattern c >>= f) h ∙ ap (λ p. p >>= h) (first_bind (Some looked) (tried_at s pattern c) f)
 
-module _ (s : Search) (c : ℕ) (looked : Looked) (pattern : Pattern) (rest : List Pattern) where
-  abbrev after_try : Painted Cause (Option Matched) → Painted Cause (Option RegionEnd)
-  after_try p = (p >>= (λ m. done (option_map (end_made s pattern) m)))
-      >>= (λ found. elim found as (λ _. Painted Cause (Option RegionEnd)) [ None ↦ first_found (end_at s c) rest | Some b ↦ done (Some b) ])
-
-  pub end_absent : (k : Looked) → looked_first (Some looked) (tried_at s pattern c) ≡ Done None (Some k) →
-      looked_first (Some looked) (first_found (end_at s c) (pattern ∷ rest)) ≡ looked_first (Some k) (first_found (end_at s c) rest)
-  end_absent k h = first_end s c looked pattern rest ∙ ap after_try h
-
-  pub end_found : (m : Matched) (k : Looked) → looked_first (Some looked) (tried_at s pattern c) ≡ Done (Some m) (Some k) →
-      looked_first (Some looked) (first_found (end_at s c) (pattern ∷ rest)) ≡ Done (Some (end_made s pattern m)) (Some k)
-  end_found m k h = first_end s c looked pattern rest ∙ ap after_try h
-
-  pub end_costly : refusal_of (looked_first (Some looked) (tried_at s pattern c)) ≡ Some (TooCostly s.item) →
-      refusal_of (looked_first (Some looked) (first_found (end_at s c) (pattern ∷ rest))) ≡ Some (TooCostly s.item)
-  end_costly h = ap refusal_of (first_end s c looked pattern rest) ∙ refusal_bind (TooCostly s.item) _ _ (refusal_bind (TooCostly s.item) _ _ h)
-
-pub last_first : {A : Type 0} (xs : List A) (n : ℕ) (x d : A) → 0 < n → n ≤ length xs → Some x ≡ slice_get xs (n - 1) → reverse (take n xs) ≡ x ∷ reverse (take (n - 1) xs)
-last_first {A = A} xs n x d h g e =
-    let f : n ≡ (n - 1) + 1 = omega arith in
-    let less : n - 1 < length xs = omega arith in
-    ap (λ k. reverse (take k xs)) f ∙ (ap reverse (take_more xs (n - 1) d less) ∙ (reverse-append (take (n - 1) xs) (get_or xs (n - 1) d ∷ []) ∙ ap (λ y. y ∷ reverse (take (n - 1) xs)) (read xs (n - 1) x d e)))
-  where
-    read : (xs : List A) (i : ℕ) (x d : A) → Some x ≡ slice_get xs i → get_or xs i d ≡ x
-    read [] i x d e = absurd (cc)
-    read (y ∷ ys) zero x d e = cc
-    read (y ∷ ys) (suc i) x d e = read ys i x d e
-
--- a turn over the end patterns, with those before it still to come
-module _ (s : Search) (c : ℕ) (looked : Looked) (patterns : List Pattern) (left : ℕ) (pattern : Pattern) (some : 0 < left) (most : left ≤ length patterns) (is : Some pattern ≡ slice_get patterns (left - 1)) where
-  abbrev of_ends : List Pattern → Painted Cause (Option RegionEnd)
-  of_ends ps = looked_first (Some looked) (first_found (end_at s c) ps)
-
-  first_is : of_ends (reverse (take left patterns)) ≡ of_ends (pattern ∷ reverse (take (left - 1) patterns))
-  first_is = ap of_ends (last_first patterns left pattern pattern some most is)
-
-  pub turn_absent : (k : Looked) → looked_first (Some looked) (tried_at s pattern c) ≡ Done None (Some k) →
-      of_ends (reverse (take left patterns)) ≡ looked_first (Some k) (first_found (end_at s c) (reverse (take (left - 1) patterns)))
-  turn_absent k h = first_is ∙ end_absent s c looked pattern _ k h
-
-  pub turn_found : (m : Matched) (k : Looked) → looked_first (Some looked) (tried_at s pattern c) ≡ Done (Some m) (Some k) →
-      of_ends (reverse (take left patterns)) ≡ Done (Some (end_made s pattern m)) (Some k)
-  turn_found m k h = first_is ∙ end_found s c looked pattern _ m k h
-
-  pub turn_costly : refusal_of (looked_first (Some looked) (tried_at s pattern c)) ≡ Some (TooCostly s.item) → refusal_of (of_ends (reverse (take left patterns))) ≡ Some (TooCostly s.item)
-  turn_costly h = ap refusal_of first_is ∙ end_costly s c looked pattern _ h
+-- a turn over them, with those before it still to come
+pub turn : (s : Search) (c : ℕ) (looked : Looked) (patterns : List Pattern) (left : ℕ) (pattern : Pattern) → 0 < left → left ≤ length patterns → Some pattern ≡ slice_get patterns (left - 1) →
+    looked_first (Some looked) (first_found (end_at s c) (reverse (take left patterns))) ≡ after_try s pattern (reverse (take (left - 1) patterns)) c (looked_first (Some looked) (tried_at s pattern c))
+turn s c looked patterns left pattern some most is =
+    ap (λ ps. looked_first (Some looked) (first_found (end_at s c) ps)) (last_first patterns left pattern some most is)
+    ∙ first_end s c looked pattern (reverse (take (left - 1) patterns))
 
 -- columns before the one where the search goes on are passed over
 pass : (s : Search) (kind : ItemKind) (d n c next : ℕ) → next ≡ c + d → d ≤ n → end_from s kind (columns c n) next ≡ end_from s kind (columns next (n - d)) next
@@ -173,21 +138,9 @@ module _ (s : Search) (kind : ItemKind) (c last : ℕ) (looked : Looked) (less :
     pub ends_costly : refusal_of found ≡ Some (TooCostly s.item) → refusal_of whole ≡ Some (TooCostly s.item)
     ends_costly h = ap refusal_of to_ends ∙ refusal_bind (TooCostly s.item) found _ h
 
--- a callee's answer, in an arm that knows which one it is
-pub skip_read : (s : Search) (i : ItemId) (kind : ItemKind) (c : ℕ) (looked : Looked) (o : Option Pattern) (t u : SkipAnswer) → o ≡ skip_of kind → t ≡ u →
-    IsSkip t i (looked_first (Some looked) (skip_at s o c)) → IsSkip u i (looked_first (Some looked) (skip_at s (skip_of kind) c))
-skip_read s i kind c looked o t u e f h =
-    subst (λ (t : SkipAnswer). IsSkip t i (looked_first (Some looked) (skip_at s (skip_of kind) c))) f (subst (λ (o : Option Pattern). IsSkip t i (looked_first (Some looked) (skip_at s o c))) e h)
-
-pub ends_read : (s : Search) (i : ItemId) (kind : ItemKind) (c : ℕ) (looked : Looked) (ps : List Pattern) (t u : EndAnswer) → ps ≡ ends_of kind → t ≡ u →
-    IsEnd t i (looked_first (Some looked) (first_found (end_at s c) (reverse ps))) → IsEnd u i (looked_first (Some looked) (first_found (end_at s c) (reverse (ends_of kind))))
-ends_read s i kind c looked ps t u e f h =
-    subst (λ (t : EndAnswer). IsEnd t i (looked_first (Some looked) (first_found (end_at s c) (reverse (ends_of kind))))) f (subst (λ (ps : List Pattern). IsEnd t i (looked_first (Some looked) (first_found (end_at s c) (reverse ps)))) e h)
-
+-- a line of a text
 pub line_is : (text : List (List ℕ)) (l : ℕ) (line : List ℕ) → Some line ≡ slice_get text l → line_at text l ≡ line
-line_is [] l line e = absurd (cc)
-line_is (y ∷ ys) zero line e = cc
-line_is (y ∷ ys) (suc l) line e = line_is ys l line e
+line_is text l line e = get_or_from_slice_get text l line [] (sym e)
 
 -- past the line's end there is no column
 pub none_left : (s : Search) (kind : ItemKind) (c last : ℕ) (looked : Looked) → last < c → looked_first (Some looked) (end_from s kind (columns_from c last) c) ≡ Done None (Some looked)

@@ -10,9 +10,11 @@ use Rattle.syn_base.specs.declared.places.GroupId.{GroupId}
 use Rattle.syn_base.specs.declared.places.ItemId.{ItemId}
 use Rattle.syn_base.specs.declared.places.Place.{Place}
 use Rattle.syn_base.specs.Looked.{one_line}
+use Rattle.syn_base.proofs.HullLaws.{hull_self}
 use Rattle.match_rules.specs.Ways.{Text, is_after, line_at}
 use Rattle.syntax_set.specs.declared.added_item.AddedItem.{AddedItem}
 use Rattle.syntax_set.specs.declared.item.ItemKind.{ItemKind}
+use Rattle.syntax_set.specs.declared.item.ItemKind.TheVariants.{Region}
 use Rattle.syntax_set.specs.declared.item.Pattern.{Pattern}
 use Rattle.paint_rules.specs.declared.RegionEnd.{RegionEnd}
 use Rattle.paint_rules.specs.declared.Which.TheVariants.{Me, He, Re}
@@ -22,16 +24,16 @@ use Rattle.paint_rules.specs.Offsets.{offset_place, later_place, earlier_place}
 use Rattle.paint_rules.specs.ItemMatch.{columns_from}
 use Rattle.paint_rules.specs.EndInLine.{Search, Skip, NoSkip, SkipTo, SkipLine, skip_of, ends_of, skip_at, tried_at, end_at, end_made, end_from, end_in_line, end_in_present}
 use Rattle.region_ends.specs.declared.end_memo.Known.{Known}
-use Rattle.region_ends.specs.declared.passing.Passing.{Passing}
+use Rattle.region_ends.specs.declared.passing.Walk.{Walk}
 use Rattle.region_ends.specs.declared.searching.EndAnswer.{EndAnswer}
 use Rattle.region_ends.specs.declared.searching.EndAnswer.TheVariants.{NotHere}
 use Rattle.region_ends.specs.declared.searching.Searched.{Searched}
 use Rattle.region_ends.specs.declared.searching.Searching.{Searching}
 use Rattle.region_ends.specs.EndMemo.{IsKept, KnownStands}
-use Rattle.region_ends.specs.Passing.{IsPassedOver, IsPassing}
+use Rattle.region_ends.specs.Passing.{IsPassedOver, IsWalk}
 use Rattle.region_ends.specs.Searches.{search_of, IsEnd}
-use Rattle.region_ends.specs.Steps.{HoldsLine, search_in}
-use Rattle.region_ends.specs.Stretches.{answer_at, IsFirst, ReachesEnd, SameUpTo, TellsColumns, left_from}
+use Rattle.region_ends.specs.Steps.{search_in}
+use Rattle.region_ends.specs.Stretches.{answer_at, found_from, left_from, GoesOn, HoldsLine, IsFirst, IsSearched, ReachesEnd, TellsColumns}
 use Rattle.region_ends.proofs.LookedLaws.{alone_before}
 use Rattle.region_ends.proofs.PassingLaws.{columns_passed}
 use Rattle.region_ends.proofs.SearchLaws.{none_left}
@@ -201,54 +203,129 @@ module _ (items : List AddedItem) (sets : Sets) (budget : ℕ) (text : Text) (re
       ∙ like_first at (Some one) (end_from early kind cs d) (end_from late kind cs d) (from_like kind cs d) found (Some one) reached
       (answer_done region from.line found (looked_first (Some one) (end_from early kind cs d)) h))
 
--- ---- columns from which searches come to the same
+-- ---- what a search knows when it comes to a column
 
-module _ (s : Searching) (text : Text) (kind : ItemKind) where
-  abbrev one : Looked
-  one = one_line (pos s.from.line)
-
-  abbrev last : ℕ
-  last = length (line_at text s.from.line)
-
-  abbrev after : Looked → ℕ → Painted Cause (Option RegionEnd)
-  after k c = looked_first (Some k) (end_from (search_in s text) kind (columns_from c last) c)
-
-  pub same_to : (a : Passing) (skip : Option Pattern) (ends : List Pattern) → IsPassing a s text skip ends → skip ≡ skip_of kind → ends ≡ ends_of kind → HoldsLine one s.from.line →
-      (first c busy : ℕ) → SameUpTo s text kind first c → c ≤ busy → busy ≤ suc last → ((j : ℕ) → c ≤ j → j < busy → IsPassedOver a j) → SameUpTo s text kind first busy
-  same_to a skip ends of sk en held first c busy same from within over d low high = elim (cases_lt d c) [
-    | inl before ↦ same d low (omega (arith, before)) ∙ passed c (omega arith) from
-    | inr behind ↦ passed d behind high
-  ]
-    where
-      passed : (e : ℕ) → c ≤ e → e ≤ busy → left_from s text kind e ≡ left_from s text kind busy
-      passed e low high = columns_passed a s text skip ends of one held last refl kind sk en e busy high within (λ j from below. over j (omega (arith, from, low)) below)
-
-  pub same_after : (first busy next result : ℕ) (k m : Looked) → IsFirst result first busy next k m → m ≡ one → (k ≡ one → SameUpTo s text kind first busy) → after k busy ≡ after m next → SameUpTo s text kind result next
-  same_after first busy next result k m (inl e) alone same step d low high =
-      let here : d ≡ next = omega (arith, e, low, high) in
-      ap (left_from s text kind) here
-  same_after first busy next result k m (inr h) alone same step d low high = elim (cases_lt d next) [
-    | inl before ↦ same (sym h.2 ∙ alone) d (omega (arith, low, h.0)) (omega (arith, before, h.1)) ∙ (ap (λ (k : Looked). after k busy) (sym (sym h.2 ∙ alone)) ∙ (step ∙ ap (λ (k : Looked). after k next) alone))
-    | inr behind ↦ (let here : d ≡ next = omega (arith, behind, high) in ap (left_from s text kind) here)
-  ]
-
-  pub from_at : (first c busy next result : ℕ) (k m : Looked) → IsFirst result first busy next k m → s.from.col ≤ first → s.from.col ≤ c → c ≤ busy → busy < next → s.from.col ≤ result
-  from_at first c busy next result k m (inl e) low here from less = omega (arith, e, here, from, less)
-  from_at first c busy next result k m (inr h) low here from less = omega (arith, h.0, low)
-
-  pub alone_at : (k : Looked) (c : ℕ) (a : EndAnswer) (found : Option RegionEnd) → HoldsLine k s.from.line → a ≡ answer_at found s.from.line → IsEnd a s.region (after k c) → k ≡ one
-  alone_at k c a found held e h =
-      alone_before k s.from.line (end_from (search_in s text) kind (columns_from c last) c) found held
-      (answer_done s.region s.from.line found (after k c) (subst (λ (a : EndAnswer). IsEnd a s.region (after k c)) e h))
-
-  -- past the line's end there is no column
-  pub none_at : (looked : Looked) (first c : ℕ) → SameUpTo s text kind first c → last < c → looked ≡ one → (d : ℕ) → first ≤ d → d ≤ c → IsEnd (NotHere looked) s.region (left_from s text kind d)
-  none_at looked first c same past alone d low high =
-      same d low high ∙ (none_left (search_in s text) kind c last one past ∙ ap (λ (k : Looked). Done None (Some k)) (sym alone))
-
-pub not_here_at : (looked : Looked) (found : Option RegionEnd) (l : ℕ) → NotHere looked ≡ answer_at found l → looked ≡ one_line (pos l)
+not_here_at : (looked : Looked) (found : Option RegionEnd) (l : ℕ) → NotHere looked ≡ answer_at found l → looked ≡ one_line (pos l)
 not_here_at looked None l e = cc
 not_here_at looked (Some x) l e = absurd (cc)
+
+-- what is left, and from which columns on searches come to the same
+pub record Reached (a : Walk) (text : Text) (looked : Looked) (first c : ℕ) : Type 0 where
+  pub left : found_from a text a.search.from.col ≡ left_from a text looked c
+  pub held : HoldsLine looked a.search.from.line
+  pub at : a.search.from.col ≤ c
+  pub from : a.search.from.col ≤ first
+  pub same : looked ≡ one_line (pos a.search.from.line) → (d : ℕ) → first ≤ d → d ≤ c → found_from a text d ≡ found_from a text c
+
+-- what a search came to, and from which columns it would come to the same
+record Covers (a : Walk) (text : Text) (s : Searched) : Type 0 where
+  pub answer : IsEnd s.answer a.search.region (found_from a text a.search.from.col)
+  pub from : a.search.from.col ≤ s.first
+  pub same : (found : Option RegionEnd) → s.answer ≡ answer_at found a.search.from.line → (d : ℕ) →
+      s.first ≤ d → d < s.to → IsEnd s.answer a.search.region (found_from a text d)
+
+module _ (a : Walk) (text : Text) (of : IsWalk a text) where
+  abbrev one : Looked
+  one = one_line (pos a.search.from.line)
+
+  pub begun : (looked : Looked) → looked ≡ one → Reached a text looked a.search.from.col a.search.from.col
+  begun looked is = record {
+    left = ap (λ (k : Looked). left_from a text k a.search.from.col) (sym is);
+    held = subst (λ (k : Looked). HoldsLine k a.search.from.line) (sym is) (hull_self one);
+    at = omega arith;
+    from = omega arith;
+    same = λ alone d low high. ap (found_from a text) (omega (arith, low, high));
+  }
+
+  pub passed : (looked : Looked) (first c busy : ℕ) → Reached a text looked first c → c ≤ busy → busy ≤ suc (length a.line.now) → ((j : ℕ) → c ≤ j → j < busy → IsPassedOver a j) → Reached a text looked first busy
+  passed looked first c busy r more within over = record {
+    left = r.left ∙ columns_passed a text of looked r.held c busy more within over;
+    held = r.held;
+    at = omega (arith, r.at);
+    from = r.from;
+    same = λ alone d low high. elim (cases_lt d c) [
+      | inl before ↦ r.same alone d low (omega (arith, before)) ∙ passed_from c (omega arith) more
+      | inr behind ↦ passed_from d behind high
+    ];
+  }
+    where
+      passed_from : (d : ℕ) → c ≤ d → d ≤ busy → found_from a text d ≡ found_from a text busy
+      passed_from d low high = columns_passed a text of one (hull_self one) d busy high within (λ j from below. over j (omega (arith, from, low)) below)
+
+  pub stepped : (looked after : Looked) (first busy next result : ℕ) → Reached a text looked first busy → GoesOn a text looked busy next after → IsFirst result first busy next looked after → Reached a text after result next
+  stepped looked after first busy next result r step is = record {
+    left = r.left ∙ step.same;
+    held = step.held r.held;
+    at = omega (arith, r.at, step.further);
+    from = elim is [ inl e ↦ omega (arith, e, r.at, step.further) | inr h ↦ omega (arith, h.0, r.from) ];
+    same = λ alone d low high. elim is [
+      | inl e ↦ ap (found_from a text) (omega (arith, e, low, high))
+      | inr h ↦ elim (cases_lt d next) [
+        | inl before ↦ (let now : looked ≡ one = sym h.2 ∙ alone in
+            r.same now d (omega (arith, low, h.0)) (omega (arith, before, h.1))
+            ∙ (ap (λ (k : Looked). left_from a text k busy) (sym now) ∙ (step.same ∙ ap (λ (k : Looked). left_from a text k next) alone)))
+        | inr behind ↦ ap (found_from a text) (omega (arith, behind, high))
+      ]
+    ];
+  }
+
+  -- a search asks of its item for the skip and the ends alone
+  by_patterns : (s : Search) (kind : ItemKind) (cs : List ℕ) (on : ℕ) → end_from s kind cs on ≡ end_from s (Region [] (skip_of kind) (ends_of kind)) cs on
+  by_patterns s kind [] on = refl
+  by_patterns s kind (c ∷ cs) on = λ i. elim (nat_lt c on) as (λ _. Painted Cause (Option RegionEnd)) [
+    | true ↦ by_patterns s kind cs on i
+    | false ↦ skip_at s (skip_of kind) c >>= (λ skip. elim skip as (λ _. Painted Cause (Option RegionEnd)) [
+      | NoSkip ↦ or_else (first_found (end_at s c) (reverse (ends_of kind))) (by_patterns s kind cs (suc c) i)
+      | SkipTo next ↦ by_patterns s kind cs next i
+      | SkipLine ↦ done None
+    ])
+  ]
+
+  abbrev kind : ItemKind
+  kind = (item_of a.search.items.now a.search.region).kind
+
+  left_is : (c : ℕ) → looked_first (Some one) (end_from (search_in a.search text) kind (columns_from c (length (line_at text a.search.from.line))) c) ≡ found_from a text c
+  left_is c =
+      ap (looked_first (Some one)) (by_patterns (search_in a.search text) kind (columns_from c (length (line_at text a.search.from.line))) c)
+      ∙ sym (λ i. looked_first (Some one) (end_from (search_in a.search text) (Region [] (of.of.skip i) (of.of.ends i)) (columns_from c (length (of.line i))) c))
+
+  searched : (s : Searched) → Covers a text s → IsSearched a.search text s
+  searched s is = record {
+    answer = subst (λ p. IsEnd s.answer a.search.region p)
+        (sym (ap (λ b. looked_first (Some one) (end_in_present (search_in a.search text) b)) there ∙ left_is a.search.from.col)) is.answer;
+    columns = λ found e d low high reached.
+        subst (λ (x : EndAnswer). IsEnd x a.search.region (end_in_line (search_in (record a.search { from = place_at a.search.from.line d }) text))) (sym e)
+        (from_later a.search.items.now a.search.matcher.sets.now a.search.matcher.budget text a.search.region a.search.externals.now a.search.from d (omega (arith, low, is.from)) found of.may.present reached
+        (subst (λ p. IsEnd (answer_at found a.search.from.line) a.search.region p) (sym (left_is d))
+        (subst (λ (x : EndAnswer). IsEnd x a.search.region (found_from a text d)) e (is.same found e d low high))));
+  }
+    where
+      there : nat_lt a.search.from.line (length text) ≡ true
+      there = grind (arith, nat_tests, of.may.present)
+
+  -- past the line's end there is no column
+  pub none_found : (looked : Looked) (first c : ℕ) → Reached a text looked first c → length a.line.now < c → IsSearched a.search text (record { answer = NotHere looked; first = first; to = c })
+  none_found looked first c r past =
+      let none : (k : Looked) → left_from a text k c ≡ Done None (Some k) = λ k. none_left (search_in a.search text) (Region [] a.skip.now a.ends.now) c (length a.line.now) k past in
+      searched (record { answer = NotHere looked; first = first; to = c }) (record {
+        answer = r.left ∙ none looked;
+        from = r.from;
+        same = λ found e d low high.
+            let now = not_here_at looked found a.search.from.line e in
+            r.same now d low (omega (arith, high)) ∙ (none one ∙ ap (λ (k : Looked). Done None (Some k)) (sym now));
+      })
+
+  pub answered : (looked : Looked) (first busy to : ℕ) (answer : EndAnswer) → Reached a text looked first busy → to ≡ suc busy → IsEnd answer a.search.region (left_from a text looked busy) →
+      IsSearched a.search text (record { answer = answer; first = first; to = to })
+  answered looked first busy to answer r e there = searched (record { answer = answer; first = first; to = to }) (record {
+    answer = subst (λ p. IsEnd answer a.search.region p) (sym r.left) there;
+    from = r.from;
+    same = λ found is d low high.
+        let now = alone_before looked a.search.from.line (end_from (search_in a.search text) (Region [] a.skip.now a.ends.now) (columns_from busy (length a.line.now)) busy) found r.held
+        (answer_done a.search.region a.search.from.line found (left_from a text looked busy) (subst (λ (x : EndAnswer). IsEnd x a.search.region (left_from a text looked busy)) is there)) in
+        subst (λ p. IsEnd answer a.search.region p)
+        (sym (r.same now d low (omega (arith, high, e)) ∙ ap (λ (k : Looked). left_from a text k busy) (sym now))) there;
+  })
 
 -- what a search came to stands of its line
 pub kept_stands : (a : Searching) (text : Text) (s : Searched) (known : Known) → a.externals.now ≡ no_externals →

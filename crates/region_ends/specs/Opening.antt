@@ -34,21 +34,6 @@ abbrev pub stands : ℕ → Bool → Option ℕ → Bool
 stands c ignore None = false
 stands c ignore (Some d) = is_same c d ignore
 
--- ---- where a pattern can't begin
-
-abbrev pub differs : Option ℕ → Bool → Option ℕ → Bool
-differs None ignore next = false
-differs (Some c) ignore next = not (stands c ignore next)
-
-abbrev pub begins_elsewhere : Option ℕ → List (List ℕ) → Bool → Option ℕ → Bool
-begins_elsewhere None externals ignore next = false
-begins_elsewhere (Some number) externals ignore next = differs (first_of externals number) ignore next
-
--- it begins with the text of an external, whose first character isn't the next one
-abbrev pub cannot_begin : List (List ℕ) → Bool → Pattern → Option ℕ → Bool
-cannot_begin externals ignore pattern next =
-    begins_elsewhere (begins_with pattern) externals (ignores_case pattern.tree ignore) next
-
 -- ---- what is known of some ends
 
 -- what is known is so of an end

@@ -8,21 +8,16 @@ use Rattle.match_rules.specs.Ways.{Text, is_after}
 use Rattle.pattern_match.specs.declared.answer.Attempt.{Attempt}
 use Rattle.pattern_match.specs.declared.answer.Attempt.TheVariants as tried
 use Rattle.syntax_set.specs.Soundness.{AreSound}
-use Rattle.syntax_set.specs.declared.item.ItemKind.{ItemKind}
-use Rattle.paint_rules.specs.declared.RegionEnd.{RegionEnd}
-use Rattle.paint_rules.specs.Painted.{Painted, Done, looked_first, refusal_of}
+use Rattle.paint_rules.specs.Painted.{Painted, Done, refusal_of}
 use Rattle.paint_rules.specs.Rules as rule
 use Rattle.paint_rules.specs.Rules.{Cause, Matched, item_of, place_at}
 use Rattle.paint_rules.specs.Close.{is_region}
-use Rattle.paint_rules.specs.ItemMatch.{columns_from}
 use Rattle.paint_rules.specs.EndInLine as rule_of
-use Rattle.paint_rules.specs.EndInLine.{Search, Skip, end_from}
+use Rattle.paint_rules.specs.EndInLine.{Search, Skip}
 use Rattle.region_ends.specs.declared.searching.Searching.{Searching}
-use Rattle.region_ends.specs.declared.searching.Step.{Step}
-use Rattle.region_ends.specs.declared.searching.Step.TheVariants.{GoOn, Answer}
 use Rattle.region_ends.specs.declared.skips.SkipAnswer.{SkipAnswer}
 use Rattle.region_ends.specs.declared.skips.SkipAnswer.TheVariants as skips
-use Rattle.region_ends.specs.Searches.{search_of, IsEnd}
+use Rattle.region_ends.specs.Searches.{search_of}
 
 abbrev pub search_in : Searching → Text → Search
 search_in a text = search_of a.items.now a.matcher.sets.now a.matcher.budget text a.region a.externals.now a.from
@@ -33,13 +28,6 @@ pub record MaySearch (a : Searching) (text : Text) : Type 0 where
   pub item : a.region.0 < length a.items.now
   pub region : is_region (item_of a.items.now a.region).kind ≡ true
   pub present : a.from.line < length text
-  pub budget : 1 ≤ a.matcher.budget
-
--- what each step stands on
-pub record IsReady (a : Searching) (text : Text) : Type 0 where
-  pub is_item : a.region.0 < length a.items.now
-  pub present : (a.from).line < length text
-  pub few : length text < 2 ^ 32
   pub budget : 1 ≤ a.matcher.budget
 
 -- a match ends before this line
@@ -63,21 +51,6 @@ IsSkip (skips.NoSkip k) i p = p ≡ Done rule_of.NoSkip (Some k)
 IsSkip (skips.SkipTo c k) i p = p ≡ Done (rule_of.SkipTo c) (Some k)
 IsSkip (skips.SkipLine k) i p = p ≡ Done rule_of.SkipLine (Some k)
 IsSkip skips.TooCostly i p = refusal_of p ≡ Some (rule.TooCostly i)
-
--- a step at a column: the search goes on at a later one, or has its answer
-abbrev pub IsStep : Step → ItemId → Search → ItemKind → ℕ → ℕ → Painted Cause (Option RegionEnd) → Type 0
-IsStep (GoOn next k) i s kind c last p =
-    (c < next) × (next ≤ suc last) × (p ≡ looked_first (Some k) (end_from s kind (columns_from next last) next))
-IsStep (Answer a) i s kind c last p = IsEnd a i p
-
--- the line was looked at
-abbrev pub HoldsLine : Looked → ℕ → Type 0
-HoldsLine k l = hull_of k (one_line (pos l)) ≡ k
-
--- where a step goes on, its line was looked at
-abbrev pub StepHolds : ℕ → Step → Type 0
-StepHolds l (GoOn next k) = HoldsLine k l
-StepHolds l (Answer a) = Unit {0}
 
 -- what a skip says, by the line's length
 abbrev pub skip_from : ℕ → ℕ → ℕ → Place → Skip

@@ -42,35 +42,21 @@ fn known_by(region: ItemId, line: usize, searched: Searched) -> Option<Known>
     requires { line < 2 ^ 63 }
     ensures { IfSome result (IsKept region line searched) }
 {
-    let one = Looked::one(line as i64);
     let Searched { answer, first, to } = searched;
-    match answer {
-        EndAnswer::Ends(end, looked) => {
-            if looked != one {
-                return None;
-            }
-            let end = Some(end);
-            Some(Known {
-                region,
-                first,
-                to,
-                end,
-            })
-        }
-        EndAnswer::NotHere(looked) => {
-            if looked != one {
-                return None;
-            }
-            let end = None;
-            Some(Known {
-                region,
-                first,
-                to,
-                end,
-            })
-        }
-        EndAnswer::TooCostly => None,
+    let end = match answer {
+        EndAnswer::Ends(end, _) => Some(end),
+        EndAnswer::NotHere(_) => None,
+        EndAnswer::TooCostly => return None,
+    };
+    if answer != answer_at(end, line) {
+        return None;
     }
+    Some(Known {
+        region,
+        first,
+        to,
+        end,
+    })
 }
 
 /// The answer of a search that looked at one line.
@@ -144,7 +130,7 @@ impl EndMemo {
 }
 
 impl Searching<'_> {
-    /// The same as `find_end`, with what is known of the line (`EndMemo::clear`) and, from line to line,
+    /// The same as `find_anew`, with what is known of the line (`EndMemo::clear`) and, from line to line,
     /// of the columns at which no pattern of a region fits. `none` are nine empty texts
     /// (`Externals::none`): a search with other externals is made anew.
     pub fn find<T: Lines>(

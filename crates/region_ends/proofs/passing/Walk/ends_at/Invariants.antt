@@ -3,15 +3,15 @@ use Rattle.std.specs.Prelude.{Some}
 use Rattle.paint_rules.specs.Painted.{looked_first, first_found}
 use Rattle.paint_rules.specs.EndInLine.{end_at}
 use Rattle.region_ends.specs.Steps.{search_in}
-use Rattle.region_ends.proofs.searching.Searching.ends_at.Given as goal
+use Rattle.region_ends.proofs.passing.Walk.ends_at.Given as goal
 
 -- what is left are the patterns before
 abbrev pub invariant-ends : goal.invariant-ends
 invariant-ends g l =
-    let s = search_in l.self (g.T.Lines.lines l.lines) in
+    let s = search_in l.self.search (g.T.Lines.lines l.lines) in
     record {
-      whole : looked_first (Some l.fn.looked) (first_found (end_at s l.c) (reverse l.ends)) ≡ looked_first (Some l.seen) (first_found (end_at s l.c) (reverse (take l.left l.ends)));
-      within : l.left ≤ length l.ends;
+      whole : looked_first (Some l.fn.looked) (first_found (end_at s l.c) (reverse l.self.ends.now)) ≡ looked_first (Some l.seen) (first_found (end_at s l.c) (reverse (take l.left l.self.ends.now)));
+      within : l.left ≤ length l.self.ends.now;
     }
 
 abbrev pub decreases-ends : goal.decreases-ends

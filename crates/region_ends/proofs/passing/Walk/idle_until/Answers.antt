@@ -1,6 +1,6 @@
 use Rattle.std.proofs.Common.{◌≤◌, ℕ, below_more, arith}
 use Rattle.region_ends.specs.Passing.{IsPassedOver}
-use Rattle.region_ends.proofs.passing.Passing.idle_until.Goals as goal
+use Rattle.region_ends.proofs.passing.Walk.idle_until.Goals as goal
 
 pub loop-col-preserved : goal.loop-col-preserved
 loop-col-preserved c = record {

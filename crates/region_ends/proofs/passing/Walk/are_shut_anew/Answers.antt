@@ -1,0 +1,16 @@
+use Rattle.std.proofs.Common.{◌∙◌}
+use Rattle.region_ends.specs.Passing.{is_shut_at}
+use Rattle.region_ends.proofs.PassingLaws.{shut_is}
+use Rattle.region_ends.proofs.passing.Walk.are_shut_anew.Goals as goal
+
+pub returns-in-Ok-clause-answers : goal.returns-in-Ok-clause-answers
+returns-in-Ok-clause-answers c =
+    let s = c.args.self.now.search in
+    c.keep.ensures (is_shut_at s.items.now s.matcher.sets.now s.matcher.budget) c.requires.answers
+    (λ e. shut_is c.args.self.now c.requires.of c.args.number ∙ c.are_shut_by-shut.ensures e)
+
+pub returns-in-Ok-2-clause-answers : goal.returns-in-Ok-2-clause-answers
+returns-in-Ok-2-clause-answers c =
+    let s = c.args.self.now.search in
+    c.keep.ensures (is_shut_at s.items.now s.matcher.sets.now s.matcher.budget) c.requires.answers
+    (λ e. shut_is c.args.self.now c.requires.of c.args.number ∙ c.are_shut_by-shut.ensures e)

@@ -1,0 +1,11 @@
+use Rattle.std.proofs.Common.{◌≤◌, ◌<◌, ℕ}
+use Rattle.region_ends.specs.Passing.{IsPassedOver, ShutStands}
+use Rattle.region_ends.proofs.passing.Walk.idle_until.Given as goal
+
+-- the columns before are passed over
+abbrev pub invariant-loop-col : goal.invariant-loop-col
+invariant-loop-col l = record {
+  answers : ShutStands l.self.search l.answers;
+  from : l.c ≤ l.col;
+  passed : (k : ℕ) → l.c ≤ k → k < l.col → IsPassedOver l.self k;
+}
