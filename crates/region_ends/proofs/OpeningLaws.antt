@@ -1,7 +1,7 @@
 -- An end that begins with the text of an external gives nothing where another character stands than
 -- the first of that text.
 use Rattle.std.proofs.Common.{◌≡◌, ◌∙◌, ◌⊎◌, inl, inr, refl, sym, ap, subst, arith, ℕ, Bool, true, false, List, [], ◌∷◌, cond}
-use Rattle.std.specs.Prelude.{Option, Some, None, pos, nat_eq, not, get_or, slice_get, ◌-◌, is_some}
+use Rattle.std.specs.Prelude.{Option, Some, None, pos, nat_eq, not, get_or, slice_get, ◌-◌}
 use Rattle.std.proofs.Math.Bool.{beq}
 use Rattle.std.proofs.lemmas.Bool.Decides.{nat_tests}
 use Rattle.char_class.specs.Folds.{is_same}

@@ -6,7 +6,6 @@ use Rattle.std.specs.Option.{option_map}
 use Rattle.std.proofs.lemmas.Bool.Decides.{nat_tests}
 use Rattle.std.proofs.lemmas.List.Elements.{All-head, All-tail}
 use Rattle.std.proofs.lemmas.List.Sums.{AllPass-from_list_all}
-use Rattle.char_class.specs.declared.sets.Sets.{Sets}
 use Rattle.syn_base.specs.declared.looked.Looked.{Looked}
 use Rattle.syn_base.specs.Looked.{one_line}
 use Rattle.match_rules.specs.Atoms.{has_keyword}
@@ -26,8 +25,8 @@ use Rattle.pattern_screens.specs.Screens.{is_futile}
 use Rattle.pattern_screens.proofs.Screened.{law as futile}
 use Rattle.syntax_set.specs.declared.item.ItemKind.TheVariants.{Region}
 use Rattle.syntax_set.specs.declared.item.Pattern.{Pattern}
-use Rattle.paint_rules.specs.Painted.{Painted, Done, looked_first, ◌>>=◌, done, first_found}
-use Rattle.paint_rules.specs.Rules.{Cause, Matched, item_of, place_at}
+use Rattle.paint_rules.specs.Painted.{Painted, Done, looked_first, done, first_found}
+use Rattle.paint_rules.specs.Rules.{Cause, item_of, place_at}
 use Rattle.paint_rules.specs.Syntax.{attempt_by, context_of}
 use Rattle.paint_rules.specs.EndInLine.{Search, Skip, NoSkip, skip_at, skip_to, tried_at, end_at}
 use Rattle.paint_rules.specs.Offsets.{offset_place}
@@ -35,7 +34,7 @@ use Rattle.paint_rules.specs.declared.Which.TheVariants.{Me}
 use Rattle.paint_rules.proofs.PaintedLaws.{goes_on}
 use Rattle.region_ends.specs.declared.passing.Walk.{Walk}
 use Rattle.region_ends.specs.Opening.{IsToldOf, begins_with, first_of, is_unopened}
-use Rattle.region_ends.specs.Passing.{IsOfRegion, IsPassedOver, IsWalk, Question, are_shut, are_shut_anyway, are_shut_by, is_cheap, is_end_shut, is_shut, is_shut_at, is_skip_shut, question_for, question_of}
+use Rattle.region_ends.specs.Passing.{IsOfRegion, IsPassedOver, IsWalk, Question, are_shut, are_shut_anyway, are_shut_by, is_cheap, is_end_shut, is_shut, is_shut_at, is_skip_shut, question_of}
 use Rattle.region_ends.specs.Steps.{search_in}
 use Rattle.region_ends.specs.Stretches.{HoldsLine, left_from}
 use Rattle.region_ends.proofs.CommonLaws.{all_reverse, both, one_of}

@@ -1,6 +1,6 @@
 -- Each answer of a step is what the rule says, after what was looked at before.
 use Rattle.std.proofs.Common.{◌≡◌, ℕ, zero, suc, ◌+◌, ◌-◌, ◌<◌, ◌≤◌, Bool, true, false, List, [], ◌∷◌, length, refl, sym, ap, ◌∙◌, arith, subst}
-use Rattle.std.specs.Prelude.{Option, Some, None, pos, nat_lt, slice_get, get_or, reverse, take}
+use Rattle.std.specs.Prelude.{Option, Some, None, pos, nat_lt, slice_get, reverse, take}
 use Rattle.std.specs.Option.{option_map}
 use Rattle.std.proofs.lemmas.Option.{get_or_from_slice_get}
 use Rattle.std.proofs.lemmas.Bool.Decides.{nat_tests}
@@ -21,11 +21,8 @@ use Rattle.paint_rules.specs.ItemMatch.{looks_at_end, columns, columns_from}
 use Rattle.paint_rules.specs.EndInLine.{Search, Skip, NoSkip, SkipTo, SkipLine, skip_of, ends_of, skip_at, tried_at, end_at, end_made, end_from}
 use Rattle.syn_base.proofs.HullLaws.{hull_assoc}
 use Rattle.paint_rules.proofs.PaintedLaws.{first_bind, refusal_first, refusal_bind}
-use Rattle.region_ends.specs.declared.searching.EndAnswer.{EndAnswer}
-use Rattle.region_ends.specs.declared.skips.SkipAnswer.{SkipAnswer}
 use Rattle.region_ends.specs.Attempts.{IsAttempted}
-use Rattle.region_ends.specs.Searches.{IsEnd}
-use Rattle.region_ends.specs.Steps.{IsTried, IsSkip, seen, EndsBefore}
+use Rattle.region_ends.specs.Steps.{IsTried, seen, EndsBefore}
 use Rattle.region_ends.proofs.AttemptLaws.{within}
 use Rattle.region_ends.proofs.CommonLaws.{last_first}
 

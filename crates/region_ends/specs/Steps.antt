@@ -1,5 +1,5 @@
 -- The steps of a search: what they stand on, and how their answers are read.
-use Rattle.std.specs.Prelude.{◌≡◌, ◌<◌, ◌≤◌, ◌^◌, ℕ, suc, true, false, Option, Some, None, length, pos}
+use Rattle.std.specs.Prelude.{◌≡◌, ◌<◌, ◌≤◌, ℕ, suc, true, false, Option, Some, None, length, pos}
 use Rattle.syn_base.specs.declared.places.ItemId.{ItemId}
 use Rattle.syn_base.specs.declared.places.Place.{Place}
 use Rattle.syn_base.specs.declared.looked.Looked.{Looked}

@@ -117,7 +117,7 @@ pub fn earlier_end(a: Option<Spot>, b: Option<Spot>) -> Option<Spot>
 }
 
 /// Whether a spot is before another one.
-fn is_before(a: Spot, b: Spot) -> bool
+pub fn is_before(a: Spot, b: Spot) -> bool
     ensures { result ≡ is_before a b }
 {
     match a {

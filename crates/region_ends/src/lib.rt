@@ -17,7 +17,7 @@ mod searching;
 mod skips;
 
 pub use end_memo::EndMemo;
-pub use keeping::{earlier_end, item_of, kept_end, kept_end_over};
+pub use keeping::{earlier_end, is_before, item_of, kept_end, kept_end_over};
 pub use key_answers::KeyAnswers;
 pub use matching::Matcher;
 pub use offsets::{earlier_place, later_place, moved_column, offset_place};

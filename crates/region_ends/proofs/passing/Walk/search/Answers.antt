@@ -1,5 +1,4 @@
 use Rattle.std.proofs.Common.{arith, rules, subst}
-use Rattle.region_ends.specs.declared.searching.Step.{Step}
 use Rattle.region_ends.specs.Stretches.{IsStep}
 use Rattle.region_ends.proofs.StretchLaws.{answered, begun, none_found, passed, stepped}
 use Rattle.region_ends.proofs.passing.Walk.search.Goals as goal
