@@ -80,7 +80,7 @@ module _ (a : Walk) (text : Text) (of : IsWalk a text) (k : Looked) (held : Hold
       let shut = both (is_futile a.search.matcher.sets.now a.ignore key pattern.tree) (is_cheap a.search.matcher.budget pattern) h.1 in
       in_vain pattern (failing_cost pattern.tree) (grind (arith, nat_tests, h.0)) (within_budget a.search.matcher.budget (failing_cost pattern.tree) shut.1)
       (futile pattern.tree x a.search.from.line c (omega (arith, within, ap length of.line))
-      (sym (λ i. is_futile (verdict a.search.matcher.sets.now (of.of.ignore i) (key_of a.search.matcher.sets.now (of.line i) c) pattern.tree)) ∙ shut.0))
+      (sym (λ i. is_futile a.search.matcher.sets.now (of.of.ignore i) (key_of a.search.matcher.sets.now (of.line i) c) pattern.tree) ∙ shut.0))
 
   skip_gives : (o : Option Pattern) → is_skip_shut (question_of a) key o ≡ true → looked_first (Some k) (skip_at s o c) ≡ Done NoSkip (Some k)
   skip_gives None e = refl

@@ -22,4 +22,4 @@ pub use key_answers::KeyAnswers;
 pub use matching::Matcher;
 pub use offsets::{earlier_place, later_place, moved_column, offset_place};
 pub use paint_rules::{RegionEnd, Which};
-pub use searching::{EndAnswer, Searching};
+pub use searching::{EndAnswer, Searching, find_end};

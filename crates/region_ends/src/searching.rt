@@ -1,9 +1,11 @@
 //! The search for the end of a region in a line (`:syn-region`).
-ghost use Rattle.std.specs.Prelude.{◌≡◌, ◌<◌, ◌≤◌, ◌^◌, length, reverse, IfOk, Some};
-ghost use Rattle.syntax_set.specs.Soundness.{IsAdded};
+ghost use Rattle.std.specs.Prelude.{◌≡◌, ◌<◌, ◌≤◌, ◌^◌, length, reverse, true, IfOk, Some};
+ghost use Rattle.syntax_set.specs.Soundness.{AreSound, IsAdded};
 ghost use Rattle.paint_rules.specs.Painted.{looked_first, first_found};
+ghost use Rattle.paint_rules.specs.Rules.{item_of};
+ghost use Rattle.paint_rules.specs.Close.{is_region};
 ghost use Rattle.paint_rules.specs.EndInLine.{end_in_line, end_at, end_made, skip_at, tried_at};
-ghost use Rattle.region_ends.specs.Searches.{IsEnd};
+ghost use Rattle.region_ends.specs.Searches.{search_of, IsEnd};
 ghost use Rattle.region_ends.specs.KeyAnswers.{AnswersStand};
 ghost use Rattle.region_ends.specs.Passing.{is_shut_at, IsWalk, ShutStands};
 ghost use Rattle.region_ends.specs.Stretches.{IsFirst, IsSearched, IsStep, TellsColumns};
@@ -16,8 +18,10 @@ use crate::offsets::{earlier_place, later_place, offset_place};
 use crate::opening::known_opening;
 use crate::passing::Walk;
 use crate::skips::{SkipAnswer, skip_by};
+use char_class::Sets;
 use paint_rules::{RegionEnd, Which};
-use pattern_match::{Attempt, Match};
+use pattern_match::{Attempt, Match, Programs};
+use std::alloc::Global;
 use syn_base::{Externals, ItemId, Lines, List, Looked, Memory, Place};
 use syntax_set::{ItemKind, ItemSet, Pattern};
 
@@ -299,4 +303,41 @@ impl Searching<'_> {
         let searched = self.anew(lines, shut)?;
         Ok(searched.answer)
     }
+}
+
+/// The first end of a region in the line of a place, from that place on. From behind the line's end
+/// none is found.
+pub fn find_end<T: Lines>(
+    alloc: Global,
+    items: &ItemSet,
+    programs: &Programs,
+    sets: &Sets,
+    lines: &T,
+    region: ItemId,
+    externals: &Externals,
+    from: Place,
+    budget: u64,
+) -> Result<EndAnswer, Memory>
+    requires sound { AreSound items.now programs.now }
+    requires item { region.0 < length items.now }
+    requires region { is_region (item_of items.now region).kind ≡ true }
+    requires present { from.line < length (T.lines lines.now) }
+    requires budget { 1 ≤ budget }
+    ensures { IfOk result (λ a. IsEnd a region (end_in_line (search_of items.now sets.now budget
+        (T.lines lines.now) region externals.now from))) }
+{
+    let matcher = Matcher {
+        alloc,
+        programs,
+        sets,
+        budget,
+    };
+    let searching = Searching {
+        matcher,
+        items,
+        region,
+        externals,
+        from,
+    };
+    searching.find_anew(lines, &mut KeyAnswers::new(alloc))
 }
