@@ -12,9 +12,6 @@ use Rattle.syn_base.specs.declared.places.ItemId.{ItemId}
 use Rattle.syn_base.specs.declared.places.Place.{Place}
 use Rattle.syn_base.specs.declared.want_of_memory.Memory.{Memory}
 use Rattle.vim_pattern.specs.Tree.{PatternTree}
-use Rattle.slots.specs.declared.table.Table.{Table}
-use Rattle.slots.specs.Entries.{IsAt, IsPut}
-use Rattle.slots.proofs.EntryLaws.{all_still}
 use Rattle.match_rules.specs.Ways.{Text, line_at}
 use Rattle.syntax_set.specs.declared.item.ItemKind.{ItemKind}
 use Rattle.syntax_set.specs.declared.item.ItemKind.TheVariants.{Keyword, Match, Region}
@@ -34,6 +31,7 @@ use Rattle.pattern_screens.specs.declared.key.Key.{Key}
 use Rattle.std.proofs.lemmas.Bool.{and_parts as both_true}
 use Rattle.item_pick.specs.declared.choice.Choice.{Choice}
 use Rattle.item_pick.specs.declared.line_known.LineKnown.{LineKnown}
+use Rattle.item_pick.specs.declared.firsts.Reach.{Reach}
 use Rattle.item_pick.specs.declared.runs.Run.{Run}
 use Rattle.item_pick.specs.Attempts.{IsFutile}
 use Rattle.item_pick.specs.Columns.{may_start_at}
@@ -43,7 +41,7 @@ use Rattle.item_pick.specs.Screens.{HoldsLine, HoldsLines, IsIdle, IsLater, IsSe
 use Rattle.item_pick.specs.Standing.{first_pattern, has_one_start, IsFirst, IsPatternOf}
 use Rattle.item_pick.specs.Started.{admits, is_free}
 use Rattle.item_pick.specs.Firsts.{idles_before, IsToldOfFirst, sits_by, some_idle}
-use Rattle.item_pick.specs.Tables.{AnchorsStand, IsAnchored, IsCheapWithin, IsEnough, IsMissed, IsNextAt, IsNextIn, IsNumberAt, Lacks, LineStands, ListStands, LongestStand, passes, RisesTo, RunStands, StaysOut}
+use Rattle.item_pick.specs.Tables.{IsAnchored, IsCheapWithin, IsEnough, IsMissed, IsReachOf, IsNextAt, IsNextIn, IsNumberAt, Lacks, LineStands, ListStands, passes, RisesTo, RunStands, StaysOut}
 use Rattle.syn_base.specs.Looked.{one_line}
 use Rattle.item_pick.proofs.BehindLaws.{futile_vain}
 use Rattle.item_pick.proofs.MatchLaws.{no_start}
@@ -391,12 +389,6 @@ missed_vain r law after t i pattern p c may within missed is (Some lines) h =
     subst (λ k. IsVainFrom r t p i pattern k c) (sym h.1)
     (futile_vain r t i pattern p c (one_line (pos p.line)) may (missed_futile r law after t i pattern p.line c within (is h.0)))
 
--- an answer that is kept
-pub anchors_still : (r : Rules) (old new : Table Bool) (i : ItemId) (is : Bool) → IsPut (IsAt old) (IsAt new) i.0 is → AnchorsStand r old → (is ≡ true → IsAnchored r i) → AnchorsStand r new
-anchors_still r old new i is put stands own = record {
-  told = λ item there. all_still (λ k is. is ≡ true → IsAnchored r (item_numbered k)) (IsAt old) (IsAt new) i.0 is put (λ k is was e. stands.told k (subst (λ (is : Bool). IsAt old k is) e was)) own item true there refl;
-}
-
 -- ---- in how long lines a look behind is within the budget
 
 pub cheap_by : (r : Rules) (i : ItemId) (pattern : Pattern) → IsFirst r i pattern → (o : Option ℕ) → IfSome o (λ most. is_cheap_behind r.budget most pattern.tree ≡ true) → IfSome o (IsCheapWithin r i)
@@ -404,12 +396,11 @@ cheap_by r i pattern first None told = tt
 cheap_by r i pattern first (Some most) told = λ other own.
     subst (λ (q : Pattern). is_cheap_behind r.budget most q.tree ≡ true) (one_first r i pattern other first own) told
 
-pub longest_by : (r : Rules) (longest : Table (Option ℕ)) (i : ItemId) → LongestStand r longest → (o : Option ℕ) → IsAt longest i.0 o → IfSome o (IsCheapWithin r i)
-longest_by r longest i stands None there = tt
-longest_by r longest i stands (Some most) there = stands.told i.0 most there
-
--- an answer that is kept
-pub longest_still : (r : Rules) (old new : Table (Option ℕ)) (i : ItemId) (o : Option ℕ) → IsPut (IsAt old) (IsAt new) i.0 o → LongestStand r old → IfSome o (IsCheapWithin r i) → LongestStand r new
-longest_still r old new i o put stands own = record {
-  told = λ item most there. all_still (λ k e. IfSome e (IsCheapWithin r (item_numbered k))) (IsAt old) (IsAt new) i.0 o put (λ k e was. longest_by r old (item_numbered k) stands e was) own item (Some most) there;
+-- how far attempts lead by what was told of a first pattern
+pub reach_by : (r : Rules) (i : ItemId) (ignore : Bool) → ignore ≡ (item_of r.items i).ignore → (pattern : Pattern) → IsFirst r i pattern → (reach : Reach) →
+    (reach.anchored ≡ true → (number : ℕ) → number < 777 → is_first (key_numbered number).last ≡ false → fails_at r.sets r.budget ignore number pattern.tree ≡ true) →
+    IfSome reach.longest (λ most. is_cheap_behind r.budget most pattern.tree ≡ true) → IsReachOf r i reach
+reach_by r i ignore same pattern first reach told cheap = record {
+  anchored = λ e. anchored_by r i ignore same pattern first (told e);
+  longest = cheap_by r i pattern first reach.longest cheap;
 }

@@ -70,3 +70,8 @@ IsKeyword (Some _) found = ⊥
 pub record IsStartOf (r : Rules) (by : StartBy) : Type 0 where
   pub own : IsOwn r by.item by.pattern.now
   pub first : by.number ≡ 0 → IsFirst r by.item by.pattern.now
+
+-- the first start pattern of an item that is there
+pub record IsFirstOf (r : Rules) (by : StartBy) : Type 0 where
+  pub item : IsItem r by.item
+  pub first : IsFirst r by.item by.pattern.now

@@ -1,5 +1,5 @@
 -- Which items of a choice may start at a column, by the key of the column.
-use Rattle.std.specs.Prelude.{◌≡◌, ◌<◌, ◌≤◌, ◌+◌, ◌-◌, ◌⊎◌, ⊤, ℕ, Bool, true, not, ◌&&◌, false, nat_lt, is_none, List, length, slice_index, Option, Some, IfSome}
+use Rattle.std.specs.Prelude.{◌≡◌, ◌<◌, ◌≤◌, ◌+◌, ◌-◌, ◌⊎◌, ⊤, ℕ, Bool, true, not, ◌&&◌, false, nat_lt, is_none, List, length, slice_index, IfSome}
 use Rattle.std.specs.List.{All, list_all}
 use Rattle.std.specs.List.Sorted.{IsNonDecreasing}
 use Rattle.char_class.specs.declared.sets.Sets.{Sets}
@@ -7,7 +7,6 @@ use Rattle.vim_pattern.specs.Tree.{PatternTree}
 use Rattle.syn_base.specs.declared.looked.Looked.{Looked}
 use Rattle.syn_base.specs.declared.places.ItemId.{ItemId}
 use Rattle.syn_base.specs.declared.places.Place.{Place}
-use Rattle.slots.specs.declared.table.Table.{Table}
 use Rattle.slots.specs.Entries.{Has, IsAt}
 use Rattle.match_rules.specs.Ways.{Text, line_at}
 use Rattle.syntax_set.specs.declared.item.ItemKind.{ItemKind}
@@ -24,6 +23,7 @@ use Rattle.region_ends.specs.EndMemo.{EndMemoStands}
 use Rattle.region_ends.specs.KeyAnswers.{AnswersStand}
 use Rattle.region_ends.specs.Passing.{is_shut_at}
 use Rattle.item_pick.specs.declared.choice.Choice.{Choice}
+use Rattle.item_pick.specs.declared.firsts.Reach.{Reach}
 use Rattle.item_pick.specs.declared.line_known.LineKnown.{LineKnown}
 use Rattle.item_pick.specs.declared.memory.PickMemory.{PickMemory}
 use Rattle.item_pick.specs.declared.needs.Wanted.{Wanted}
@@ -113,19 +113,16 @@ IsAnchored r i =
     (number : ℕ) → number < 777 → is_first (key_numbered number).last ≡ false →
     IsToldOfFirst fails_at r number i
 
--- of which items it was answered
-pub record AnchorsStand (r : Rules) (anchors : Table Bool) : Type 0 where
-  pub told : (item : ℕ) → IsAt anchors item true → IsAnchored r (item_numbered item)
-
 -- where a line and the one before have so many characters together, attempts by the first pattern of an
 -- item are within the budget where what follows the look behind fails with which it begins
 abbrev pub IsCheapWithin : Rules → ItemId → ℕ → Type 0
 IsCheapWithin r i most =
     (pattern : Pattern) → IsFirst r i pattern → is_cheap_behind r.budget most pattern.tree ≡ true
 
--- of which items it was told
-pub record LongestStand (r : Rules) (longest : Table (Option ℕ)) : Type 0 where
-  pub told : (item most : ℕ) → IsAt longest item (Some most) → IsCheapWithin r (item_numbered item) most
+-- how far attempts by the first pattern of an item lead
+pub record IsReachOf (r : Rules) (i : ItemId) (reach : Reach) : Type 0 where
+  pub anchored : reach.anchored ≡ true → IsAnchored r i
+  pub longest : IfSome reach.longest (IsCheapWithin r i)
 
 -- each pattern by which an item starts needs what this says
 abbrev pub IsNeededBy : Rules → ItemId → LineNeed → Type 0
@@ -165,8 +162,7 @@ pub record AreTablesOf (r : Rules) (tables : Tables) : Type 0 where
   pub afters : AnswersStand (first_asked fails_after r) tables.afters
   pub idles : AnswersStand (idles_before r) tables.idles
   pub shut : AnswersStand (is_shut_at r.items r.sets r.budget) tables.shut
-  pub anchors : AnchorsStand r tables.anchors
-  pub longest : LongestStand r tables.longest
+  pub reaches : (item : ℕ) (reach : Reach) → IsAt tables.reaches item reach → IsReachOf r (item_numbered item) reach
   pub wanted : All (IsWanted r) tables.wanted.items
 
 abbrev pub TablesStand : Rules → PickMemory → Type 0

@@ -3,7 +3,13 @@ use Rattle.std.specs.Prelude.{◌≡◌, ◌≤◌, length}
 use Rattle.syntax_set.specs.Soundness.{AreSound}
 use Rattle.keyword_table.specs.ItemNumbers.{AreItemsBelow}
 use Rattle.paint_rules.specs.Rules.{no_externals}
+use Rattle.match_rules.specs.Ways.{Text}
 use Rattle.item_pick.specs.declared.asked.Asked.{Asked}
+use Rattle.item_pick.specs.declared.memory.PickMemory.{PickMemory}
+use Rattle.item_pick.specs.declared.picking.Picking.{Picking}
+use Rattle.item_pick.specs.PartsSeen.{rules_by}
+use Rattle.item_pick.specs.Standing.{IsPlace}
+use Rattle.item_pick.specs.Tables.{MemoryStands}
 
 -- the parts are sound together, an attempt may cost something, and there are nine empty texts
 pub record IsSound (a : Asked) : Type 0 where
@@ -11,3 +17,9 @@ pub record IsSound (a : Asked) : Type 0 where
   pub words : AreItemsBelow (length a.parts.now.items.now) a.parts.now.keywords.now
   pub budget : 1 ≤ a.budget
   pub none : a.no_externals.now ≡ no_externals
+
+-- what starts at a place of a text may be asked, by what is kept of the syntax and known of the line
+pub record MayAsk {L : Type 0} (lines : L → Text) (p : Picking L) (kept : PickMemory) : Type 0 where
+  pub sound : IsSound p.asked.now
+  pub place : IsPlace (lines p.lines.now) p.at
+  pub memory : MemoryStands (rules_by p.asked.now) (lines p.lines.now) p.at.line kept

@@ -8,8 +8,7 @@ ghost use Rattle.item_pick.specs.Started.{admits, here_at, IsOutcomeThere, IsSta
 ghost use Rattle.item_pick.specs.Screens.{HoldsLine};
 ghost use Rattle.item_pick.specs.Standing.{ChoiceFits, IsItem, IsPlace};
 ghost use Rattle.item_pick.specs.PartsSeen.{rules_by};
-ghost use Rattle.item_pick.specs.Tables.{MemoryStands};
-ghost use Rattle.item_pick.specs.Valid.{IsSound};
+ghost use Rattle.item_pick.specs.Valid.{MayAsk};
 
 use crate::choice::Choice;
 use crate::memory::PickMemory;
@@ -28,11 +27,8 @@ impl<T: Lines> Picking<'_, T> {
         looked: &mut Looked,
         memory: &mut PickMemory,
     ) -> Result<Option<Starting>, Stop>
-        requires valid { IsSound self.now.asked.now }
         requires choice { ChoiceFits (rules_by self.now.asked.now) choice }
-        requires place { IsPlace (T.lines self.now.lines.now) self.now.at }
-        requires memory { MemoryStands (rules_by self.now.asked.now)
-            (T.lines self.now.lines.now) self.now.at.line memory.old }
+        requires may { MayAsk T.lines self.now memory.old }
         requires held { HoldsLine looked.old self.now.at.line }
         ensures told { IsToldAs (seen_start (rules_by self.now.asked.now).items) looked.old result
             looked.new (start_among
@@ -40,8 +36,7 @@ impl<T: Lines> Picking<'_, T> {
             self.now.at.col (standing_at [] None self.now.floor (reverse self.now.tried.now))
             (admits (rules_by self.now.asked.now) choice)) }
         ensures there { IfOk result (IsStartThere (rules_by self.now.asked.now).items) }
-        ensures memory { MemoryStands (rules_by self.now.asked.now)
-            (T.lines self.now.lines.now) self.now.at.line memory.new }
+        ensures may { MayAsk T.lines self.now memory.new }
     {
         let word = self.keyword(choice)?;
         match word {
@@ -72,11 +67,8 @@ impl<T: Lines> Picking<'_, T> {
         looked: &mut Looked,
         memory: &mut PickMemory,
     ) -> Result<Outcome, Stop>
-        requires valid { IsSound self.now.asked.now }
-        requires place { IsPlace (T.lines self.now.lines.now) self.now.at }
         requires frames { Fits (length (rules_by self.now.asked.now).items) (reverse stack.now) }
-        requires memory { MemoryStands (rules_by self.now.asked.now)
-            (T.lines self.now.lines.now) self.now.at.line memory.old }
+        requires may { MayAsk T.lines self.now memory.old }
         requires held { HoldsLine looked.old self.now.at.line }
         ensures told { IsToldAs (seen_pick (rules_by self.now.asked.now).items) looked.old result
             looked.new (picked_allowed
@@ -84,8 +76,7 @@ impl<T: Lines> Picking<'_, T> {
             self.now.at.col
             (standing_at (reverse stack.now) None self.now.floor (reverse self.now.tried.now))) }
         ensures there { IfOk result (IsOutcomeThere (rules_by self.now.asked.now).items) }
-        ensures memory { MemoryStands (rules_by self.now.asked.now)
-            (T.lines self.now.lines.now) self.now.at.line memory.new }
+        ensures may { MayAsk T.lines self.now memory.new }
     {
         let found = self.start_among(self.allowed(stack), looked, memory)?;
         match found {
@@ -102,12 +93,9 @@ impl<T: Lines> Picking<'_, T> {
         looked: &mut Looked,
         memory: &mut PickMemory,
     ) -> Result<Outcome, Stop>
-        requires valid { IsSound self.now.asked.now }
-        requires place { IsPlace (T.lines self.now.lines.now) self.now.at }
         requires frames { Fits (length (rules_by self.now.asked.now).items) (reverse stack.now) }
         requires waiting { WaitFits (length (rules_by self.now.asked.now).items) waiting }
-        requires memory { MemoryStands (rules_by self.now.asked.now)
-            (T.lines self.now.lines.now) self.now.at.line memory.old }
+        requires may { MayAsk T.lines self.now memory.old }
         requires held { HoldsLine looked.old self.now.at.line }
         ensures told { IsToldAs (seen_pick (rules_by self.now.asked.now).items) looked.old result
             looked.new (picked
@@ -115,8 +103,7 @@ impl<T: Lines> Picking<'_, T> {
             self.now.at.col
             (standing_at (reverse stack.now) waiting self.now.floor (reverse self.now.tried.now))) }
         ensures there { IfOk result (IsOutcomeThere (rules_by self.now.asked.now).items) }
-        ensures memory { MemoryStands (rules_by self.now.asked.now)
-            (T.lines self.now.lines.now) self.now.at.line memory.new }
+        ensures may { MayAsk T.lines self.now memory.new }
     {
         match waiting {
             None => self.pick_allowed(stack, looked, memory),

@@ -1,7 +1,6 @@
 //! Among which items one may start.
 ghost use Rattle.std.specs.Prelude.{◌≡◌, reverse};
-ghost use Rattle.std.specs.List.{list_any};
-ghost use Rattle.paint_rules.specs.Rules.{item_of, same_item};
+ghost use Rattle.paint_rules.specs.Rules.{item_of};
 ghost use Rattle.item_pick.specs.Started.{admits, is_free};
 ghost use Rattle.item_pick.specs.Standing.{ChoiceFits, IsItem};
 ghost use Rattle.item_pick.specs.PartsSeen.{rules_by};
@@ -45,22 +44,6 @@ impl<T: Lines> Picking<'_, T> {
         self.asked.parts.items.item(id)
     }
 
-    /// Whether an item has started here.
-    fn is_tried(&self, id: ItemId) -> bool
-        ensures { result ≡ list_any (same_item id) (reverse self.now.tried.now) }
-    {
-        self.tried.has(id)
-    }
-
-    /// Whether a choice has an item.
-    fn admits(&self, choice: Choice, id: ItemId) -> bool
-        requires item { IsItem (rules_by self.now.asked.now) id }
-        requires choice { ChoiceFits (rules_by self.now.asked.now) choice }
-        ensures { result ≡ admits (rules_by self.now.asked.now) choice id }
-    {
-        admits(self.asked, choice, id)
-    }
-
     /// Whether a choice has an item that hasn't started here.
     pub(crate) fn is_free(&self, choice: Choice, id: ItemId) -> bool
         requires item { IsItem (rules_by self.now.asked.now) id }
@@ -68,6 +51,6 @@ impl<T: Lines> Picking<'_, T> {
         ensures { result ≡ is_free (rules_by self.now.asked.now) (reverse self.now.tried.now) choice
             id }
     {
-        !self.is_tried(id) && self.admits(choice, id)
+        !self.tried.has(id) && admits(self.asked, choice, id)
     }
 }

@@ -7,7 +7,7 @@ ghost use Rattle.region_ends.specs.Searches.{search_of, IsEnd};
 ghost use Rattle.item_pick.specs.PartsSeen.{rules_by};
 ghost use Rattle.item_pick.specs.Standing.{IsItem};
 ghost use Rattle.item_pick.specs.Tables.{MemoryStands};
-ghost use Rattle.item_pick.specs.Valid.{IsSound};
+ghost use Rattle.item_pick.specs.Valid.{IsSound, MayAsk};
 
 use crate::asked::Asked;
 use crate::memory::PickMemory;
@@ -50,19 +50,16 @@ impl PickMemory {
         externals: &Externals,
         from: Place,
     ) -> Result<EndAnswer, Memory>
-        requires valid { IsSound picking.now.asked.now }
         requires item { IsItem (rules_by picking.now.asked.now) region }
         requires region { is_region (item_of picking.now.asked.now.parts.now.items.now region).kind
             ≡ true }
         requires present { from.line < length (T.lines picking.now.lines.now) }
-        requires memory { MemoryStands (rules_by picking.now.asked.now)
-            (T.lines picking.now.lines.now) picking.now.at.line self.old }
+        requires may { MayAsk T.lines picking.now self.old }
         ensures end { IfOk result (λ a. IsEnd a region (end_in_line (search_of
             picking.now.asked.now.parts.now.items.now picking.now.asked.now.parts.now.sets.now
             picking.now.asked.now.budget (T.lines picking.now.lines.now) region externals.now
             from))) }
-        ensures memory { MemoryStands (rules_by picking.now.asked.now)
-            (T.lines picking.now.lines.now) picking.now.at.line self.new }
+        ensures may { MayAsk T.lines picking.now self.new }
     {
         let asked = picking.asked;
         if from.line == picking.at.line {

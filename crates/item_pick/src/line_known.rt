@@ -1,5 +1,5 @@
 //! What is known of the line that is painted: where items don't start, and where regions end.
-ghost use Rattle.std.specs.Prelude.{◌≡◌, ◌<◌, ◌≤◌, ◌^◌, ℕ, length, IfOk, IfSome, IsTrue};
+ghost use Rattle.std.specs.Prelude.{◌≡◌, ◌<◌, ◌≤◌, ◌+◌, ◌^◌, ℕ, IfOk, IfSome, IsTrue};
 ghost use Rattle.std.specs.List.{All};
 ghost use Rattle.match_rules.specs.Ways.{Text, line_at};
 ghost use Rattle.paint_rules.specs.Rules.{Rules, place_at};
@@ -99,6 +99,17 @@ impl LineKnown {
         self.numbers.get(col).copied()
     }
 
+    /// The number of the key one column behind one that isn't the line's first.
+    pub(crate) fn number_behind(&self, col: usize) -> Option<u16>
+        ensures { (r : Rules) (t : Text) (l : ℕ) → LineStands r t l self.now →
+            IfSome result (λ number. (0 < col) × IsNumberAt r (line_at t l) (col + 1) number) }
+    {
+        if col == 0 {
+            return None;
+        }
+        self.number_at(col.checked_add(1)?)
+    }
+
     /// Whether an item is known to start nowhere in the line.
     pub(crate) fn is_barren(&self, id: u32) -> bool
         ensures { IsTrue result → (r : Rules) (t : Text) (l : ℕ) → LineStands r t l self.now →
@@ -122,22 +133,6 @@ impl LineKnown {
             Some(*run)
         } else {
             None
-        }
-    }
-
-    /// Whether it is known that an item has no match with its item start at a column.
-    pub(crate) fn is_settled(&self, id: u32, search: &Search<'_>) -> bool
-        ensures { IsTrue result → (r : Rules) (t : Text) (l : ℕ) → LineStands r t l self.now →
-            search.now.at ≤ length (line_at t l) → HoldsLine search.now.looked l →
-            IsQuiet r t (place_at l search.now.at) search.now.floor search.now.looked
-            (item_numbered id) }
-    {
-        if self.is_barren(id) {
-            return true;
-        }
-        match self.runs.get(id as usize) {
-            Some(run) => run.covers(ItemId(id), search, self.numbers.len()),
-            None => false,
         }
     }
 

@@ -7,7 +7,8 @@ ghost use Rattle.item_pick.specs.PartsSeen.{rules_by, rules_in};
 ghost use Rattle.item_pick.specs.Runs.{TellsOf};
 ghost use Rattle.item_pick.specs.Quiet.{IsEarlier};
 ghost use Rattle.item_pick.specs.Screens.{HoldsLine, IsLater, IsSettled, IsVainFrom};
-ghost use Rattle.item_pick.specs.Standing.{ChoiceFits, IsFirst, IsItem, IsPlace, IsStartOf};
+ghost use Rattle.item_pick.specs.Standing.{ChoiceFits, IsFirstOf, IsStartOf};
+ghost use Rattle.item_pick.specs.Valid.{MayAsk};
 ghost use Rattle.item_pick.specs.Tables.{LineStands, MemoryStands, RunStands, TablesStand};
 
 use crate::asked::Asked;
@@ -21,8 +22,7 @@ use crate::tables::Tables;
 use crate::wandering::wanders;
 use pattern_screens::{are_within, begins_behind, two_lines};
 use std::alloc::Global;
-use syn_base::{ItemId, Lines, Looked, Memory, Place};
-use syntax_set::Pattern;
+use syn_base::{Lines, Looked, Memory, Place};
 
 /// What is kept of a syntax and a budget from line to line, and what is known of the line that is
 /// painted. No answer depends on it.
@@ -58,19 +58,18 @@ impl PickMemory {
 impl LineKnown {
     /// The run of an item that holds a column or ends there, and tells of a place: one that has no
     /// column yet, where there is none.
-    fn run_at(&self, asked: &Asked, id: ItemId, pattern: &Pattern, col: usize, at: Place) -> Run
-        requires item { IsItem (rules_by asked.now) id }
-        requires first { IsFirst (rules_by asked.now) id pattern.now }
+    fn run_at(&self, asked: &Asked, by: &StartBy<'_>, col: usize, at: Place) -> Run
+        requires first { IsFirstOf (rules_by asked.now) by.now }
         requires line { at.line < 2 ^ 63 }
         requires short { at.col < 2 ^ 62 }
-        ensures tells { TellsOf id col at.col result }
+        ensures tells { TellsOf by.now.item col at.col result }
         ensures stands { (t : Text) (l : ℕ) →
             LineStands (rules_by asked.now) t l self.now →
             RunStands (rules_by asked.now) t l result }
     {
-        match self.known(id, col, at.col) {
+        match self.known(by.item, col, at.col) {
             Some(run) => run,
-            None => asked.fresh_run(id, pattern, at.line, col),
+            None => asked.fresh_run(by, at.line, col),
         }
     }
 }
@@ -86,37 +85,25 @@ impl PickMemory {
         looked: Looked,
     ) -> Result<usize, Memory>
         requires start { IsStartOf (rules_by picking.now.asked.now) by.now }
-        requires place { IsPlace (T.lines picking.now.lines.now) picking.now.at }
-        requires memory { MemoryStands (rules_by picking.now.asked.now)
-            (T.lines picking.now.lines.now) picking.now.at.line self.old }
+        requires may { MayAsk T.lines picking.now self.old }
         requires held { HoldsLine looked picking.now.at.line }
         ensures next { IfOk result (IsLater (rules_by picking.now.asked.now)
             (T.lines picking.now.lines.now) by.now.item by.now.pattern.now picking.now.at looked col) }
-        ensures memory { MemoryStands (rules_by picking.now.asked.now)
-            (T.lines picking.now.lines.now) picking.now.at.line self.new }
+        ensures may { MayAsk T.lines picking.now self.new }
     {
-        let StartBy {
-            item: id,
-            number: start,
-            pattern,
-        } = *by;
-        if self.starts_nowhere(picking.asked, id)? {
+        if self.starts_nowhere(picking.asked, by.item)? {
             return Ok(col.max(picking.last() + 1));
         }
-        if start != 0 || !wanders(pattern) {
+        if by.number != 0 || !wanders(by.pattern) {
             return Ok(col);
         }
         let _last = picking.last();
-        let run = self
-            .line
-            .run_at(picking.asked, id, pattern, col, picking.at);
+        let asked = picking.asked;
+        let run = self.line.run_at(asked, by, col, picking.at);
         if !holds(looked, run.looked) {
             return Ok(col);
         }
-        let line = &self.line;
-        let to = self
-            .tables
-            .first_open(line, picking.asked, id, pattern, run.to)?;
+        let to = self.tables.first_open(&self.line, asked, by, run.to)?;
         self.line.keep(Run { to, ..run }, picking.at.line)?;
         Ok(to)
     }
@@ -130,53 +117,39 @@ impl PickMemory {
         col: usize,
     ) -> Result<Option<Looked>, Memory>
         requires start { IsStartOf (rules_by picking.now.asked.now) by.now }
-        requires place { IsPlace (T.lines picking.now.lines.now) picking.now.at }
         requires column { col
             ≤ length (line_at (T.lines picking.now.lines.now) picking.now.at.line) }
-        requires memory { MemoryStands (rules_by picking.now.asked.now)
-            (T.lines picking.now.lines.now) picking.now.at.line self.old }
+        requires may { MayAsk T.lines picking.now self.old }
         ensures vain { IfOk result (λ found. IfSome found (λ lines. IsVainFrom
             (rules_by picking.now.asked.now) (T.lines picking.now.lines.now) picking.now.at by.now.item
             by.now.pattern.now lines col)) }
-        ensures memory { MemoryStands (rules_by picking.now.asked.now)
-            (T.lines picking.now.lines.now) picking.now.at.line self.new }
+        ensures may { MayAsk T.lines picking.now self.new }
     {
-        let StartBy {
-            item: id,
-            number: start,
-            pattern,
-        } = *by;
-        if start != 0 || wanders(pattern) {
+        if by.number != 0 || wanders(by.pattern) {
             return Ok(None);
         }
+        let asked = picking.asked;
         let line = picking.at.line;
-        if !may_start(pattern, col, picking.at.col, picking.last()) {
+        if !may_start(by.pattern, col, picking.at.col, picking.last()) {
             return Ok(None);
         }
-        if !begins_behind(&pattern.tree) {
-            let missed = self
-                .tables
-                .is_missed_after(&self.line, picking.asked, id, pattern, col)?;
+        if !begins_behind(&by.pattern.tree) {
+            let missed = self.tables.is_missed(&self.line, asked, by, col)?;
             return Ok(own_line_if(missed, line));
         }
-        let Some(most) = self.tables.longest_behind(picking.asked, id, pattern)? else {
+        let Some(most) = self.tables.reach(asked, by)?.longest else {
             return Ok(None);
         };
         if !are_within(picking.lines, line, most) {
             return Ok(None);
         }
-        match self.line.number_at(col) {
-            Some(number) => {
-                if self
-                    .tables
-                    .is_vain_behind(picking.asked, id, pattern, number)?
-                {
-                    Ok(Some(two_lines(line)))
-                } else {
-                    Ok(None)
-                }
-            }
-            None => Ok(None),
+        let Some(number) = self.line.number_at(col) else {
+            return Ok(None);
+        };
+        if self.tables.is_vain_behind(asked, by, number)? {
+            Ok(Some(two_lines(line)))
+        } else {
+            Ok(None)
         }
     }
 
@@ -191,32 +164,19 @@ impl PickMemory {
         lines: Looked,
     ) -> Result<(), Memory>
         requires start { IsStartOf (rules_by picking.now.asked.now) by.now }
-        requires place { IsPlace (T.lines picking.now.lines.now) picking.now.at }
         requires settled { IsSettled (rules_by picking.now.asked.now)
             (T.lines picking.now.lines.now) picking.now.at.line by.now.item by.now.pattern.now places.first
             places.end lines col }
-        requires memory { MemoryStands (rules_by picking.now.asked.now)
-            (T.lines picking.now.lines.now) picking.now.at.line self.old }
-        ensures { MemoryStands (rules_by picking.now.asked.now)
-            (T.lines picking.now.lines.now) picking.now.at.line self.new }
+        requires may { MayAsk T.lines picking.now self.old }
+        ensures may { MayAsk T.lines picking.now self.new }
     {
-        let StartBy {
-            item: id,
-            number: start,
-            pattern,
-        } = *by;
         let at = picking.at.col;
-        if start != 0 || !wanders(pattern) || picking.last() < col {
+        if by.number != 0 || !wanders(by.pattern) || picking.last() < col {
             return Ok(());
         }
-        let run = self
-            .line
-            .run_at(picking.asked, id, pattern, col, picking.at);
+        let run = self.line.run_at(picking.asked, by, col, picking.at);
         let places = both(run.places, places);
-        if at < places.first || places.end <= at {
-            return Ok(());
-        }
-        if run.to != col {
+        if at < places.first || places.end <= at || run.to != col {
             return Ok(());
         }
         let run = Run {
@@ -239,16 +199,13 @@ impl PickMemory {
         looked: Looked,
     ) -> Result<usize, Memory>
         requires choice { ChoiceFits (rules_by picking.now.asked.now) choice }
-        requires place { IsPlace (T.lines picking.now.lines.now) picking.now.at }
         requires items { left ≤ length (rules_by picking.now.asked.now).items }
-        requires memory { MemoryStands (rules_by picking.now.asked.now)
-            (T.lines picking.now.lines.now) picking.now.at.line self.old }
+        requires may { MayAsk T.lines picking.now self.old }
         requires held { HoldsLine looked picking.now.at.line }
         ensures next { IfOk result (IsEarlier (rules_by picking.now.asked.now)
             (T.lines picking.now.lines.now) picking.now.at picking.now.floor
             (reverse picking.now.tried.now) choice looked left) }
-        ensures memory { MemoryStands (rules_by picking.now.asked.now)
-            (T.lines picking.now.lines.now) picking.now.at.line self.new }
+        ensures may { MayAsk T.lines picking.now self.new }
     {
         let search = Search {
             at: picking.at.col,

@@ -3,7 +3,7 @@ ghost use Rattle.std.specs.Prelude.{◌≡◌, ◌<◌, ◌≤◌, ℕ, get_or, 
 ghost use Rattle.std.specs.List.Sorted.{IsNonDecreasing};
 ghost use Rattle.match_rules.specs.Ways.{Text, line_at};
 ghost use Rattle.paint_rules.specs.Rules.{place_at};
-ghost use Rattle.item_pick.specs.Quiet.{IsPassed, IsQuiet, item_numbered};
+ghost use Rattle.item_pick.specs.Quiet.{IsPassed, item_numbered};
 ghost use Rattle.item_pick.specs.Screens.{HoldsLine};
 ghost use Rattle.item_pick.specs.Standing.{ChoiceFits};
 ghost use Rattle.item_pick.specs.Tables.{AreKnown, AreTablesOf, IsNextAt, IsNextIn, IsNumberAt, LineStands};
@@ -16,43 +16,23 @@ use crate::tables::Tables;
 use syn_base::{ItemId, Memory};
 
 impl Tables {
-    /// Whether an item is known not to start at a column by what stands one column behind.
-    fn is_idle(&self, _asked: &Asked, id: u32, search: &Search<'_>) -> bool
+    /// Whether an item has started at a column, or is known not to: also by what stands one column behind.
+    fn is_over(&self, _asked: &Asked, id: u32, search: &Search<'_>) -> bool
         ensures { IsTrue result → (t : Text) (l : ℕ) →
             AreKnown (rules_by _asked.now) t l self.now
-            search.now.line.now → HoldsLine search.now.looked l →
-            IsQuiet (rules_by _asked.now) t (place_at l search.now.at)
-            search.now.floor search.now.looked (item_numbered id) }
-    {
-        if search.at == 0 {
-            return false;
-        }
-        let Some(after) = search.at.checked_add(1) else {
-            return false;
-        };
-        let Some(number) = search.line.number_at(after) else {
-            return false;
-        };
-        match self.idles.known(number, ItemId(id)) {
-            Some(idle) => idle,
-            None => false,
-        }
-    }
-
-    /// Whether an item has started at a column, or is known not to.
-    fn is_over(&self, asked: &Asked, id: u32, search: &Search<'_>) -> bool
-        ensures { IsTrue result → (t : Text) (l : ℕ) →
-            AreKnown (rules_by asked.now) t l self.now
             search.now.line.now → search.now.at ≤ length (line_at t l) →
             HoldsLine search.now.looked l →
-            IsPassed (rules_by asked.now) t (place_at l search.now.at)
+            IsPassed (rules_by _asked.now) t (place_at l search.now.at)
             search.now.floor search.now.looked (reverse search.now.tried.now)
             (item_numbered id) }
     {
         if search.is_passed(id) {
             return true;
         }
-        self.is_idle(asked, id, search)
+        match search.line.number_behind(search.at) {
+            Some(number) => self.is_idle(id, number),
+            None => false,
+        }
     }
 
     /// The number behind the last item of a list, whose numbers rise, that is below another one and may

@@ -1,6 +1,5 @@
 //! Columns at which nothing starts, by what stands there.
 ghost use Rattle.std.specs.Prelude.{◌≡◌, ◌<◌, ◌≤◌, ℕ, [], length, reverse, IfOk, IsTrue, true, false};
-ghost use Rattle.syn_base.specs.declared.looked.Looked.{Looked as LookedOf};
 ghost use Rattle.match_rules.specs.Ways.{Text, line_at};
 ghost use Rattle.keyword_table.specs.Words.{begins_word};
 ghost use Rattle.paint_rules.specs.Rules.{Rules, place_at};
@@ -10,9 +9,9 @@ ghost use Rattle.item_pick.specs.QuietPlaces.{IsQuietAt};
 ghost use Rattle.item_pick.specs.QuietUntil.{IsQuietUntil};
 ghost use Rattle.item_pick.specs.Screens.{HoldsLine};
 ghost use Rattle.item_pick.specs.Settled.{ArePassed, AreSettled};
-ghost use Rattle.item_pick.specs.Standing.{ChoiceFits, IsPlace};
-ghost use Rattle.item_pick.specs.Tables.{IsNumberAt, MemoryStands};
-ghost use Rattle.item_pick.specs.Valid.{IsSound};
+ghost use Rattle.item_pick.specs.Standing.{ChoiceFits};
+ghost use Rattle.item_pick.specs.Tables.{MemoryStands};
+ghost use Rattle.item_pick.specs.Valid.{IsSound, MayAsk};
 ghost use Rattle.item_pick.specs.PartsSeen.{rules_by};
 
 use crate::asked::Asked;
@@ -62,8 +61,8 @@ impl PickMemory {
 }
 
 impl<T: Lines> Picking<'_, T> {
-    /// Whether it is known that no item of a choice starts at a column: up to `settled`, and without
-    /// it, none that wanders does.
+    /// Whether it is known that no item of a choice starts at a column: no word begins there, and no item
+    /// of the row of the choice is left. Up to `settled`, and without it, those that wander don't start.
     fn is_quiet(
         &self,
         choice: Choice,
@@ -72,113 +71,42 @@ impl<T: Lines> Picking<'_, T> {
         settled: usize,
         memory: &mut PickMemory,
     ) -> Result<bool, Memory>
-        requires valid { IsSound self.now.asked.now }
-        requires place { IsPlace (T.lines self.now.lines.now) self.now.at }
         requires column { col < length (line_at (T.lines self.now.lines.now) self.now.at.line) }
         requires none_tried { self.now.tried.now ≡ [] }
         requires held { HoldsLine looked self.now.at.line }
-        requires choice { ChoiceFits
-            (rules_by self.now.asked.now) choice }
-        requires settled { col < settled → ArePassed
-            (rules_by self.now.asked.now)
+        requires choice { ChoiceFits (rules_by self.now.asked.now) choice }
+        requires settled { col < settled → ArePassed (rules_by self.now.asked.now)
             (T.lines self.now.lines.now) self.now.at.line choice self.now.floor looked true col }
-        requires memory { MemoryStands
-            (rules_by self.now.asked.now)
-            (T.lines self.now.lines.now) self.now.at.line memory.old }
+        requires may { MayAsk T.lines self.now memory.old }
         ensures quiet { IfOk result (λ quiet. IsTrue quiet → IsQuietAt
-            (rules_by self.now.asked.now)
-            (T.lines self.now.lines.now) choice self.now.floor looked
+            (rules_by self.now.asked.now) (T.lines self.now.lines.now) choice self.now.floor looked
             (place_at self.now.at.line col)) }
-        ensures memory { MemoryStands
-            (rules_by self.now.asked.now)
-            (T.lines self.now.lines.now) self.now.at.line memory.new }
+        ensures may { MayAsk T.lines self.now memory.new }
     {
         match choice {
-            Choice::NoItem => Ok(true),
-            _ => self.is_row_empty(choice, col, looked, settled, memory),
+            Choice::NoItem => return Ok(true),
+            _ => {}
         }
-    }
-
-    /// Whether all items of a choice are known not to start at a column whose key has a number, with no
-    /// walk over those that wander.
-    fn is_still(
-        &self,
-        choice: Choice,
-        number: u16,
-        col: usize,
-        settled: usize,
-        memory: &PickMemory,
-    ) -> bool
-        ensures { IsTrue result → (col < settled) × ((t : Text) (l : ℕ) →
-            MemoryStands (rules_by self.now.asked.now) t l
-            memory.now →
-            IsNumberAt (rules_by self.now.asked.now)
-            (line_at t l) col number → (floor : ℕ) (looked : LookedOf) → HoldsLine looked l →
-            ArePassed (rules_by self.now.asked.now) t l choice
-            floor looked false col) }
-    {
-        if settled <= col {
-            return false;
-        }
-        memory
-            .tables
-            .is_still(&memory.line, self.asked, choice, number, col)
-    }
-
-    /// The same: no word begins there, and no item of the row of the choice is left. Up to `settled`,
-    /// and without it, the items that wander are known not to start.
-    fn is_row_empty(
-        &self,
-        choice: Choice,
-        col: usize,
-        looked: Looked,
-        settled: usize,
-        memory: &mut PickMemory,
-    ) -> Result<bool, Memory>
-        requires valid { IsSound self.now.asked.now }
-        requires place { IsPlace (T.lines self.now.lines.now) self.now.at }
-        requires column { col < length (line_at (T.lines self.now.lines.now) self.now.at.line) }
-        requires none_tried { self.now.tried.now ≡ [] }
-        requires held { HoldsLine looked self.now.at.line }
-        requires choice { ChoiceFits
-            (rules_by self.now.asked.now) choice }
-        requires settled { col < settled → ArePassed
-            (rules_by self.now.asked.now)
-            (T.lines self.now.lines.now) self.now.at.line choice self.now.floor looked true col }
-        requires memory { MemoryStands
-            (rules_by self.now.asked.now)
-            (T.lines self.now.lines.now) self.now.at.line memory.old }
-        ensures quiet { IfOk result (λ quiet. IsTrue quiet → IsQuietAt
-            (rules_by self.now.asked.now)
-            (T.lines self.now.lines.now) choice self.now.floor looked
-            (place_at self.now.at.line col)) }
-        ensures memory { MemoryStands
-            (rules_by self.now.asked.now)
-            (T.lines self.now.lines.now) self.now.at.line memory.new }
-    {
         if begins_word(self.line(), col, &self.asked.parts.sets.keyword) {
             return Ok(false);
         }
-        match memory.line.number_at(col) {
-            Some(number) => {
-                if self.is_still(choice, number, col, settled, memory) {
-                    return Ok(true);
-                }
-                let search = Search {
-                    at: col,
-                    floor: self.floor,
-                    looked,
-                    tried: self.tried,
-                    line: &memory.line,
-                };
-                let count = self.asked.parts.items.added();
-                let left = memory
-                    .tables
-                    .left_in(self.asked, choice, number, &search, count)?;
-                Ok(left == 0)
-            }
-            None => Ok(false),
+        let Some(number) = memory.line.number_at(col) else {
+            return Ok(false);
+        };
+        let tables = &mut memory.tables;
+        if col < settled && tables.is_still(&memory.line, self.asked, choice, number, col) {
+            return Ok(true);
         }
+        let search = Search {
+            at: col,
+            floor: self.floor,
+            looked,
+            tried: self.tried,
+            line: &memory.line,
+        };
+        let count = self.asked.parts.items.added();
+        let left = tables.left_in(self.asked, choice, number, &search, count)?;
+        Ok(left == 0)
     }
 
     /// Up to which column it is known that no items of a choice start that wander.
@@ -206,19 +134,13 @@ impl<T: Lines> Picking<'_, T> {
     ) -> Result<usize, Memory>
         requires none_tried { self.now.tried.now ≡ [] }
         requires held { HoldsLine looked self.now.at.line }
-        requires valid { IsSound self.now.asked.now }
-        requires place { IsPlace (T.lines self.now.lines.now) self.now.at }
         requires frames { Fits (length self.now.asked.now.parts.now.items.now)
             (reverse stack.now) }
-        requires memory { MemoryStands
-            (rules_by self.now.asked.now)
-            (T.lines self.now.lines.now) self.now.at.line memory.old }
+        requires may { MayAsk T.lines self.now memory.old }
         ensures quiet { IfOk result (IsQuietUntil
             (rules_by self.now.asked.now)
             (T.lines self.now.lines.now) self.now.at (reverse stack.now) self.now.floor looked) }
-        ensures memory { MemoryStands
-            (rules_by self.now.asked.now)
-            (T.lines self.now.lines.now) self.now.at.line memory.new }
+        ensures may { MayAsk T.lines self.now memory.new }
     {
         let choice = self.allowed(stack);
         let last = self.last();

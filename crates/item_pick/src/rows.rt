@@ -83,21 +83,7 @@ impl Asked<'_> {
         }
     }
 
-    /// Puts an item on a list, unless it can't start.
-    fn put(&self, id: u32, number: u16, items: &mut Vec<u32>) -> Result<(), Memory>
-        requires { id < length (rules_by self.now).items }
-        ensures kept { (j : ℕ) → Lacks items.new.items j → Lacks items.old.items j }
-        ensures rises { RisesTo id items.old.items → RisesTo id items.new.items }
-        ensures here { IfOk result (λ _. Lacks items.new.items id →
-            StaysOut (rules_by self.now) number (item_numbered id)) }
-    {
-        if !self.stays_out(ItemId(id), number) {
-            items.push(id)?;
-        }
-        Ok(())
-    }
-
-    /// The same of an item of a choice.
+    /// Puts an item of a choice on a list, unless it can't start.
     fn put_admitted(
         &self,
         choice: Choice,
@@ -114,8 +100,8 @@ impl Asked<'_> {
             Lacks items.new.items id →
             StaysOut (rules_by self.now) number (item_numbered id)) }
     {
-        if admits(self, choice, ItemId(id)) {
-            self.put(id, number, items)?;
+        if admits(self, choice, ItemId(id)) && !self.stays_out(ItemId(id), number) {
+            items.push(id)?;
         }
         Ok(())
     }

@@ -2,7 +2,7 @@
 ghost use Rattle.std.specs.Prelude.{◌≡◌, ◌<◌, ◌≤◌, ◌-◌, ◌^◌, ℕ, length, reverse, IfSome, IsTrue};
 ghost use Rattle.match_rules.specs.Ways.{Text, line_at};
 ghost use Rattle.paint_rules.specs.Rules.{Rules, item_of, place_at};
-ghost use Rattle.item_pick.specs.Standing.{has_one_start, IsFirst, IsItem};
+ghost use Rattle.item_pick.specs.Standing.{has_one_start, IsFirstOf, IsItem};
 ghost use Rattle.item_pick.specs.Tables.{IsEnough, LineStands, RunStands};
 ghost use Rattle.item_pick.specs.Runs.{Covers, IsWhole, TellsOf};
 ghost use Rattle.item_pick.specs.Quiet.{IsPassed, item_numbered};
@@ -12,10 +12,11 @@ ghost use Rattle.item_pick.specs.PartsSeen.{rules_by};
 use crate::asked::Asked;
 use crate::columns::Columns;
 use crate::line_known::LineKnown;
+use crate::picking::StartBy;
 use crate::tried::Tried;
 use region_ends::item_of;
 use syn_base::{ItemId, Looked};
-use syntax_set::{ItemKind, Pattern};
+use syntax_set::ItemKind;
 
 /// No match of an item by its first start pattern, from a column up to, and without, another, has its
 /// item start at these places of the line.
@@ -56,7 +57,7 @@ impl Search<'_> {
             IsPassed r t (place_at l self.now.at) self.now.floor self.now.looked
             (reverse self.now.tried.now) (item_numbered id) }
     {
-        self.line.is_settled(id, self) || self.tried.has(ItemId(id))
+        self.line.settled_to(id, self) > self.at || self.tried.has(ItemId(id))
     }
 }
 
@@ -119,29 +120,27 @@ impl Asked<'_> {
     }
 
     /// The least floor from which on an item is sought from no column before one.
-    fn least_floor(&self, id: ItemId, pattern: &Pattern, col: usize) -> Option<usize>
-        requires item { IsItem (rules_by self.now) id }
-        requires first { IsFirst (rules_by self.now) id pattern.now }
-        ensures { IfSome result (IsEnough (rules_by self.now) id col) }
+    fn least_floor(&self, by: &StartBy<'_>, col: usize) -> Option<usize>
+        requires { IsFirstOf (rules_by self.now) by.now }
+        ensures { IfSome result (IsEnough (rules_by self.now) by.now.item col) }
     {
-        if self.has_one_start(id) {
-            floor_for(col, pattern.lc)
+        if self.has_one_start(by.item) {
+            floor_for(col, by.pattern.lc)
         } else {
             None
         }
     }
 
     /// A run of a line that has no column yet.
-    pub(crate) fn fresh_run(&self, id: ItemId, pattern: &Pattern, line: usize, col: usize) -> Run
+    pub(crate) fn fresh_run(&self, by: &StartBy<'_>, line: usize, col: usize) -> Run
         requires line { line < 2 ^ 63 }
-        requires item { IsItem (rules_by self.now) id }
-        requires first { IsFirst (rules_by self.now) id pattern.now }
+        requires first { IsFirstOf (rules_by self.now) by.now }
         ensures stands { (t : Text) (l : ℕ) →
             RunStands (rules_by self.now) t l result }
-        ensures tells { (at : ℕ) → at < 2 ^ 62 → TellsOf id col at result }
+        ensures tells { (at : ℕ) → at < 2 ^ 62 → TellsOf by.now.item col at result }
     {
         Run {
-            item: id,
+            item: by.item,
             from: col,
             to: col,
             places: Columns {
@@ -149,7 +148,7 @@ impl Asked<'_> {
                 end: usize::MAX,
             },
             looked: Looked::one(line as i64),
-            least: self.least_floor(id, pattern, col),
+            least: self.least_floor(by, col),
         }
     }
 }

@@ -63,7 +63,7 @@ impl Tables {
             k < length list.now → idles_before r number (get_or list.now k 0) ≡ true }
     {
         for id in list {
-            if !self.idles_known(*id, number) {
+            if !self.is_idle(*id, number) {
                 return false;
             }
         }
@@ -71,7 +71,7 @@ impl Tables {
     }
 
     /// Whether one item is.
-    fn idles_known(&self, id: u32, number: u16) -> bool
+    pub(crate) fn is_idle(&self, id: u32, number: u16) -> bool
         ensures { IsTrue result → (r : Rules) → AreTablesOf r self.now →
             idles_before r number id ≡ true }
     {
@@ -81,48 +81,32 @@ impl Tables {
         }
     }
 
-    /// Whether all items of a list are known not to start at a column by what stands one column behind.
-    fn are_idle_at(&self, line: &LineKnown, _asked: &Asked, list: &[u32], col: usize) -> bool
-        ensures { IsTrue result → (t : Text) (l : ℕ) →
-            AreKnown (rules_by _asked.now) t l self.now line.now →
-            (floor : ℕ) (looked : LookedOf) → HoldsLine looked l → (k : ℕ) → k < length list.now →
-            IsQuiet (rules_by _asked.now) t (place_at l col) floor
-            looked (item_numbered (get_or list.now k 0)) }
-    {
-        if list.is_empty() {
-            return true;
-        }
-        if col == 0 {
-            return false;
-        }
-        let Some(after) = col.checked_add(1) else {
-            return false;
-        };
-        match line.number_at(after) {
-            Some(number) => self.are_idle(list, number),
-            None => false,
-        }
-    }
-
     /// Whether those items of a choice that don't wander are known not to start at a column whose key
     /// has a number.
     pub(crate) fn is_still(
         &self,
         line: &LineKnown,
-        asked: &Asked,
+        _asked: &Asked,
         choice: Choice,
         number: u16,
         col: usize,
     ) -> bool
         ensures { IsTrue result → (t : Text) (l : ℕ) →
-            AreKnown (rules_by asked.now) t l self.now line.now →
-            IsNumberAt (rules_by asked.now) (line_at t l) col number →
+            AreKnown (rules_by _asked.now) t l self.now line.now →
+            IsNumberAt (rules_by _asked.now) (line_at t l) col number →
             (floor : ℕ) (looked : LookedOf) → HoldsLine looked l →
-            ArePassed (rules_by asked.now) t l choice floor looked false
+            ArePassed (rules_by _asked.now) t l choice floor looked false
             col }
     {
-        match self.row(choice, number) {
-            Some(row) => self.are_idle_at(line, asked, row.resting.as_slice(), col),
+        let Some(row) = self.row(choice, number) else {
+            return false;
+        };
+        let resting = row.resting.as_slice();
+        if resting.is_empty() {
+            return true;
+        }
+        match line.number_behind(col) {
+            Some(behind) => self.are_idle(resting, behind),
             None => false,
         }
     }

@@ -10,10 +10,9 @@ ghost use Rattle.syntax_set.specs.declared.item.ItemKind.TheVariants as kind;
 ghost use Rattle.item_pick.specs.Told.{IsToldAfter, IsToldAs};
 ghost use Rattle.item_pick.specs.Started.{here_at, IsStartThere, seen_start, start_at, start_if_free, start_pattern, starts_of};
 ghost use Rattle.item_pick.specs.Screens.{HoldsLine};
-ghost use Rattle.item_pick.specs.Standing.{ChoiceFits, IsItem, IsOwn, IsPlace};
+ghost use Rattle.item_pick.specs.Standing.{ChoiceFits, IsItem, IsOwn};
 ghost use Rattle.item_pick.specs.PartsSeen.{rules_by};
-ghost use Rattle.item_pick.specs.Tables.{MemoryStands};
-ghost use Rattle.item_pick.specs.Valid.{IsSound};
+ghost use Rattle.item_pick.specs.Valid.{MayAsk};
 
 use crate::choice::Choice;
 use crate::memory::PickMemory;
@@ -64,12 +63,10 @@ impl<T: Lines> Picking<'_, T> {
         looked: &mut Looked,
         memory: &mut PickMemory,
     ) -> Result<Option<RegionEnd>, Stop>
-        requires valid { IsSound self.now.asked.now }
         requires item { IsItem (rules_by self.now.asked.now) id }
         requires region { is_region (item_of (rules_by self.now.asked.now).items id).kind ≡ true }
         requires ends { (m.now.to).line < 2 ^ 33 }
-        requires memory { MemoryStands (rules_by self.now.asked.now)
-            (T.lines self.now.lines.now) self.now.at.line memory.old }
+        requires may { MayAsk T.lines self.now memory.old }
         ensures told { IsToldAfter looked.old result looked.new (end_in_line (record {
           rules = for_ends (rules_by self.now.asked.now);
           text = T.lines self.now.lines.now;
@@ -77,8 +74,7 @@ impl<T: Lines> Picking<'_, T> {
           externals = m.now.externals;
           from = m.now.to;
         })) }
-        ensures memory { MemoryStands (rules_by self.now.asked.now)
-            (T.lines self.now.lines.now) self.now.at.line memory.new }
+        ensures may { MayAsk T.lines self.now memory.new }
     {
         if m.to.line >= self.lines.len() {
             look_at(looked, m.to.line);
@@ -106,21 +102,18 @@ impl<T: Lines> Picking<'_, T> {
         looked: &mut Looked,
         memory: &mut PickMemory,
     ) -> Result<Option<Starting>, Stop>
-        requires valid { IsSound self.now.asked.now }
         requires item { IsItem (rules_by self.now.asked.now) id }
         requires region { is_region (item_of (rules_by self.now.asked.now).items id).kind ≡ true }
         requires start { start
             < length (starts_of (item_of (rules_by self.now.asked.now).items id).kind) }
         requires ends { m.to.line < 2 ^ 33 }
-        requires memory { MemoryStands (rules_by self.now.asked.now)
-            (T.lines self.now.lines.now) self.now.at.line memory.old }
+        requires may { MayAsk T.lines self.now memory.old }
         ensures told { IsToldAs (seen_start (rules_by self.now.asked.now).items) looked.old result
             looked.new (region_start
             (here_at (rules_by self.now.asked.now) (T.lines self.now.lines.now) self.now.at) id
             (start_pattern (rules_by self.now.asked.now).items id start) (Some m)) }
         ensures there { IfOk result (IsStartThere (rules_by self.now.asked.now).items) }
-        ensures memory { MemoryStands (rules_by self.now.asked.now)
-            (T.lines self.now.lines.now) self.now.at.line memory.new }
+        ensures may { MayAsk T.lines self.now memory.new }
     {
         let oneline = self.item(id).oneline;
         if !oneline && m.to.line != self.at.line {
@@ -152,23 +145,19 @@ impl<T: Lines> Picking<'_, T> {
         looked: &mut Looked,
         memory: &mut PickMemory,
     ) -> Result<Option<Starting>, Stop>
-        requires valid { IsSound self.now.asked.now }
         requires own { IsOwn (rules_by self.now.asked.now) id pattern.now }
-        requires place { IsPlace (T.lines self.now.lines.now) self.now.at }
         requires region { is_region (item_of (rules_by self.now.asked.now).items id).kind ≡ true }
         requires start { start
             < length (starts_of (item_of (rules_by self.now.asked.now).items id).kind) }
         requires pattern { pattern.now
             ≡ start_pattern (rules_by self.now.asked.now).items id start }
-        requires memory { MemoryStands (rules_by self.now.asked.now)
-            (T.lines self.now.lines.now) self.now.at.line memory.old }
+        requires may { MayAsk T.lines self.now memory.old }
         requires held { HoldsLine looked.old self.now.at.line }
         ensures told { IsToldAs (seen_start (rules_by self.now.asked.now).items) looked.old result
             looked.new (start_at (rules_by self.now.asked.now) (T.lines self.now.lines.now)
             self.now.at self.now.floor id pattern.now) }
         ensures there { IfOk result (IsStartThere (rules_by self.now.asked.now).items) }
-        ensures memory { MemoryStands (rules_by self.now.asked.now)
-            (T.lines self.now.lines.now) self.now.at.line memory.new }
+        ensures may { MayAsk T.lines self.now memory.new }
     {
         let by = StartBy {
             item: id,
@@ -189,21 +178,17 @@ impl<T: Lines> Picking<'_, T> {
         looked: &mut Looked,
         memory: &mut PickMemory,
     ) -> Result<Option<Starting>, Stop>
-        requires valid { IsSound self.now.asked.now }
         requires item { IsItem (rules_by self.now.asked.now) id }
-        requires place { IsPlace (T.lines self.now.lines.now) self.now.at }
         requires region { is_region (item_of (rules_by self.now.asked.now).items id).kind ≡ true }
         requires starts { starts.now
             ≡ starts_of (item_of (rules_by self.now.asked.now).items id).kind }
-        requires memory { MemoryStands (rules_by self.now.asked.now)
-            (T.lines self.now.lines.now) self.now.at.line memory.old }
+        requires may { MayAsk T.lines self.now memory.old }
         requires held { HoldsLine looked.old self.now.at.line }
         ensures told { IsToldAs (seen_start (rules_by self.now.asked.now).items) looked.old result
             looked.new (first_found (start_at (rules_by self.now.asked.now)
             (T.lines self.now.lines.now) self.now.at self.now.floor id) (reverse starts.now)) }
         ensures there { IfOk result (IsStartThere (rules_by self.now.asked.now).items) }
-        ensures memory { MemoryStands (rules_by self.now.asked.now)
-            (T.lines self.now.lines.now) self.now.at.line memory.new }
+        ensures may { MayAsk T.lines self.now memory.new }
     {
         let mut left = starts.len();
         'starts: while left > 0 {
@@ -224,11 +209,8 @@ impl<T: Lines> Picking<'_, T> {
         looked: &mut Looked,
         memory: &mut PickMemory,
     ) -> Result<Option<Starting>, Stop>
-        requires valid { IsSound self.now.asked.now }
         requires item { IsItem (rules_by self.now.asked.now) id }
-        requires place { IsPlace (T.lines self.now.lines.now) self.now.at }
-        requires memory { MemoryStands (rules_by self.now.asked.now)
-            (T.lines self.now.lines.now) self.now.at.line memory.old }
+        requires may { MayAsk T.lines self.now memory.old }
         requires held { HoldsLine looked.old self.now.at.line }
         ensures told { IsToldAs (seen_start (rules_by self.now.asked.now).items) looked.old result
             looked.new (start_by
@@ -236,8 +218,7 @@ impl<T: Lines> Picking<'_, T> {
             self.now.at.col self.now.floor id
             (item_of (rules_by self.now.asked.now).items id).kind) }
         ensures there { IfOk result (IsStartThere (rules_by self.now.asked.now).items) }
-        ensures memory { MemoryStands (rules_by self.now.asked.now)
-            (T.lines self.now.lines.now) self.now.at.line memory.new }
+        ensures may { MayAsk T.lines self.now memory.new }
     {
         match &self.item(id).kind {
             ItemKind::Keyword => Ok(None),
@@ -268,19 +249,15 @@ impl<T: Lines> Picking<'_, T> {
         looked: &mut Looked,
         memory: &mut PickMemory,
     ) -> Result<Option<Starting>, Stop>
-        requires valid { IsSound self.now.asked.now }
         requires item { IsItem (rules_by self.now.asked.now) id }
         requires choice { ChoiceFits (rules_by self.now.asked.now) choice }
-        requires place { IsPlace (T.lines self.now.lines.now) self.now.at }
-        requires memory { MemoryStands (rules_by self.now.asked.now)
-            (T.lines self.now.lines.now) self.now.at.line memory.old }
+        requires may { MayAsk T.lines self.now memory.old }
         requires held { HoldsLine looked.old self.now.at.line }
         ensures told { IsToldAs (seen_start (rules_by self.now.asked.now).items) looked.old result
             looked.new (start_if_free (rules_by self.now.asked.now) (T.lines self.now.lines.now)
             self.now.at self.now.floor (reverse self.now.tried.now) choice id) }
         ensures there { IfOk result (IsStartThere (rules_by self.now.asked.now).items) }
-        ensures memory { MemoryStands (rules_by self.now.asked.now)
-            (T.lines self.now.lines.now) self.now.at.line memory.new }
+        ensures may { MayAsk T.lines self.now memory.new }
     {
         if self.is_free(choice, id) {
             self.start_by(id, looked, memory)
@@ -296,11 +273,8 @@ impl<T: Lines> Picking<'_, T> {
         looked: &mut Looked,
         memory: &mut PickMemory,
     ) -> Result<Option<Starting>, Stop>
-        requires valid { IsSound self.now.asked.now }
         requires choice { ChoiceFits (rules_by self.now.asked.now) choice }
-        requires place { IsPlace (T.lines self.now.lines.now) self.now.at }
-        requires memory { MemoryStands (rules_by self.now.asked.now)
-            (T.lines self.now.lines.now) self.now.at.line memory.old }
+        requires may { MayAsk T.lines self.now memory.old }
         requires held { HoldsLine looked.old self.now.at.line }
         ensures told { IsToldAs (seen_start (rules_by self.now.asked.now).items) looked.old result
             looked.new (first_found (start_if_free (rules_by self.now.asked.now)
@@ -308,8 +282,7 @@ impl<T: Lines> Picking<'_, T> {
             choice)
             (items_below (length (rules_by self.now.asked.now).items))) }
         ensures there { IfOk result (IsStartThere (rules_by self.now.asked.now).items) }
-        ensures memory { MemoryStands (rules_by self.now.asked.now)
-            (T.lines self.now.lines.now) self.now.at.line memory.new }
+        ensures may { MayAsk T.lines self.now memory.new }
     {
         let mut left = memory.next_item(self, choice, self.asked.parts.items.added(), *looked)?;
         'items: while left > 0 {

@@ -8,6 +8,7 @@ ghost use Rattle.item_pick.specs.PartsSeen.{rules_by};
 
 use crate::asked::Asked;
 use crate::choice::Choice;
+use crate::firsts::Reach;
 use crate::needs::Wanted;
 use crate::rows::{ANY, Row};
 use region_ends::KeyAnswers;
@@ -37,12 +38,8 @@ pub(crate) struct Tables {
     pub(crate) idles: KeyAnswers,
     /// Whether no skip or end of a region fits.
     pub(crate) shut: KeyAnswers,
-    /// Whether it has no match but from a line's first column, by the number of the item.
-    pub(crate) anchors: Table<bool>,
-    /// Of how many characters a line and the one before may be together, so that attempts by that
-    /// pattern, which begins with a look behind, are within the budget where what follows is in vain,
-    /// by the number of the item.
-    pub(crate) longest: Table<Option<u64>>,
+    /// How far attempts by that pattern may lead, by the number of the item.
+    pub(crate) reaches: Table<Reach>,
     /// What lines must hold so that some items have a match in them.
     pub(crate) wanted: Vec<Wanted>,
     /// How many times it was asked for, by the number of the item.
@@ -64,8 +61,7 @@ impl Tables {
             afters: KeyAnswers::new(alloc),
             idles: KeyAnswers::new(alloc),
             shut: KeyAnswers::new(alloc),
-            anchors: Table::new(alloc),
-            longest: Table::new(alloc),
+            reaches: Table::new(alloc),
             wanted: Vec::new(alloc),
             times: Table::new(alloc),
         }

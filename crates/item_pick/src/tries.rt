@@ -9,8 +9,7 @@ ghost use Rattle.item_pick.specs.Tries.{HasNoStart, IsNotFrom, IsSeen, IsBeside,
 ghost use Rattle.item_pick.specs.Screens.{HoldsLine};
 ghost use Rattle.item_pick.specs.Standing.{IsOwn, IsPlace, IsStartOf};
 ghost use Rattle.item_pick.specs.PartsSeen.{rules_by};
-ghost use Rattle.item_pick.specs.Tables.{MemoryStands};
-ghost use Rattle.item_pick.specs.Valid.{IsSound};
+ghost use Rattle.item_pick.specs.Valid.{IsSound, MayAsk};
 
 use crate::columns::{Columns, columns_of, may_start};
 use crate::memory::PickMemory;
@@ -192,20 +191,16 @@ impl<T: Lines> Picking<'_, T> {
         looked: &mut Looked,
         memory: &mut PickMemory,
     ) -> Result<Tried, Stop>
-        requires valid { IsSound self.now.asked.now }
         requires start { IsStartOf (rules_by self.now.asked.now) by.now }
-        requires place { IsPlace (T.lines self.now.lines.now) self.now.at }
         requires column { col ≤ length (line_at (T.lines self.now.lines.now) self.now.at.line) }
-        requires memory { MemoryStands (rules_by self.now.asked.now)
-            (T.lines self.now.lines.now) self.now.at.line memory.old }
+        requires may { MayAsk T.lines self.now memory.old }
         ensures told { IsToldAs match_in looked.old result looked.new (match_from
             (rules_by self.now.asked.now) (T.lines self.now.lines.now) by.now.item by.now.pattern.now self.now.at
             col) }
         ensures ends { IfOk result (λ tried. EndsBefore (2 ^ 33) (match_in tried)) }
         ensures settled { IfOk result (IsNotFrom (rules_by self.now.asked.now)
             (T.lines self.now.lines.now) self.now.at.line by.now.item by.now.pattern.now col) }
-        ensures memory { MemoryStands (rules_by self.now.asked.now)
-            (T.lines self.now.lines.now) self.now.at.line memory.new }
+        ensures may { MayAsk T.lines self.now memory.new }
     {
         match memory.vain(self, by, col)? {
             Some(lines) => {
@@ -224,18 +219,14 @@ impl<T: Lines> Picking<'_, T> {
         looked: &mut Looked,
         memory: &mut PickMemory,
     ) -> Result<Option<Match>, Stop>
-        requires valid { IsSound self.now.asked.now }
         requires start { IsStartOf (rules_by self.now.asked.now) by.now }
-        requires place { IsPlace (T.lines self.now.lines.now) self.now.at }
-        requires memory { MemoryStands (rules_by self.now.asked.now)
-            (T.lines self.now.lines.now) self.now.at.line memory.old }
+        requires may { MayAsk T.lines self.now memory.old }
         requires held { HoldsLine looked.old self.now.at.line }
         ensures told { IsToldAfter looked.old result looked.new (item_match
             (rules_by self.now.asked.now) (T.lines self.now.lines.now) by.now.item by.now.pattern.now self.now.at
             self.now.floor) }
         ensures ends { IfOk result (EndsBefore (2 ^ 33)) }
-        ensures memory { MemoryStands (rules_by self.now.asked.now)
-            (T.lines self.now.lines.now) self.now.at.line memory.new }
+        ensures may { MayAsk T.lines self.now memory.new }
     {
         let last = self.last();
         let columns = columns_of(by.pattern, self.at.col, last);

@@ -1,27 +1,16 @@
 -- What is answered of an attempt is what the rules say of it.
-use Rattle.std.proofs.Common.{◌≡◌, ℕ, ◌≤◌, Bool, true, false, List, refl, sym, ap, arith, subst}
-use Rattle.std.specs.Prelude.{Option, Some, None, Result, IfOk, nat_lt, option_map, if◌then◌else◌}
+use Rattle.region_ends.proofs.Common.{◌≡◌, ℕ, ◌≤◌, Bool, true, false, List, refl, sym, ap, arith, subst, Option, Some, None, nat_lt, if◌then◌else◌, IfOk-weaker, nat_tests, Sets, ItemId, Place, PatternTree, Text, attempt, Attempt, match_of, IsToldOn, Pattern, Cause, Matched, context_of, attempt_by, IsAttempted, IsTried}
+use Rattle.std.specs.Prelude.{Result, IfOk, option_map}
 use Rattle.std.proofs.lemmas.Option.{slice_get_within}
-use Rattle.std.proofs.lemmas.Result.{IfOk-weaker}
-use Rattle.std.proofs.lemmas.Bool.Decides.{nat_tests}
-use Rattle.char_class.specs.declared.sets.Sets.{Sets}
-use Rattle.syn_base.specs.declared.places.ItemId.{ItemId}
-use Rattle.syn_base.specs.declared.places.Place.{Place}
-use Rattle.vim_pattern.specs.Tree.{PatternTree}
-use Rattle.match_rules.specs.Ways.{Text, Way, IsPlaceOf}
-use Rattle.match_rules.specs.Attempt.{Answer, attempt}
-use Rattle.pattern_match.specs.declared.answer.Attempt.{Attempt}
+use Rattle.match_rules.specs.Ways.{Way, IsPlaceOf}
+use Rattle.match_rules.specs.Attempt.{Answer}
 use Rattle.pattern_match.specs.declared.answer.Attempt.TheVariants as tried
-use Rattle.pattern_match.specs.Answers.{answered, found_or_absent, match_of, IsAttempt}
-use Rattle.pattern_match.specs.OnText.{IsToldOn}
+use Rattle.pattern_match.specs.Answers.{answered, found_or_absent, IsAttempt}
 use Rattle.pattern_match.proofs.AnswerLaws.{answers-on}
-use Rattle.syntax_set.specs.declared.item.Pattern.{Pattern}
 use Rattle.syntax_set.specs.Soundness.{IsAdded}
 use Rattle.paint_rules.specs.Rules as rule
-use Rattle.paint_rules.specs.Rules.{Cause, Matched, within_budget}
-use Rattle.paint_rules.specs.Syntax.{attempt_in, context_of, attempt_by}
-use Rattle.region_ends.specs.Attempts.{IsAttempted}
-use Rattle.region_ends.specs.Steps.{IsTried}
+use Rattle.paint_rules.specs.Rules.{within_budget}
+use Rattle.paint_rules.specs.Syntax.{attempt_in}
 
 by_way : (budget : ℕ) (text : Text) (start : Place) (answer : Answer) (o : Option Way) → answer.way ≡ o → answer.cost ≤ budget →
     IsAttempted (found_or_absent text start answer o) budget (attempt_in text start answer)

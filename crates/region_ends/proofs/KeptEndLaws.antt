@@ -1,9 +1,8 @@
 -- The frames up to one, its top first.
-use Rattle.std.proofs.Common.{◌≡◌, ℕ, suc, ◌<◌, List, [], ◌∷◌, ◌++◌, length, take, reverse, sym, ap, ◌∙◌, arith, length-append}
-use Rattle.std.proofs.lemmas.List.{reverse-append, reverse-reverse, take-append-le}
+use Rattle.region_ends.proofs.Common.{◌≡◌, ℕ, suc, ◌<◌, List, [], ◌∷◌, length, take, reverse, sym, ap, ◌∙◌, arith, reverse-append, AddedItem, Frame}
+use Rattle.std.proofs.Common.{◌++◌, length-append}
+use Rattle.std.proofs.lemmas.List.{reverse-reverse, take-append-le}
 use Rattle.std.proofs.Math.Seq.{take-length}
-use Rattle.syntax_set.specs.declared.added_item.AddedItem.{AddedItem}
-use Rattle.paint_rules.specs.Frames.{Frame}
 use Rattle.paint_rules.specs.KeptEnd.{kept_end_over}
 use Rattle.region_ends.specs.KeptEnd.{kept_end, kept_end_of_first}
 

@@ -1,13 +1,9 @@
 -- Frames whose known ends are those of items without `keepend` put no limit to a frame above them.
-use Rattle.std.proofs.Common.{◌≡◌, inl, inr, Bool, true, false, List, [], ◌∷◌, reverse, refl, ap, subst, ◌∙◌}
-use Rattle.std.specs.Prelude.{◌&&◌, ◌||◌, not, nat_eq, Option, Some, None, is_none}
+use Rattle.region_ends.proofs.Common.{◌≡◌, inl, inr, Bool, true, false, List, [], ◌∷◌, reverse, refl, ap, subst, ◌∙◌, ◌&&◌, ◌||◌, not, nat_eq, Option, Some, None, AllPass-from_list_all, ItemId, AddedItem, Frame, item_of}
+use Rattle.std.specs.Prelude.{is_none}
 use Rattle.std.proofs.lemmas.Bool.{eqb-true, not-true}
-use Rattle.std.proofs.lemmas.List.Sums.{AllPass-from_list_all, list_all-from_AllPass}
-use Rattle.syn_base.specs.declared.places.ItemId.{ItemId}
-use Rattle.syntax_set.specs.declared.added_item.AddedItem.{AddedItem}
-use Rattle.paint_rules.specs.Frames.{Frame}
+use Rattle.std.proofs.lemmas.List.Sums.{list_all-from_AllPass}
 use Rattle.paint_rules.specs.declared.Spot.{Spot}
-use Rattle.paint_rules.specs.Rules.{item_of}
 use Rattle.paint_rules.specs.KeptEnd.{earlier_end, has_extend, has_keepend, is_start_area, limit_on}
 use Rattle.state_stack.specs.declared.enders.Enders.{Enders}
 use Rattle.state_stack.specs.declared.enders.Enders.TheVariants.{Nothing, One, Two, Three, Many}

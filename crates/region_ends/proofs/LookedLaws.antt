@@ -1,12 +1,9 @@
 -- A line that was looked at stays among those looked at.
-use Rattle.std.proofs.Common.{◌≡◌, ◌∙◌, refl, sym, ap, subst, arith, ℕ, Bool, true, false}
-use Rattle.std.specs.Prelude.{Some, None, ℤ, pos, ◌||◌}
+use Rattle.region_ends.proofs.Common.{◌≡◌, ◌∙◌, refl, sym, ap, subst, arith, ℕ, Bool, true, false, Some, None, pos, ◌||◌, Looked, one_line, hull_assoc, Painted, Done, Refused, looked_first, HoldsLine}
+use Rattle.std.specs.Prelude.{ℤ}
 use Rattle.std.proofs.lemmas.Int.{ints}
-use Rattle.syn_base.specs.declared.looked.Looked.{Looked}
-use Rattle.syn_base.specs.Looked.{hull_of, lesser, greater, one_line}
-use Rattle.syn_base.proofs.HullLaws.{hull_assoc, hull_comm}
-use Rattle.paint_rules.specs.Painted.{Painted, Done, Refused, looked_first}
-use Rattle.region_ends.specs.Stretches.{HoldsLine}
+use Rattle.syn_base.specs.Looked.{hull_of, lesser, greater}
+use Rattle.syn_base.proofs.HullLaws.{hull_comm}
 
 wider : (j n : Looked) (l : ℕ) → HoldsLine j l → HoldsLine (hull_of j n) l
 wider j n l h =

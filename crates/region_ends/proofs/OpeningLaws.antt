@@ -1,30 +1,21 @@
 -- An end that begins with the text of an external gives nothing where another character stands than
 -- the first of that text.
-use Rattle.std.proofs.Common.{◌≡◌, ◌∙◌, ◌⊎◌, inl, inr, refl, sym, ap, subst, arith, ℕ, Bool, true, false, List, [], ◌∷◌, cond}
-use Rattle.std.specs.Prelude.{Option, Some, None, pos, nat_eq, not, get_or, slice_get, ◌-◌}
+use Rattle.region_ends.proofs.Common.{◌≡◌, ◌∙◌, ◌⊎◌, inl, inr, refl, sym, ap, subst, arith, ℕ, Bool, true, false, List, [], ◌∷◌, Option, Some, None, pos, nat_eq, not, get_or, slice_get, ◌-◌, nat_tests, Looked, Place, one_line, hull_self, PatternTree, Context, attempt, ignores_case, IsInVain, Pattern, Opening, With, IsToldOf, begins_with, first_of, is_unopened}
+use Rattle.std.proofs.Common.{cond}
 use Rattle.std.proofs.Math.Bool.{beq}
-use Rattle.std.proofs.lemmas.Bool.Decides.{nat_tests}
 use Rattle.char_class.specs.Folds.{is_same}
-use Rattle.syn_base.specs.declared.looked.Looked.{Looked}
-use Rattle.syn_base.specs.declared.places.Place.{Place}
-use Rattle.syn_base.specs.Looked.{one_line}
-use Rattle.syn_base.proofs.HullLaws.{hull_self}
 use Rattle.pattern_items.specs.declared.atom.Atom.{Atom}
 use Rattle.pattern_items.specs.declared.atom.Atom.TheVariants as atom
 use Rattle.vim_pattern.specs.Shape.{Shape, empty, one, seq, or, and, group, external, repeat, ahead, before, whole}
-use Rattle.vim_pattern.specs.Tree.{PatternTree}
-use Rattle.match_rules.specs.Ways.{Context, behind_character, way_from}
+use Rattle.match_rules.specs.Ways.{behind_character, way_from}
 use Rattle.match_rules.specs.Atoms.{behind_if, behind_piece, behind_pieces, character, character_at, characters, last_line_of, lines_from, lines_looked, only_if}
-use Rattle.match_rules.specs.Attempt.{answer_of, attempt, for_tree, ignores_case}
+use Rattle.match_rules.specs.Attempt.{answer_of, for_tree}
 use Rattle.match_rules.specs.Marks.{Mark, Tick}
 use Rattle.match_rules.specs.Visits.{visits}
 use Rattle.pattern_match.specs.FirstAtom.{first_atom}
 use Rattle.pattern_match.proofs.FirstAtomLaws.{first_atom-fails}
-use Rattle.pattern_screens.specs.ScreenLaw.{IsInVain}
-use Rattle.syntax_set.specs.declared.item.Pattern.{Pattern}
-use Rattle.region_ends.specs.declared.opening.Opening.{Opening}
-use Rattle.region_ends.specs.declared.opening.Opening.TheVariants.{Nothing, With, Unknown}
-use Rattle.region_ends.specs.Opening.{IsToldOf, begins_with, external_of, first_external, first_of, is_unopened, stands}
+use Rattle.region_ends.specs.declared.opening.Opening.TheVariants.{Nothing, Unknown}
+use Rattle.region_ends.specs.Opening.{external_of, first_external, stands}
 
 -- ---- the first atom
 

@@ -1,20 +1,10 @@
 -- The search goes on behind columns where neither the skip nor an end can fit.
-use Rattle.std.proofs.Common.{◌≡◌, inl, inr, ◌∙◌, refl, sym, ap, subst, arith, ℕ, zero, suc, ◌+◌, ◌-◌, ◌<◌, ◌≤◌, Bool, true, false, List, [], ◌∷◌, length}
-use Rattle.std.specs.Prelude.{Option, Some, None, pos, nat_eq, nat_lt, not, ◌&&◌, reverse, slice_get, is_some, if◌then◌else◌}
-use Rattle.std.specs.List.{All, list_all}
+use Rattle.region_ends.proofs.Common.{◌≡◌, inl, inr, ◌∙◌, refl, sym, ap, subst, arith, ℕ, zero, suc, ◌+◌, ◌-◌, ◌<◌, ◌≤◌, Bool, true, false, List, [], ◌∷◌, length, Option, Some, None, pos, nat_eq, nat_lt, not, ◌&&◌, reverse, slice_get, if◌then◌else◌, All, list_all, nat_tests, All-head, All-tail, AllPass-from_list_all, Looked, one_line, attempt, ignores_case, Context, Text, match_of, IsInVain, Region, Pattern, Painted, Done, looked_first, done, first_found, Cause, item_of, place_at, attempt_by, context_of, Search, Skip, NoSkip, skip_at, tried_at, end_at, offset_place, Me, Walk, IsToldOf, begins_with, first_of, is_unopened, IsPassedOver, IsWalk, are_shut, is_end_shut, is_shut_at, question_of, search_in, HoldsLine, left_from}
+use Rattle.std.specs.Prelude.{is_some}
 use Rattle.std.specs.Option.{option_map}
-use Rattle.std.proofs.lemmas.Bool.Decides.{nat_tests}
-use Rattle.std.proofs.lemmas.List.Elements.{All-head, All-tail}
-use Rattle.std.proofs.lemmas.List.Sums.{AllPass-from_list_all}
-use Rattle.syn_base.specs.declared.looked.Looked.{Looked}
-use Rattle.syn_base.specs.Looked.{one_line}
 use Rattle.match_rules.specs.Atoms.{has_keyword}
-use Rattle.match_rules.specs.Attempt.{attempt, ignores_case}
-use Rattle.match_rules.specs.Ways.{Context, Text}
 use Rattle.pattern_match.specs.declared.answer.Attempt.TheVariants as tried
-use Rattle.pattern_match.specs.Answers.{match_of}
 use Rattle.pattern_screens.specs.Bounds.{failing_cost}
-use Rattle.pattern_screens.specs.ScreenLaw.{IsInVain}
 use Rattle.pattern_screens.specs.declared.key.Key.{Key}
 use Rattle.pattern_screens.specs.declared.key.Last.{Last}
 use Rattle.pattern_screens.specs.declared.key.Last.TheVariants as lasts
@@ -23,20 +13,9 @@ use Rattle.pattern_screens.specs.declared.key.Next.TheVariants as nexts
 use Rattle.pattern_screens.specs.Keys.{key_numbered, key_of, last_in, next_of, other_of}
 use Rattle.pattern_screens.specs.Screens.{is_futile}
 use Rattle.pattern_screens.proofs.Screened.{law as futile}
-use Rattle.syntax_set.specs.declared.item.ItemKind.TheVariants.{Region}
-use Rattle.syntax_set.specs.declared.item.Pattern.{Pattern}
-use Rattle.paint_rules.specs.Painted.{Painted, Done, looked_first, done, first_found}
-use Rattle.paint_rules.specs.Rules.{Cause, item_of, place_at}
-use Rattle.paint_rules.specs.Syntax.{attempt_by, context_of}
-use Rattle.paint_rules.specs.EndInLine.{Search, Skip, NoSkip, skip_at, skip_to, tried_at, end_at}
-use Rattle.paint_rules.specs.Offsets.{offset_place}
-use Rattle.paint_rules.specs.declared.Which.TheVariants.{Me}
+use Rattle.paint_rules.specs.EndInLine.{skip_to}
 use Rattle.paint_rules.proofs.PaintedLaws.{goes_on}
-use Rattle.region_ends.specs.declared.passing.Walk.{Walk}
-use Rattle.region_ends.specs.Opening.{IsToldOf, begins_with, first_of, is_unopened}
-use Rattle.region_ends.specs.Passing.{IsOfRegion, IsPassedOver, IsWalk, Question, are_shut, are_shut_anyway, are_shut_by, is_cheap, is_end_shut, is_shut, is_shut_at, is_skip_shut, question_of}
-use Rattle.region_ends.specs.Steps.{search_in}
-use Rattle.region_ends.specs.Stretches.{HoldsLine, left_from}
+use Rattle.region_ends.specs.Passing.{IsOfRegion, Question, are_shut_anyway, are_shut_by, is_cheap, is_shut, is_skip_shut}
 use Rattle.region_ends.proofs.CommonLaws.{all_reverse, both, one_of}
 use Rattle.region_ends.proofs.OpeningLaws.{attempt_fails, begins_here, differs, told_differs}
 use Rattle.region_ends.proofs.SearchLaws.{after_try, first_end, tried_at_is, to_later}

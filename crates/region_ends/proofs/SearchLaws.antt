@@ -1,28 +1,11 @@
 -- Each answer of a step is what the rule says, after what was looked at before.
-use Rattle.std.proofs.Common.{◌≡◌, ℕ, zero, suc, ◌+◌, ◌-◌, ◌<◌, ◌≤◌, Bool, true, false, List, [], ◌∷◌, length, refl, sym, ap, ◌∙◌, arith, subst}
-use Rattle.std.specs.Prelude.{Option, Some, None, pos, nat_lt, slice_get, reverse, take}
+use Rattle.region_ends.proofs.Common.{◌≡◌, ℕ, zero, suc, ◌+◌, ◌-◌, ◌<◌, ◌≤◌, Bool, true, false, List, [], ◌∷◌, length, refl, sym, ap, ◌∙◌, arith, subst, Option, Some, None, pos, nat_lt, slice_get, reverse, take, get_or_from_slice_get, nat_tests, Looked, ItemId, Place, one_line, Text, line_at, Attempt, IsToldOn, ItemKind, Pattern, Painted, Done, looked_first, ◌>>=◌, done, first_found, refusal_of, Cause, Matched, TooCostly, place_at, item_of, RegionEnd, columns_from, Search, Skip, NoSkip, SkipTo, SkipLine, skip_of, ends_of, skip_at, tried_at, end_at, end_made, end_from, hull_assoc, refusal_bind, IsAttempted, IsTried}
 use Rattle.std.specs.Option.{option_map}
-use Rattle.std.proofs.lemmas.Option.{get_or_from_slice_get}
-use Rattle.std.proofs.lemmas.Bool.Decides.{nat_tests}
-use Rattle.syn_base.specs.declared.looked.Looked.{Looked}
-use Rattle.syn_base.specs.declared.places.ItemId.{ItemId}
-use Rattle.syn_base.specs.declared.places.Place.{Place}
-use Rattle.syn_base.specs.Looked.{one_line}
-use Rattle.match_rules.specs.Ways.{Text, line_at}
-use Rattle.pattern_match.specs.declared.answer.Attempt.{Attempt}
 use Rattle.pattern_match.specs.declared.answer.Attempt.TheVariants as tried
-use Rattle.pattern_match.specs.OnText.{IsToldOn}
-use Rattle.syntax_set.specs.declared.item.ItemKind.{ItemKind}
-use Rattle.syntax_set.specs.declared.item.Pattern.{Pattern}
-use Rattle.paint_rules.specs.Painted.{Painted, Done, looked_first, ◌>>=◌, done, first_found, refusal_of}
-use Rattle.paint_rules.specs.Rules.{Cause, Matched, TooCostly, attempted, place_at, item_of}
-use Rattle.paint_rules.specs.declared.RegionEnd.{RegionEnd}
-use Rattle.paint_rules.specs.ItemMatch.{looks_at_end, columns, columns_from}
-use Rattle.paint_rules.specs.EndInLine.{Search, Skip, NoSkip, SkipTo, SkipLine, skip_of, ends_of, skip_at, tried_at, end_at, end_made, end_from}
-use Rattle.syn_base.proofs.HullLaws.{hull_assoc}
-use Rattle.paint_rules.proofs.PaintedLaws.{first_bind, refusal_first, refusal_bind}
-use Rattle.region_ends.specs.Attempts.{IsAttempted}
-use Rattle.region_ends.specs.Steps.{IsTried, seen, EndsBefore}
+use Rattle.paint_rules.specs.Rules.{attempted}
+use Rattle.paint_rules.specs.ItemMatch.{looks_at_end, columns}
+use Rattle.paint_rules.proofs.PaintedLaws.{first_bind, refusal_first}
+use Rattle.region_ends.specs.Steps.{seen, EndsBefore}
 use Rattle.region_ends.proofs.AttemptLaws.{within}
 use Rattle.region_ends.proofs.CommonLaws.{last_first}
 

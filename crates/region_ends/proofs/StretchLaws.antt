@@ -1,39 +1,18 @@
 -- Searches from several columns that come to the same.
-use Rattle.std.proofs.Common.{◌≡◌, ◌∙◌, refl, sym, ap, subst, arith, ℕ, suc, ◌<◌, ◌≤◌, Bool, true, false, List, [], ◌∷◌, length, inl, inr}
-use Rattle.std.specs.Prelude.{Option, Some, None, nat_lt, pos, reverse}
+use Rattle.region_ends.proofs.Common.{◌≡◌, ◌∙◌, refl, sym, ap, subst, arith, ℕ, suc, ◌<◌, ◌≤◌, Bool, true, false, List, [], ◌∷◌, length, inl, inr, Option, Some, None, nat_lt, pos, reverse, nat_tests, Sets, Looked, ItemId, Place, one_line, hull_self, Text, line_at, AddedItem, ItemKind, Region, Pattern, RegionEnd, Me, Painted, Done, Refused, looked_first, ◌>>=◌, done, first_found, Cause, Matched, item_of, no_externals, place_at, offset_place, columns_from, Search, Skip, NoSkip, SkipTo, SkipLine, skip_of, ends_of, skip_at, tried_at, end_at, end_made, end_from, end_in_line, Walk, EndAnswer, KnownStands, IsPassedOver, IsWalk, search_of, IsEnd, search_in, answer_at, left_from, HoldsLine}
 use Rattle.std.specs.Option.{option_map}
 use Rattle.std.proofs.lemmas.Bool.{cases_lt}
-use Rattle.std.proofs.lemmas.Bool.Decides.{nat_tests}
-use Rattle.char_class.specs.declared.sets.Sets.{Sets}
-use Rattle.syn_base.specs.declared.looked.Looked.{Looked}
 use Rattle.syn_base.specs.declared.places.GroupId.{GroupId}
-use Rattle.syn_base.specs.declared.places.ItemId.{ItemId}
-use Rattle.syn_base.specs.declared.places.Place.{Place}
-use Rattle.syn_base.specs.Looked.{one_line}
-use Rattle.syn_base.proofs.HullLaws.{hull_self}
-use Rattle.match_rules.specs.Ways.{Text, is_after, line_at}
-use Rattle.syntax_set.specs.declared.added_item.AddedItem.{AddedItem}
-use Rattle.syntax_set.specs.declared.item.ItemKind.{ItemKind}
-use Rattle.syntax_set.specs.declared.item.ItemKind.TheVariants.{Region}
-use Rattle.syntax_set.specs.declared.item.Pattern.{Pattern}
-use Rattle.paint_rules.specs.declared.RegionEnd.{RegionEnd}
-use Rattle.paint_rules.specs.declared.Which.TheVariants.{Me, He, Re}
-use Rattle.paint_rules.specs.Painted.{Painted, Done, Refused, looked_first, ◌>>=◌, done, first_found}
-use Rattle.paint_rules.specs.Rules.{Cause, Matched, item_of, no_externals, place_at}
-use Rattle.paint_rules.specs.Offsets.{offset_place, later_place, earlier_place}
-use Rattle.paint_rules.specs.ItemMatch.{columns_from}
-use Rattle.paint_rules.specs.EndInLine.{Search, Skip, NoSkip, SkipTo, SkipLine, skip_of, ends_of, skip_at, tried_at, end_at, end_made, end_from, end_in_line, end_in_present}
+use Rattle.match_rules.specs.Ways.{is_after}
+use Rattle.paint_rules.specs.declared.Which.TheVariants.{He, Re}
+use Rattle.paint_rules.specs.Offsets.{later_place, earlier_place}
+use Rattle.paint_rules.specs.EndInLine.{end_in_present}
 use Rattle.region_ends.specs.declared.end_memo.Known.{Known}
-use Rattle.region_ends.specs.declared.passing.Walk.{Walk}
-use Rattle.region_ends.specs.declared.searching.EndAnswer.{EndAnswer}
 use Rattle.region_ends.specs.declared.searching.EndAnswer.TheVariants.{NotHere}
 use Rattle.region_ends.specs.declared.searching.Searched.{Searched}
 use Rattle.region_ends.specs.declared.searching.Searching.{Searching}
-use Rattle.region_ends.specs.EndMemo.{IsKept, KnownStands}
-use Rattle.region_ends.specs.Passing.{IsPassedOver, IsWalk}
-use Rattle.region_ends.specs.Searches.{search_of, IsEnd}
-use Rattle.region_ends.specs.Steps.{search_in}
-use Rattle.region_ends.specs.Stretches.{answer_at, found_from, left_from, GoesOn, HoldsLine, IsFirst, IsSearched, ReachesEnd, TellsColumns}
+use Rattle.region_ends.specs.EndMemo.{IsKept}
+use Rattle.region_ends.specs.Stretches.{found_from, GoesOn, IsFirst, IsSearched, ReachesEnd, TellsColumns}
 use Rattle.region_ends.proofs.LookedLaws.{alone_before}
 use Rattle.region_ends.proofs.PassingLaws.{columns_passed}
 use Rattle.region_ends.proofs.SearchLaws.{none_left}

@@ -1,4 +1,4 @@
-use Rattle.std.proofs.Common.{◌<◌, ◌∙◌, length, sym, arith}
+use Rattle.region_ends.proofs.Common.{◌<◌, ◌∙◌, length, sym, arith}
 use Rattle.region_ends.proofs.KeptEndLaws.{one_more, kept_below}
 use Rattle.region_ends.proofs.keeping.+kept_end.Goals as goal
 

@@ -1,9 +1,6 @@
-use Rattle.std.proofs.Common.{◌≡◌, ◌<◌, ◌≤◌, inl, inr, List, length, get_or, take, arith, subst}
-use Rattle.std.specs.List.{All}
+use Rattle.region_ends.proofs.Common.{◌≡◌, ◌<◌, ◌≤◌, inl, inr, List, length, get_or, take, arith, subst, All, Pattern, IsToldOf}
 use Rattle.std.proofs.lemmas.List.{take_all}
 use Rattle.std.proofs.lemmas.List.Elements.{All-more, All-weaker}
-use Rattle.syntax_set.specs.declared.item.Pattern.{Pattern}
-use Rattle.region_ends.specs.Opening.{IsToldOf}
 use Rattle.region_ends.proofs.opening.known_opening.Goals as goal
 
 pub loop-pattern-preserved : goal.loop-pattern-preserved

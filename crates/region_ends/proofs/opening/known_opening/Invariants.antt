@@ -1,6 +1,4 @@
-use Rattle.std.proofs.Common.{take}
-use Rattle.std.specs.List.{All}
-use Rattle.region_ends.specs.Opening.{IsToldOf}
+use Rattle.region_ends.proofs.Common.{take, All, IsToldOf}
 use Rattle.region_ends.proofs.opening.known_opening.Given as goal
 
 -- it is known of the patterns before

@@ -1,4 +1,4 @@
-use Rattle.region_ends.specs.Passing.{is_shut_at}
+use Rattle.region_ends.proofs.Common.{is_shut_at}
 use Rattle.region_ends.proofs.searching.find_end.Goals as goal
 
 pub find_anew-requires-clause-shut : goal.find_anew-requires-clause-shut

@@ -17,7 +17,7 @@ items-init g c =
           (λ j a b. next.idle j a (omega (arith, b, count)));
       within = omega (arith, next.behind, count);
       held = c.requires.held;
-      memory = c.next_item.ensures.memory;
+      may = c.next_item.ensures.may;
     }
 
 pub items-preserved : goal.items-preserved
@@ -34,7 +34,7 @@ items-preserved g c =
           next.idle);
       within = omega (arith, next.behind, c.items.invariant.within);
       held = held;
-      memory = c.next_item-in-None.ensures.memory;
+      may = c.next_item-in-None.ensures.may;
     }
 
 pub next_item-requires-in-None-clause-held : goal.next_item-requires-in-None-clause-held

@@ -1,5 +1,5 @@
 use Rattle.std.proofs.Common.{◌≡◌, ◌≤◌, length, reverse}
-use Rattle.item_pick.specs.Tables.{MemoryStands}
+use Rattle.item_pick.specs.Valid.{MayAsk}
 use Rattle.item_pick.specs.PartsSeen.{rules_by}
 use Rattle.item_pick.specs.Started.{start_if_free}
 use Rattle.paint_rules.specs.Pick.{items_below}
@@ -17,7 +17,7 @@ invariant-items g l =
       whole : found_after f l.fn.looked (items_below (length r.items)) ≡ found_after f l.looked (items_below l.left);
       within : l.left ≤ length r.items;
       held : HoldsLine l.looked l.self.at.line;
-      memory : MemoryStands (rules_by l.self.asked.now) (g.T.Lines.lines l.self.lines.now) l.self.at.line l.memory;
+      may : MayAsk g.T.Lines.lines l.self l.memory;
     }
 
 abbrev pub decreases-items : goal.decreases-items

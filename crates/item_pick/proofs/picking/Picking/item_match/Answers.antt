@@ -18,7 +18,7 @@ columns-init g c =
           ∙ skip_to (match_from r t c.args.by.now.item c.args.by.now.pattern.now c.args.self.now.at) c.last-last.result c.args.looked.now c.max-first.result c.in_ok-col.col next.ahead
           (λ x a b h. next.idle x a b (omega (arith, h, c.last-last.ensures.is)));
       held = c.requires.held;
-      memory = c.next_column.ensures.memory;
+      may = c.next_column.ensures.may;
       from = next.ahead;
     }
 
@@ -38,7 +38,7 @@ columns-preserved g c =
           ∙ skip_to f c.last-last.result c.tried_from.new.looked (c.columns.col + 1) c.in_ok-col-in-Not.col next.ahead
           (λ x a b h. next.idle x a b (omega (arith, h, c.last-last.ensures.is))));
       held = held;
-      memory = c.next_column-in-Not.ensures.memory;
+      may = c.next_column-in-Not.ensures.may;
       from = omega (arith, next.ahead, c.columns.invariant.from);
     }
 

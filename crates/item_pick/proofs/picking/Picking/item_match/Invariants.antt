@@ -2,7 +2,7 @@ use Rattle.std.proofs.Common.{◌≡◌, ◌≤◌, ◌-◌, suc}
 use Rattle.std.specs.Prelude.{Some}
 use Rattle.paint_rules.specs.Painted.{looked_first}
 use Rattle.paint_rules.specs.ItemMatch.{item_match, match_from}
-use Rattle.item_pick.specs.Tables.{MemoryStands}
+use Rattle.item_pick.specs.Valid.{MayAsk}
 use Rattle.item_pick.specs.PartsSeen.{rules_by}
 use Rattle.item_pick.specs.Screens.{HoldsLine}
 use Rattle.item_pick.proofs.FoundLaws.{from_column}
@@ -16,7 +16,7 @@ invariant-columns g l =
     record {
       whole : looked_first (Some l.fn.looked) (item_match r t l.by.item l.by.pattern.now l.self.at l.self.floor) ≡ from_column (match_from r t l.by.item l.by.pattern.now l.self.at) l.last l.looked l.col;
       held : HoldsLine l.looked l.self.at.line;
-      memory : MemoryStands (rules_by l.self.asked.now) t l.self.at.line l.memory;
+      may : MayAsk g.T.Lines.lines l.self l.memory;
       from : l.first ≤ l.col;
     }
 

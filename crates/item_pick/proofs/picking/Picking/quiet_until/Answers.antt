@@ -5,9 +5,6 @@ use Rattle.item_pick.specs.QuietPlaces.{IsQuietAt}
 use Rattle.item_pick.proofs.QuietPlaceLaws.{nothing_picked}
 use Rattle.item_pick.proofs.picking.Picking.quiet_until.Goals as goal
 
-pub is_quiet-requires-clause-memory : goal.is_quiet-requires-clause-memory
-is_quiet-requires-clause-memory g c = c.loop-col.invariant.memory
-
 pub loop-col-preserved : goal.loop-col-preserved
 loop-col-preserved g c =
     let s = c.args.self.now.asked.now in
@@ -20,7 +17,7 @@ loop-col-preserved g c =
       quiet = λ k a b.
           below_more (λ (k : ℕ). at.col ≤ k → IsQuietAt r t c.allowed-choice.result c.args.self.now.floor c.args.looked (place_at at.line k)) c.loop-col.col (λ k b a. before k a b)
           (λ _. c.in_ok-quiet.ensures.quiet c.if-not-quiet.false) k b a;
-      memory = c.is_quiet.ensures.memory;
+      may = c.is_quiet.ensures.may;
     }
 
 pub returns-then-not-quiet-clause-quiet : goal.returns-then-not-quiet-clause-quiet
@@ -43,7 +40,7 @@ returns-clause-quiet g c =
     let t = g.T.Lines.lines c.args.self.now.lines.now in
     let before = c.loop-col.invariant.quiet in
     record {
-      from = omega (arith, c.requires.place.within, c.last-last.ensures.is);
+      from = omega (arith, c.requires.may.place.within, c.last-last.ensures.is);
       within = omega (arith, c.last-last.ensures.is);
       quiet = λ k a b over.
           nothing_picked r t c.args.self.now.at k (reverse c.args.stack.now) c.allowed-choice.result c.allowed-choice.ensures.allowed c.args.self.now.floor c.args.looked (before k a (omega (arith, b, c.loop-col-test.false))) over;

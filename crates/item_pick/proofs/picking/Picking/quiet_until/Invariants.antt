@@ -2,7 +2,7 @@ use Rattle.std.proofs.Common.{◌≤◌, ◌<◌, ℕ}
 use Rattle.paint_rules.specs.Rules.{place_at}
 use Rattle.item_pick.specs.PartsSeen.{rules_by}
 use Rattle.item_pick.specs.QuietPlaces.{IsQuietAt}
-use Rattle.item_pick.specs.Tables.{MemoryStands}
+use Rattle.item_pick.specs.Valid.{MayAsk}
 use Rattle.item_pick.proofs.picking.Picking.quiet_until.Given as goal
 
 -- the columns before are quiet
@@ -13,5 +13,5 @@ invariant-loop-col g l =
     record {
       from : l.self.at.col ≤ l.col;
       quiet : (c : ℕ) → l.self.at.col ≤ c → c < l.col → IsQuietAt r t l.choice l.self.floor l.looked (place_at l.self.at.line c);
-      memory : MemoryStands r t l.self.at.line l.memory;
+      may : MayAsk g.T.Lines.lines l.self l.memory;
     }

@@ -14,7 +14,7 @@ starts-init g c =
       whole = rw (c.len-left.ensures, take-length c.args.starts.now) refl;
       within = omega arith;
       held = c.requires.held;
-      memory = c.requires.memory;
+      may = c.requires.may;
     }
 
 pub starts-preserved : goal.starts-preserved
@@ -25,7 +25,7 @@ starts-preserved g c =
       whole = c.starts.invariant.whole ∙ below_none f c.args.starts.now _ _ _ next c.starts.invariant.within c.get.ensures _ _ (rw c.in-None.is at c.in_ok-found.ensures.told);
       within = omega arith;
       held = still_held _ _ _ _ _ c.starts.invariant.held (rw c.in-None.is at c.in_ok-found.ensures.told);
-      memory = c.start_at.ensures.memory;
+      may = c.start_at.ensures.may;
     }
 
 pub returns-in-Some-clause-told : goal.returns-in-Some-clause-told

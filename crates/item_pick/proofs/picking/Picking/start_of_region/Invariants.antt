@@ -1,5 +1,5 @@
 use Rattle.std.proofs.Common.{◌≡◌, ◌≤◌, length, reverse}
-use Rattle.item_pick.specs.Tables.{MemoryStands}
+use Rattle.item_pick.specs.Valid.{MayAsk}
 use Rattle.item_pick.specs.PartsSeen.{rules_by}
 use Rattle.item_pick.specs.Started.{start_at}
 use Rattle.item_pick.specs.Screens.{HoldsLine}
@@ -14,7 +14,7 @@ invariant-starts g l =
       whole : found_after f l.fn.looked (reverse l.starts) ≡ below f l.starts l.looked l.left;
       within : l.left ≤ length l.starts;
       held : HoldsLine l.looked l.self.at.line;
-      memory : MemoryStands (rules_by l.self.asked.now) (g.T.Lines.lines l.self.lines.now) l.self.at.line l.memory;
+      may : MayAsk g.T.Lines.lines l.self l.memory;
     }
 
 abbrev pub decreases-starts : goal.decreases-starts

@@ -1,6 +1,20 @@
-use Rattle.item_pick.specs.PartsSeen.{rules_in}
+use Rattle.std.proofs.Common.{inr}
+use Rattle.paint_rules.specs.Rules.{place_at}
+use Rattle.item_pick.specs.PartsSeen.{rules_by}
+use Rattle.item_pick.specs.Quiet.{item_numbered}
+use Rattle.item_pick.proofs.FutileLaws.{futile_after}
+use Rattle.item_pick.proofs.TableLaws.{idle_quiet}
 use Rattle.item_pick.proofs.tables.Tables.is_over.Goals as goal
 
 pub returns-then-is_passed : goal.returns-then-is_passed
 returns-then-is_passed c _ t l known within held =
-    c.is_passed.ensures c.if-is_passed.true (rules_in c.args.asked.now.parts.now c.args.asked.now.budget) t l known.line within held
+    c.is_passed.ensures c.if-is_passed.true (rules_by c.args._asked.now) t l known.line within held
+
+pub returns-in-Some : goal.returns-in-Some
+returns-in-Some c e t l known within held =
+    let asked = c.args._asked.now in
+    let r = rules_by asked in
+    let sought = c.args.search.now in
+    let key = c.in-Some.ensures r t l known.line in
+    inr (idle_quiet r (futile_after asked.parts.now.sets.now asked.budget) t (place_at l sought.at) c.in-Some.number key.1 key.0 (item_numbered c.args.id)
+    (c.is_idle.ensures e r known.tables) sought.floor sought.looked held)

@@ -15,7 +15,6 @@ returns c r tables row = record {
   afters = tables.afters;
   idles = tables.idles;
   shut = tables.shut;
-  anchors = tables.anchors;
-  longest = tables.longest;
+  reaches = tables.reaches;
   wanted = tables.wanted;
 }

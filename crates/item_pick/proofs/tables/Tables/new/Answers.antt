@@ -1,5 +1,4 @@
-use Rattle.std.proofs.Common.{subst, sym, true}
-use Rattle.std.specs.Prelude.{Some}
+use Rattle.std.proofs.Common.{subst, sym}
 use Rattle.std.specs.List.{All}
 use Rattle.std.proofs.lemmas.List.Elements.{All-nil}
 use Rattle.region_ends.specs.Passing.{is_shut_at}
@@ -18,7 +17,6 @@ returns c r = record {
   afters = c.new-6.ensures (first_asked fails_after r);
   idles = c.new-7.ensures (idles_before r);
   shut = c.new-8.ensures (is_shut_at r.items r.sets r.budget);
-  anchors = record { told = λ item there. absurd (c.new-9.ensures item true there) };
-  longest = record { told = λ item most there. absurd (c.new-10.ensures item (Some most) there) };
-  wanted = subst (All (IsWanted r)) (sym c.new-11.ensures.items) (All-nil (IsWanted r));
+  reaches = λ item reach there. absurd (c.new-9.ensures item reach there);
+  wanted = subst (All (IsWanted r)) (sym c.new-10.ensures.items) (All-nil (IsWanted r));
 }

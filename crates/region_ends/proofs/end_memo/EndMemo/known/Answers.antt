@@ -1,9 +1,4 @@
-use Rattle.std.proofs.Common.{refl, subst}
-use Rattle.syn_base.specs.declared.places.ItemId.{ItemId}
-use Rattle.paint_rules.specs.EndInLine.{end_in_line}
-use Rattle.paint_rules.specs.Rules.{no_externals}
-use Rattle.region_ends.specs.Searches.{search_of, IsEnd}
-use Rattle.region_ends.specs.Stretches.{answer_at}
+use Rattle.region_ends.proofs.Common.{refl, subst, ItemId, end_in_line, no_externals, search_of, IsEnd, answer_at}
 use Rattle.region_ends.proofs.end_memo.EndMemo.known.Goals as goal
 
 pub returns-then-tells_of : goal.returns-then-tells_of

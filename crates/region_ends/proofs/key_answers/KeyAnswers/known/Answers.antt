@@ -1,6 +1,5 @@
-use Rattle.std.proofs.Common.{subst, Bool}
-use Rattle.std.specs.Prelude.{IfSome, Option}
-use Rattle.slots.specs.Entries.{IsIn}
+use Rattle.region_ends.proofs.Common.{subst, Bool, Option, IsIn}
+use Rattle.std.specs.Prelude.{IfSome}
 use Rattle.region_ends.proofs.key_answers.KeyAnswers.known.Goals as goal
 
 pub returns : goal.returns

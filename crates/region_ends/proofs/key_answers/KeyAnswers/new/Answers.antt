@@ -1,4 +1,4 @@
-use Rattle.std.proofs.Common.{true}
+use Rattle.region_ends.proofs.Common.{true}
 use Rattle.region_ends.proofs.key_answers.KeyAnswers.new.Goals as goal
 
 pub returns : goal.returns

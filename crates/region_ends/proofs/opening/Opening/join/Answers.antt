@@ -1,7 +1,4 @@
-use Rattle.std.proofs.Common.{◌≡◌, ◌⊎◌, ◌∙◌, sym, subst}
-use Rattle.region_ends.specs.declared.opening.Opening.{Opening}
-use Rattle.region_ends.specs.declared.opening.Opening.TheVariants.{With}
-use Rattle.region_ends.specs.Opening.{IsToldOf}
+use Rattle.region_ends.proofs.Common.{◌≡◌, ◌⊎◌, ◌∙◌, sym, subst, Opening, With, IsToldOf}
 use Rattle.region_ends.proofs.OpeningLaws.{nothing_last, same_bool, same_told}
 use Rattle.region_ends.proofs.opening.Opening.join.Goals as goal
 

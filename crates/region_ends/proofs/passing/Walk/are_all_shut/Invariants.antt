@@ -1,6 +1,4 @@
-use Rattle.std.proofs.Common.{◌≡◌, take, true}
-use Rattle.std.specs.List.{list_all}
-use Rattle.region_ends.specs.Passing.{is_end_shut, question_of}
+use Rattle.region_ends.proofs.Common.{◌≡◌, take, true, list_all, is_end_shut, question_of}
 use Rattle.region_ends.proofs.passing.Walk.are_all_shut.Given as goal
 
 -- the patterns before are shut out

@@ -1,6 +1,4 @@
-use Rattle.std.proofs.Common.{◌∙◌, ap, sym}
-use Rattle.std.specs.Prelude.{Some, Bool}
-use Rattle.region_ends.specs.Passing.{is_shut_at}
+use Rattle.region_ends.proofs.Common.{◌∙◌, ap, sym, Some, Bool, is_shut_at}
 use Rattle.region_ends.proofs.PassingLaws.{shut_is}
 use Rattle.region_ends.proofs.passing.Walk.are_known_shut.Goals as goal
 

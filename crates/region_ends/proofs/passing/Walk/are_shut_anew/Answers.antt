@@ -1,5 +1,4 @@
-use Rattle.std.proofs.Common.{◌∙◌}
-use Rattle.region_ends.specs.Passing.{is_shut_at}
+use Rattle.region_ends.proofs.Common.{◌∙◌, is_shut_at}
 use Rattle.region_ends.proofs.PassingLaws.{shut_is}
 use Rattle.region_ends.proofs.passing.Walk.are_shut_anew.Goals as goal
 

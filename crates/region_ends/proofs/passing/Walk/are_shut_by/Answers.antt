@@ -1,5 +1,4 @@
-use Rattle.std.proofs.Common.{◌∙◌, ap, sym, arith}
-use Rattle.region_ends.specs.Passing.{are_shut, question_of}
+use Rattle.region_ends.proofs.Common.{◌∙◌, ap, sym, arith, are_shut, question_of}
 use Rattle.region_ends.proofs.PassingLaws.{by_code, by_key}
 use Rattle.region_ends.proofs.passing.Walk.are_shut_by.Goals as goal
 

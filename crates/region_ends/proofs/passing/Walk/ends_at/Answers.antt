@@ -1,12 +1,4 @@
-use Rattle.std.proofs.Common.{◌-◌, ◌∙◌, arith, ap, reverse, sym, subst, take}
-use Rattle.std.specs.Prelude.{Some}
-use Rattle.pattern_match.specs.declared.answer.Attempt.{Attempt}
-use Rattle.paint_rules.specs.declared.RegionEnd.{RegionEnd}
-use Rattle.paint_rules.specs.Painted.{Done, looked_first, refusal_of}
-use Rattle.paint_rules.specs.Rules.{TooCostly}
-use Rattle.paint_rules.specs.EndInLine.{tried_at}
-use Rattle.paint_rules.proofs.PaintedLaws.{refusal_bind}
-use Rattle.region_ends.specs.Steps.{search_in, IsTried}
+use Rattle.region_ends.proofs.Common.{◌-◌, ◌∙◌, arith, ap, reverse, sym, subst, take, Some, Attempt, RegionEnd, Done, looked_first, refusal_of, TooCostly, tried_at, refusal_bind, search_in, IsTried}
 use Rattle.region_ends.proofs.SearchLaws.{after_try, turn}
 use Rattle.region_ends.proofs.passing.Walk.ends_at.Goals as goal
 

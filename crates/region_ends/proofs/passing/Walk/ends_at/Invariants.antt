@@ -1,8 +1,4 @@
-use Rattle.std.proofs.Common.{◌≡◌, ◌≤◌, length, take, reverse}
-use Rattle.std.specs.Prelude.{Some}
-use Rattle.paint_rules.specs.Painted.{looked_first, first_found}
-use Rattle.paint_rules.specs.EndInLine.{end_at}
-use Rattle.region_ends.specs.Steps.{search_in}
+use Rattle.region_ends.proofs.Common.{◌≡◌, ◌≤◌, length, take, reverse, Some, looked_first, first_found, end_at, search_in}
 use Rattle.region_ends.proofs.passing.Walk.ends_at.Given as goal
 
 -- what is left are the patterns before

@@ -1,5 +1,4 @@
-use Rattle.std.proofs.Common.{◌≤◌, ◌<◌, ℕ}
-use Rattle.region_ends.specs.Passing.{IsPassedOver, ShutStands}
+use Rattle.region_ends.proofs.Common.{◌≤◌, ◌<◌, ℕ, IsPassedOver, ShutStands}
 use Rattle.region_ends.proofs.passing.Walk.idle_until.Given as goal
 
 -- the columns before are passed over

@@ -1,6 +1,4 @@
-use Rattle.std.proofs.Common.{◌∙◌, ap, arith, sym, ℕ}
-use Rattle.std.specs.Prelude.{Some}
-use Rattle.region_ends.specs.Passing.{question_of}
+use Rattle.region_ends.proofs.Common.{◌∙◌, ap, arith, sym, ℕ, Some, question_of}
 use Rattle.region_ends.proofs.PassingLaws.{at_code}
 use Rattle.region_ends.proofs.passing.Walk.is_told.Goals as goal
 

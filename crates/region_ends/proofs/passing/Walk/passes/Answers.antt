@@ -1,5 +1,4 @@
-use Rattle.std.proofs.Common.{◌∙◌, ap, sym}
-use Rattle.region_ends.specs.Passing.{are_shut, question_of}
+use Rattle.region_ends.proofs.Common.{◌∙◌, ap, sym, are_shut, question_of}
 use Rattle.region_ends.proofs.PassingLaws.{by_key}
 use Rattle.region_ends.proofs.passing.Walk.passes.Goals as goal
 

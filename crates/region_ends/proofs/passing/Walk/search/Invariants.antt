@@ -1,5 +1,4 @@
-use Rattle.std.proofs.Common.{◌-◌, suc}
-use Rattle.region_ends.specs.Passing.{ShutStands}
+use Rattle.region_ends.proofs.Common.{◌-◌, suc, ShutStands}
 use Rattle.region_ends.proofs.StretchLaws.{Reached}
 use Rattle.region_ends.proofs.passing.Walk.search.Given as goal
 

@@ -1,11 +1,4 @@
-use Rattle.std.proofs.Common.{◌-◌, subst, sym}
-use Rattle.std.specs.Prelude.{Bool, Some}
-use Rattle.pattern_match.specs.declared.answer.Attempt.{Attempt}
-use Rattle.paint_rules.specs.Rules.{place_at}
-use Rattle.paint_rules.specs.Painted.{looked_first}
-use Rattle.paint_rules.specs.EndInLine.{tried_at}
-use Rattle.region_ends.specs.Attempts.{IsAttempted}
-use Rattle.region_ends.specs.Steps.{search_in, IsTried}
+use Rattle.region_ends.proofs.Common.{◌-◌, subst, sym, Bool, Some, Attempt, place_at, looked_first, tried_at, IsAttempted, search_in, IsTried}
 use Rattle.region_ends.proofs.SearchLaws.{tried_at_is}
 use Rattle.region_ends.proofs.passing.Walk.tried_at.Goals as goal
 

@@ -1,4 +1,4 @@
-use Rattle.std.proofs.lemmas.Result.{IfOk-weaker}
+use Rattle.region_ends.proofs.Common.{IfOk-weaker}
 use Rattle.region_ends.proofs.searching.Searching.anew.Goals as goal
 
 pub returns-clause-answer : goal.returns-clause-answer

@@ -2,7 +2,7 @@ use Rattle.std.proofs.Common.{◌<◌, ◌≤◌, ℕ}
 use Rattle.match_rules.specs.Ways.{Text, line_at}
 use Rattle.item_pick.specs.PartsSeen.{rules_in}
 use Rattle.item_pick.specs.Tables.{AreTablesOf, IsMissed, LineStands}
-use Rattle.item_pick.proofs.tables.Tables.first_unmissed.Given as goal
+use Rattle.item_pick.proofs.tables.Tables.first_open.Given as goal
 
 -- the columns before are missed
 abbrev pub invariant-loop-col : goal.invariant-loop-col
@@ -10,5 +10,5 @@ invariant-loop-col i =
     let r = rules_in i.asked.parts.now i.asked.budget in
     record {
       stands : AreTablesOf r i.self;
-      missed : (t : Text) (l : ℕ) → LineStands r t l i.line → (c : ℕ) → i.from ≤ c → c < i.col → IsMissed r (line_at t l) i.id i.pattern c;
+      missed : (t : Text) (l : ℕ) → LineStands r t l i.line → (c : ℕ) → i.from ≤ c → c < i.col → IsMissed r (line_at t l) i.by.item i.by.pattern.now c;
     }

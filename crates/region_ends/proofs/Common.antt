@@ -1,0 +1,49 @@
+-- The names that most proofs of this crate cite, passed on from one place. Declares nothing.
+pub use Rattle.std.proofs.Common.{Bool, List, [], ap, arith, false, get_or, inl, inr, length, refl, reverse, subst, suc, sym, take, true, zero, ℕ, ◌+◌, ◌-◌, ◌<◌, ◌∙◌, ◌∷◌, ◌≡◌, ◌≤◌, ◌⊎◌}
+pub use Rattle.std.proofs.lemmas.Bool.Decides.{nat_tests}
+pub use Rattle.std.proofs.lemmas.List.{reverse-append}
+pub use Rattle.std.proofs.lemmas.List.Elements.{All-head, All-tail}
+pub use Rattle.std.proofs.lemmas.List.Sums.{AllPass-from_list_all}
+pub use Rattle.std.proofs.lemmas.Option.{get_or_from_slice_get}
+pub use Rattle.std.proofs.lemmas.Result.{IfOk-weaker}
+pub use Rattle.std.specs.List.{All, list_all}
+pub use Rattle.std.specs.Prelude.{None, Option, Some, if◌then◌else◌, nat_eq, nat_lt, not, pos, slice_get, ◌&&◌, ◌||◌}
+pub use Rattle.char_class.specs.declared.sets.Sets.{Sets}
+pub use Rattle.match_rules.specs.Attempt.{attempt, ignores_case}
+pub use Rattle.match_rules.specs.Ways.{Context, Text, line_at}
+pub use Rattle.paint_rules.proofs.PaintedLaws.{refusal_bind}
+pub use Rattle.paint_rules.specs.EndInLine.{NoSkip, Search, Skip, SkipLine, SkipTo, end_at, end_from, end_in_line, end_made, ends_of, skip_at, skip_of, tried_at}
+pub use Rattle.paint_rules.specs.Frames.{Frame}
+pub use Rattle.paint_rules.specs.ItemMatch.{columns_from}
+pub use Rattle.paint_rules.specs.Offsets.{offset_place}
+pub use Rattle.paint_rules.specs.Painted.{Done, Painted, Refused, done, first_found, looked_first, refusal_of, ◌>>=◌}
+pub use Rattle.paint_rules.specs.Rules.{Cause, Matched, TooCostly, item_of, no_externals, place_at}
+pub use Rattle.paint_rules.specs.Syntax.{attempt_by, context_of}
+pub use Rattle.paint_rules.specs.declared.RegionEnd.{RegionEnd}
+pub use Rattle.paint_rules.specs.declared.Which.TheVariants.{Me}
+pub use Rattle.pattern_match.specs.Answers.{match_of}
+pub use Rattle.pattern_match.specs.OnText.{IsToldOn}
+pub use Rattle.pattern_match.specs.declared.answer.Attempt.{Attempt}
+pub use Rattle.pattern_screens.specs.ScreenLaw.{IsInVain}
+pub use Rattle.slots.specs.Entries.{IsIn}
+pub use Rattle.syn_base.proofs.HullLaws.{hull_assoc, hull_self}
+pub use Rattle.syn_base.specs.Looked.{one_line}
+pub use Rattle.syn_base.specs.declared.looked.Looked.{Looked}
+pub use Rattle.syn_base.specs.declared.places.ItemId.{ItemId}
+pub use Rattle.syn_base.specs.declared.places.Place.{Place}
+pub use Rattle.syntax_set.specs.declared.added_item.AddedItem.{AddedItem}
+pub use Rattle.syntax_set.specs.declared.item.ItemKind.{ItemKind}
+pub use Rattle.syntax_set.specs.declared.item.ItemKind.TheVariants.{Region}
+pub use Rattle.syntax_set.specs.declared.item.Pattern.{Pattern}
+pub use Rattle.vim_pattern.specs.Tree.{PatternTree}
+pub use Rattle.region_ends.specs.Attempts.{IsAttempted}
+pub use Rattle.region_ends.specs.EndMemo.{KnownStands}
+pub use Rattle.region_ends.specs.Opening.{IsToldOf, begins_with, first_of, is_unopened}
+pub use Rattle.region_ends.specs.Passing.{IsPassedOver, IsWalk, ShutStands, are_shut, is_end_shut, is_shut_at, question_of}
+pub use Rattle.region_ends.specs.Searches.{IsEnd, search_of}
+pub use Rattle.region_ends.specs.Steps.{IsTried, search_in}
+pub use Rattle.region_ends.specs.Stretches.{HoldsLine, answer_at, left_from}
+pub use Rattle.region_ends.specs.declared.opening.Opening.{Opening}
+pub use Rattle.region_ends.specs.declared.opening.Opening.TheVariants.{With}
+pub use Rattle.region_ends.specs.declared.passing.Walk.{Walk}
+pub use Rattle.region_ends.specs.declared.searching.EndAnswer.{EndAnswer}
