@@ -1,5 +1,6 @@
 -- What is answered of an attempt is what the rules say of it.
-use Rattle.region_ends.proofs.Common.{◌≡◌, ℕ, ◌≤◌, Bool, true, false, List, refl, sym, ap, arith, subst, Option, Some, None, nat_lt, if◌then◌else◌, IfOk-weaker, nat_tests, Sets, ItemId, Place, PatternTree, Text, attempt, Attempt, match_of, IsToldOn, Pattern, Cause, Matched, context_of, attempt_by, IsAttempted, IsTried}
+use Rattle.region_ends.proofs.Common.{◌≡◌, ℕ, ◌≤◌, Bool, true, false, List, refl, sym, ap, arith, subst, Option, Some, None, nat_lt, if◌then◌else◌, IfOk-weaker, nat_tests, Sets, ItemId, Place, PatternTree, Text, attempt, Attempt, match_of, IsToldOn, Pattern, Cause, Matched, context_of, IsAttempted, IsTried}
+use Rattle.paint_rules.specs.Syntax.{attempt_by}
 use Rattle.std.specs.Prelude.{Result, IfOk, option_map}
 use Rattle.std.proofs.lemmas.Option.{slice_get_within}
 use Rattle.match_rules.specs.Ways.{Way, IsPlaceOf}

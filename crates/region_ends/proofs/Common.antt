@@ -18,7 +18,7 @@ pub use Rattle.paint_rules.specs.ItemMatch.{columns_from}
 pub use Rattle.paint_rules.specs.Offsets.{offset_place}
 pub use Rattle.paint_rules.specs.Painted.{Done, Painted, Refused, done, first_found, looked_first, refusal_of, ◌>>=◌}
 pub use Rattle.paint_rules.specs.Rules.{Cause, Matched, TooCostly, item_of, no_externals, place_at}
-pub use Rattle.paint_rules.specs.Syntax.{attempt_by, context_of}
+pub use Rattle.paint_rules.specs.Syntax.{context_of}
 pub use Rattle.paint_rules.specs.declared.RegionEnd.{RegionEnd}
 pub use Rattle.paint_rules.specs.declared.Which.TheVariants.{Me}
 pub use Rattle.pattern_match.specs.Answers.{match_of}

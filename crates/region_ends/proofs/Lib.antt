@@ -1,3 +1,4 @@
+pub mod Common
 pub mod AttemptLaws
 pub mod CommonLaws
 pub mod KeptEndLaws

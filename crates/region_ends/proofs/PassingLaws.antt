@@ -1,5 +1,6 @@
 -- The search goes on behind columns where neither the skip nor an end can fit.
-use Rattle.region_ends.proofs.Common.{◌≡◌, inl, inr, ◌∙◌, refl, sym, ap, subst, arith, ℕ, zero, suc, ◌+◌, ◌-◌, ◌<◌, ◌≤◌, Bool, true, false, List, [], ◌∷◌, length, Option, Some, None, pos, nat_eq, nat_lt, not, ◌&&◌, reverse, slice_get, if◌then◌else◌, All, list_all, nat_tests, All-head, All-tail, AllPass-from_list_all, Looked, one_line, attempt, ignores_case, Context, Text, match_of, IsInVain, Region, Pattern, Painted, Done, looked_first, done, first_found, Cause, item_of, place_at, attempt_by, context_of, Search, Skip, NoSkip, skip_at, tried_at, end_at, offset_place, Me, Walk, IsToldOf, begins_with, first_of, is_unopened, IsPassedOver, IsWalk, are_shut, is_end_shut, is_shut_at, question_of, search_in, HoldsLine, left_from}
+use Rattle.region_ends.proofs.Common.{◌≡◌, inl, inr, ◌∙◌, refl, sym, ap, subst, arith, ℕ, zero, suc, ◌+◌, ◌-◌, ◌<◌, ◌≤◌, Bool, true, false, List, [], ◌∷◌, length, Option, Some, None, pos, nat_eq, nat_lt, not, ◌&&◌, reverse, slice_get, if◌then◌else◌, All, list_all, nat_tests, All-head, All-tail, AllPass-from_list_all, Looked, one_line, attempt, ignores_case, Context, Text, match_of, IsInVain, Region, Pattern, Painted, Done, looked_first, done, first_found, Cause, item_of, place_at, context_of, Search, Skip, NoSkip, skip_at, tried_at, end_at, offset_place, Me, Walk, IsToldOf, begins_with, first_of, is_unopened, IsPassedOver, IsWalk, are_shut, is_end_shut, is_shut_at, question_of, search_in, HoldsLine, left_from}
+use Rattle.paint_rules.specs.Syntax.{attempt_by}
 use Rattle.std.specs.Prelude.{is_some}
 use Rattle.std.specs.Option.{option_map}
 use Rattle.match_rules.specs.Atoms.{has_keyword}

@@ -19,9 +19,9 @@ returns-then-branch-clause-vain g c =
     let may = subst (λ n. may_start_at c.args.by.now.pattern.now n p.at.col c.args.col ≡ true) c.last.ensures.is at-last in
     let told = c.in_ok-most.ensures in
     subst (λ lines. IsVainFrom r t p.at c.args.by.now.item c.args.by.now.pattern.now lines c.args.col) (sym c.two_lines.ensures)
-    (vain_behind r (futile_behind s.parts.now.sets.now s.budget) t c.args.by.now.item c.args.by.now.pattern.now p.at c.in-Some.most c.args.col c.in-Some-2.number
-    may (c.requires.start.first (omega (arith, c.if-by-number-ne0.false))) (c.are_within.ensures c.if-not-are_within.false) (c.in-Some-2.ensures r t p.at.line c.requires.may.memory.line) (c.in_ok-is_vain_behind.ensures.vain c.if-branch.true)
-    (subst (λ (o : Option ℕ). IfSome o (IsCheapWithin r c.args.by.now.item)) c.in-Some.is told.cheap))
+    (vain_behind r (futile_behind s.parts.now.sets.now s.budget) t c.args.by.now.item c.args.by.now.pattern.now p.at c.in-Some.most c.args.col c.in-Some-number_at.number
+    may (c.requires.start.first (omega (arith, c.if-by-ne0.false))) (c.are_within.ensures c.if-not-are_within.false) (c.in-Some-number_at.ensures r t p.at.line c.requires.may.memory.line) (c.in_ok-is_vain_behind.ensures.vain c.if-branch.true)
+    (subst (λ (o : Option ℕ). IfSome o (IsCheapWithin r c.args.by.now.item)) c.in-Some.is told.reach.longest))
 
 pub returns-then-not-begins_behind-clause-vain : goal.returns-then-not-begins_behind-clause-vain
 returns-then-not-begins_behind-clause-vain g c =

@@ -40,8 +40,8 @@ returns-clause-quiet g c e =
     (subst (λ (xs : List ItemId). IsNextAt r t p floor k (reverse xs) c.args.choice c.added-count.result c.in_ok-left.left) c.requires.none_tried
     (c.in_ok-left.ensures.next t l known (c.in-Some.ensures r t l known) c.requires.held))))
 
-pub returns-then-branch-clause-quiet : goal.returns-then-branch-clause-quiet
-returns-then-branch-clause-quiet g c _ =
+pub returns-then-is_still-clause-quiet : goal.returns-then-is_still-clause-quiet
+returns-then-is_still-clause-quiet g c _ =
     let s = c.args.self.now.asked.now in
     let r = rules_by s in
     let t = g.T.Lines.lines c.args.self.now.lines.now in
@@ -51,5 +51,5 @@ returns-then-branch-clause-quiet g c _ =
     let word : begins_word r.sets.keyword c.line.result.now c.args.col ≡ false = sym c.begins_word.ensures ∙ c.if-begins_word.false in
     row_empty r t (place_at l c.args.col) floor k c.args.choice
     (subst (λ (line : List ℕ). begins_word r.sets.keyword line c.args.col ≡ false) c.line.ensures word)
-    (none_left r t l c.args.choice floor k c.args.col (c.requires.settled c.if-col.true)
+    (none_left r t l c.args.choice floor k c.args.col (c.requires.settled c.if-col-settled.true)
     (c.is_still.ensures c.if-is_still.true t l c.requires.may.memory (c.in-Some.ensures r t l c.requires.may.memory.line) floor k c.requires.held))

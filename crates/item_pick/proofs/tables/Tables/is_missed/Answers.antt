@@ -15,7 +15,7 @@ pub returns-in-Some-number_at-clause-missed : goal.returns-in-Some-number_at-cla
 returns-in-Some-number_at-clause-missed c =
     let r = rules_by c.args.asked.now in
     let number = c.in-Some-number_at.number in
-    let behind : c.in-Some-after.after ≡ c.args.col + 1 = search rules in
+    let behind : c.in-Some-checked_add.after ≡ c.args.col + 1 = search rules in
     missed_after r c.args.line.now c.args.by.now.item c.args.by.now.pattern.now c.requires.first.first c.args.col number
     (c.takes_first.ensures (search rules))
     (λ t l stands. subst (λ n. IsNumberAt r (line_at t l) n number) behind
