@@ -1,7 +1,6 @@
 pub mod ComesLaws
 pub mod KindLaws
-pub mod LineStartLaws
-pub mod ClosingLaws
+pub mod SearchLaws
 pub mod StandingLaws
 pub mod TurnLaws
 pub mod LineLaws

@@ -1,6 +1,6 @@
 -- The columns of a line: what is left of it, where some spans stand to the left.
 use Rattle.std.proofs.Common.{◌≡◌, ℕ, zero, suc, ◌≤◌, List, [], ◌∷◌, length, drop, refl, sym, ap, ◌∙◌, arith}
-use Rattle.std.specs.Prelude.{Option, Some, None, Result, Ok, Err}
+use Rattle.std.specs.Prelude.{Some, None}
 use Rattle.syn_base.specs.declared.looked.Looked.{Looked}
 use Rattle.syn_base.specs.declared.places.Span.{Span}
 use Rattle.paint_rules.specs.declared.Spot.TheVariants.{At}
@@ -13,13 +13,12 @@ use Rattle.line_paint.specs.declared.answers.Stop.TheVariants as stop
 use Rattle.line_paint.specs.declared.paint.PaintError.{PaintError}
 use Rattle.line_paint.specs.declared.paint.PaintError.TheVariants as error
 use Rattle.line_paint.specs.declared.spans.Spans.{Spans}
-use Rattle.line_paint.specs.declared.standing.Standing.{Standing as StandingCode}
-use Rattle.paint_rules.specs.Frames.{Frame}
 use Rattle.paint_rules.specs.Painted.{refusal_of}
 use Rattle.line_paint.specs.Answers.{Stops}
-use Rattle.line_paint.specs.Line.{at_of, FailsAs, Paints, Begins, painted_rest}
+use Rattle.line_paint.specs.Line.{at_of, FailsAs, painted_rest}
 use Rattle.line_paint.specs.Spans.{chained}
-use Rattle.paint_rules.proofs.PaintedLaws.{goes_on, bind_assoc, refusal_first, refusal_bind}
+use Rattle.paint_rules.proofs.PaintedLaws.{goes_on, bind_assoc, refusal_bind}
+use Rattle.line_paint.proofs.ComesLaws.{refused_same}
 
 pub bind_done : {E A : Type 0} (p : Painted E A) → p >>= (λ a. done a) ≡ p
 bind_done (Done a None) = refl
@@ -34,41 +33,18 @@ at_leads c j k (Done b l) a e =
     λ i. Done (x i) (y i)
 at_leads c j k (Refused d l) a e = absurd (cc)
 
+at_refused : {A : Type 0} (c : ℕ) (cause : Cause) (m : Painted Cause A) →
+    refusal_of m ≡ Some cause → refusal_of (at_col c m) ≡ Some (record { col = c; cause = cause })
+at_refused c cause (Done a l) e = absurd (cc)
+at_refused c cause (Refused d l) e =
+    let same : d ≡ cause = cc in
+    λ i. Some (record { col = c; cause = same i })
+
 pub at_fails : {A : Type 0} (e : Stop) (c : ℕ) (m : Painted Cause A) → Stops e m →
     FailsAs (at_of e c) (at_col c m)
-at_fails (stop.TooCostly i) c (Done a l) s = absurd (cc)
-at_fails (stop.TooCostly i) c (Refused d l) s =
-    ap (λ (x : Option Cause). elim x as (λ _. Option Refusal) [
-      | None ↦ None
-      | Some d ↦ Some (record { col = c; cause = d })
-    ]) s
-at_fails stop.TooDeep c (Done a l) s = absurd (cc)
-at_fails stop.TooDeep c (Refused d l) s =
-    ap (λ (x : Option Cause). elim x as (λ _. Option Refusal) [
-      | None ↦ None
-      | Some d ↦ Some (record { col = c; cause = d })
-    ]) s
+at_fails (stop.TooCostly i) c m s = at_refused c _ m s
+at_fails stop.TooDeep c m s = at_refused c _ m s
 at_fails stop.Memory c m s = tt
-
-pub fails_bind : {A B : Type 0} (e : PaintError) (m : Painted Refusal A)
-    (f : A → Painted Refusal B) → FailsAs e m → FailsAs e (m >>= f)
-fails_bind (error.TooCostly c i) m f s = refusal_bind _ m f s
-fails_bind (error.TooDeep c) m f s = refusal_bind _ m f s
-fails_bind error.Memory m f s = tt
-
-pub fails_whole : {A : Type 0} (e : PaintError) (j k : Looked) (p q : Painted Refusal A) →
-    looked_first (Some j) p ≡ looked_first (Some k) q → FailsAs e q → FailsAs e p
-fails_whole (error.TooCostly c i) j k p q e s = sym (refusal_first (Some j) p)
-    ∙ (ap refusal_of e ∙ (refusal_first (Some k) q ∙ s))
-fails_whole (error.TooDeep c) j k p q e s = sym (refusal_first (Some j) p)
-    ∙ (ap refusal_of e ∙ (refusal_first (Some k) q ∙ s))
-fails_whole error.Memory j k p q e s = tt
-
--- what follows a value, where it may be refused
-pub fails_then : {A B : Type 0} (e : PaintError) (j k : Looked) (m : Painted Refusal A) (a : A)
-    (f : A → Painted Refusal B) → looked_first (Some j) m ≡ Done a (Some k) → FailsAs e (f a) →
-    FailsAs e (m >>= f)
-fails_then e j k m a f h s = fails_whole e j k (m >>= f) (f a) (goes_on j k m a f h) s
 
 module _ (h : Here) (c : ℕ) (j k : Looked) (s t : Standing) (spans : Spans) where
   abbrev here : List ℕ → Standing → Painted Refusal PaintedLine
@@ -80,7 +56,7 @@ module _ (h : Here) (c : ℕ) (j k : Looked) (s t : Standing) (spans : Spans) wh
   whole_of r = done (record r { spans = chained spans r.spans })
 
   pub char_step : (x : ℕ) (line : List ℕ) (more : Spans) →
-      looked_first (Some j) (column h c s) ≡ Done t (Some k) →
+      looked_first (Some j) (at_col c (column h c s)) ≡ Done t (Some k) →
       ((rest : List Span) → chained more rest ≡ chained spans
       (joined c (shown h.rules (At 0 c) t.stack) rest)) →
       looked_first (Some j) (painted_rest h c (x ∷ line) s spans) ≡ looked_first (Some k)
@@ -91,46 +67,44 @@ module _ (h : Here) (c : ℕ) (j k : Looked) (s t : Standing) (spans : Spans) wh
       let shows = λ (r : PaintedLine). done {E = Refusal}
       (record r { spans = joined c (shown h.rules (At 0 c) t.stack) r.spans }) in
       ap (looked_first (Some j)) (bind_assoc head (here line) whole_of)
-      ∙ (goes_on j k head t (λ s. here line s >>= whole_of) (at_leads c j k (column h c s) t e)
+      ∙ (goes_on j k head t (λ s. here line s >>= whole_of) e
       ∙ ap (looked_first (Some k)) (bind_assoc tail shows whole_of
       ∙ ap (λ (f : PaintedLine → Painted Refusal PaintedLine). tail >>= f)
       (λ i r. done (record r { spans = sym (show r.spans) i }))))
 
-  pub end_step : looked_first (Some j) (column h c s) ≡ Done t (Some k) →
+  pub end_step : looked_first (Some j) (at_col c (column h c s)) ≡ Done t (Some k) →
       looked_first (Some j) (painted_rest h c [] s spans) ≡ Done
       (record { spans = chained spans []; after = state_of t }) (Some k)
   end_step e =
       let head = at_col c (column h c s) in
       let ends = λ (s : Standing). done {E = Refusal} (record { spans = []; after = state_of s }) in
       ap (looked_first (Some j)) (bind_assoc head ends whole_of)
-      ∙ goes_on j k head t (λ s. ends s >>= whole_of) (at_leads c j k (column h c s) t e)
+      ∙ goes_on j k head t (λ s. ends s >>= whole_of) e
 
-  pub fails_step : (line : List ℕ) (e : Stop) → Stops e (column h c s) →
-      FailsAs (at_of e c) (painted_rest h c line s spans)
-  fails_step [] e x =
-      fails_bind (at_of e c) (painted_from h c [] s) whole_of
-      (fails_bind (at_of e c) (at_col c (column h c s)) _ (at_fails e c (column h c s) x))
-  fails_step (y ∷ line) e x =
-      fails_bind (at_of e c) (painted_from h c (y ∷ line) s) whole_of
-      (fails_bind (at_of e c) (at_col c (column h c s)) _ (at_fails e c (column h c s) x))
+  refused_here : (line : List ℕ) (why : Refusal) →
+      refusal_of (at_col c (column h c s)) ≡ Some why →
+      refusal_of (painted_rest h c line s spans) ≡ Some why
+  refused_here [] why e =
+      refusal_bind why (painted_from h c [] s) whole_of
+      (refusal_bind why (at_col c (column h c s)) _ e)
+  refused_here (x ∷ line) why e =
+      refusal_bind why (painted_from h c (x ∷ line) s) whole_of
+      (refusal_bind why (at_col c (column h c s)) _ e)
 
-pub paints_whole : (r : Result (List Span) PaintError) (from mid to : StandingCode)
-    (p q : Painted Refusal PaintedLine) → looked_first (Some from.looked) p ≡ looked_first
-    (Some mid.looked) q → Paints r mid to q → Paints r from to p
-paints_whole (Ok spans) from mid to p q e h = e ∙ h
-paints_whole (Err x) from mid to p q e h = fails_whole x from.looked mid.looked p q e h
+  pub fails_step : (line : List ℕ) (p : Painted Refusal PaintedLine) (e : PaintError) →
+      looked_first (Some j) p ≡ looked_first (Some k) (painted_rest h c line s spans) →
+      FailsAs e (at_col c (column h c s)) → FailsAs e p
+  fails_step line p (error.TooCostly d i) whole x =
+      refused_same _ j k p (painted_rest h c line s spans) whole (refused_here line _ x)
+  fails_step line p (error.TooDeep d) whole x =
+      refused_same _ j k p (painted_rest h c line s spans) whole (refused_here line _ x)
+  fails_step line p error.Memory whole x = tt
 
 pub drop_all : (line : List ℕ) (c : ℕ) → length line ≤ c → drop c line ≡ []
 drop_all [] zero h = refl
 drop_all [] (suc c) h = refl
 drop_all (x ∷ line) zero h = absurd (omega (arith, h))
 drop_all (x ∷ line) (suc c) h = drop_all line c (omega (arith, h))
-
-pub begins_fails : (e : Stop) (j k : Looked) (p : Painted Cause (List Frame)) → Stops e p →
-    Begins (Err (at_of e 0)) j k p
-begins_fails (stop.TooCostly i) j k p s = (refl, s)
-begins_fails stop.TooDeep j k p s = (refl, s)
-begins_fails stop.Memory j k p s = tt
 
 -- what was tried at a column doesn't count at the next
 pub untried : (h : Here) (c : ℕ) (line : List ℕ) (s : Standing) (spans : Spans) →

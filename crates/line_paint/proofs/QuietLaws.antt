@@ -17,7 +17,7 @@ use Rattle.line_paint.specs.Spans.{chained}
 use Rattle.line_paint.specs.Turns.{Last, next_start, turn}
 use Rattle.paint_rules.proofs.PaintedLaws.{goes_on}
 use Rattle.line_paint.proofs.TurnLaws.{next_nothing, one_turn, go_on}
-use Rattle.line_paint.proofs.LineLaws.{char_step}
+use Rattle.line_paint.proofs.LineLaws.{at_leads, char_step}
 
 module _ (h : Here) (j : Looked) (c : ℕ) (s : Standing) (q : IsQuiet h j c s) where
   none_closes : (n : ℕ) → closed_in n h c s ≡ done s
@@ -60,4 +60,5 @@ module _ (h : Here) (j : Looked) (c : ℕ) (s : Standing) (q : IsQuiet h j c s) 
       (joined c (shown h.rules (At 0 c) s.stack) rest)) →
       looked_first (Some j) (painted_rest h c (x ∷ line) s spans) ≡ looked_first (Some j)
       (painted_rest h (suc c) line s more)
-  quiet_char spans more x line shows = char_step h c j j s s spans x line more quiet_column shows
+  quiet_char spans more x line shows = char_step h c j j s s spans x line more
+      (at_leads c j j (column h c s) s quiet_column) shows

@@ -18,10 +18,14 @@ abbrev pub Comes : {A B : Type 0} → (A → B) → Result A Stop → Looked →
 Comes view (Ok a) j k p = looked_first (Some j) p ≡ Done (view a) (Some k)
 Comes view (Err e) j k p = Stops e p
 
+-- the same, where the value is of certain items
+abbrev pub ComesOf : {A B C : Type 0} → (A → B) → (B → C) → C → Result A Stop → Looked → Looked →
+    Painted Cause B → Type 0
+ComesOf view items kept (Ok a) j k p =
+    (looked_first (Some j) p ≡ Done (view a) (Some k)) × (items (view a) ≡ kept)
+ComesOf view items kept (Err e) j k p = Stops e p
+
 -- the same of a rule that looks at nothing
 abbrev pub Gives : {A B : Type 0} → (A → B) → Result A Stop → Painted Cause B → Type 0
 Gives view (Ok a) p = p ≡ Done (view a) None
 Gives view (Err e) p = Stops e p
-
-abbrev pub same : {A : Type 0} → A → A
-same a = a

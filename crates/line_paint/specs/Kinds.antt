@@ -1,5 +1,5 @@
 -- What is true of all frames of some kinds.
-use Rattle.std.specs.Prelude.{Bool, not, ◌&&◌, List}
+use Rattle.std.specs.Prelude.{Bool, true, false, not, ◌&&◌, List}
 use Rattle.std.specs.List.{list_all}
 use Rattle.syntax_set.specs.declared.added_item.AddedItem.{AddedItem}
 use Rattle.paint_rules.specs.Frames.{Frame}
@@ -8,13 +8,10 @@ use Rattle.paint_rules.specs.KeptEnd.{has_keepend}
 use Rattle.paint_rules.specs.Line.{is_clear}
 use Rattle.state_stack.specs.declared.kinds.Kind.{Kind}
 
--- its item has no `keepend`
-abbrev pub never_keeps : List AddedItem → Kind → Bool
-never_keeps items k = not (item_of items k.item).keepend
-
--- its frames let what lies below them show
-abbrev pub lets_through : List AddedItem → Kind → Bool
-lets_through items k = not k.in_area && (item_of items k.item).transparent
+-- its frames let what lies below them show, or its item has no `keepend`
+abbrev pub is_so : List AddedItem → Bool → Kind → Bool
+is_so items true k = not k.in_area && (item_of items k.item).transparent
+is_so items false k = not (item_of items k.item).keepend
 
 abbrev pub none_keeps : List AddedItem → List Frame → Bool
 none_keeps items frames = list_all (λ f. not (has_keepend items f)) frames

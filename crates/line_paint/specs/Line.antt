@@ -1,11 +1,10 @@
 -- How the answers of a line's painting are read.
-use Rattle.std.specs.Prelude.{◌≡◌, ℕ, List, reverse, Some, Result, Ok, Err, pos}
+use Rattle.std.specs.Prelude.{◌≡◌, ℕ, List, Some, Result, Ok, Err, pos}
 use Rattle.syn_base.specs.declared.looked.Looked.{Looked}
 use Rattle.syn_base.specs.Looked.{moved_by}
-use Rattle.paint_rules.specs.Frames.{Frame}
 use Rattle.syn_base.specs.declared.places.Span.{Span}
 use Rattle.paint_rules.specs.Painted.{Painted, Done, looked_first, done, refusal_of, ◌>>=◌}
-use Rattle.paint_rules.specs.Rules.{Here, Cause, TooCostly, TooDeep}
+use Rattle.paint_rules.specs.Rules.{Here, TooCostly, TooDeep}
 use Rattle.paint_rules.specs.States as rule
 use Rattle.paint_rules.specs.Line.{Refusal, PaintedLine, painted_from}
 use Rattle.state_stack.specs.declared.state.State.{State}
@@ -17,6 +16,7 @@ use Rattle.line_paint.specs.declared.paint.LineNote.{LineNote}
 use Rattle.line_paint.specs.declared.spans.Spans.{Spans}
 use Rattle.line_paint.specs.declared.standing.Standing.{Standing}
 use Rattle.state_stack.specs.TopFirst.{top_first}
+use Rattle.line_paint.specs.Leads.{standing_of}
 use Rattle.line_paint.specs.Spans.{chained}
 
 abbrev pub at_of : Stop → ℕ → PaintError
@@ -29,21 +29,23 @@ FailsAs (error.TooCostly c i) p = refusal_of p ≡ Some (record { col = c; cause
 FailsAs (error.TooDeep c) p = refusal_of p ≡ Some (record { col = c; cause = TooDeep })
 FailsAs error.Memory p = Unit {0}
 
--- the spans of the columns from one standing to another
+-- a call answers as a rule says: from some looks on it leads to others, and to a value, which is
+-- seen by `view`
+abbrev pub ComesAs : {A B : Type 0} → (A → B) → Result A PaintError → Looked → Looked →
+    Painted Refusal B → Type 0
+ComesAs view (Ok a) j k p = looked_first (Some j) p ≡ Done (view a) (Some k)
+ComesAs view (Err e) j k p = FailsAs e p
+
+-- it leads from one standing to another
+abbrev pub LeadsAt : {A : Type 0} → Result A PaintError → Standing → Standing →
+    Painted Refusal rule.Standing → Type 0
+LeadsAt r from to p = ComesAs (λ _. standing_of to) r from.looked to.looked p
+
+-- and to the spans of the columns between them
 abbrev pub Paints : Result (List Span) PaintError → Standing → Standing →
     Painted Refusal PaintedLine → Type 0
-Paints (Ok spans) from to p =
-    looked_first (Some from.looked) p
-    ≡ Done (record { spans = spans; after = top_first to.state }) (Some to.looked)
-Paints (Err e) from to p = FailsAs e p
-
--- the stack at the start of a line
-abbrev pub Begins : Result (List Frame) PaintError → Looked → Looked → Painted Cause (List Frame) →
-    Type 0
-Begins (Ok stack) j k p = looked_first (Some j) p ≡ Done (reverse stack) (Some k)
-Begins (Err (error.TooCostly c i)) j k p = (c ≡ 0) × (refusal_of p ≡ Some (TooCostly i))
-Begins (Err (error.TooDeep c)) j k p = (c ≡ 0) × (refusal_of p ≡ Some TooDeep)
-Begins (Err error.Memory) j k p = Unit {0}
+Paints r from to p =
+    ComesAs (λ spans. record { spans = spans; after = top_first to.state }) r from.looked to.looked p
 
 -- the note of a line, whose looked lines count from it, or why there is none
 abbrev pub PaintedAs : Result LineNote PaintError → ℕ → State → Painted Refusal PaintedLine → Type 0

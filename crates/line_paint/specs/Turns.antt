@@ -1,20 +1,14 @@
 -- Turns at a column: close, and then start what a pick finds.
-use Rattle.std.specs.Prelude.{◌≡◌, ℕ, Bool, true, false, None, Some, Result, Ok, Err}
-use Rattle.syn_base.specs.declared.looked.Looked.{Looked}
-use Rattle.syn_base.specs.Looked.{hull_of}
-use Rattle.paint_rules.specs.Painted.{Painted, Done, looked_first, done, ◌>>=◌}
+use Rattle.std.specs.Prelude.{ℕ, Bool, true, false, None, Result}
+use Rattle.paint_rules.specs.Painted.{Painted, done, ◌>>=◌}
 use Rattle.paint_rules.specs.Rules.{Here, Cause}
 use Rattle.paint_rules.specs.States as rule
 use Rattle.paint_rules.specs.Close.{closed}
 use Rattle.paint_rules.specs.Pick.{Picked, Start, SkipOn, Nothing, picked, started}
 use Rattle.line_paint.specs.declared.answers.Stop.{Stop}
 use Rattle.line_paint.specs.declared.standing.Standing.{Standing}
-use Rattle.line_paint.specs.Answers.{Stops}
+use Rattle.line_paint.specs.Answers.{Comes}
 use Rattle.line_paint.specs.Leads.{standing_of}
-
--- the lines looked at hold these
-abbrev pub Held : Looked → Looked → Type 0
-Held one looked = hull_of looked one ≡ looked
 
 -- after a turn there is another one, or it was the last
 pub data Next : Type 0 where
@@ -34,10 +28,10 @@ next_start h c s = picked h c s >>= after_pick h c s
 abbrev pub turn : Here → ℕ → rule.Standing → Painted Cause Next
 turn h c s = closed h c s >>= next_start h c
 
+abbrev pub next_of : rule.Standing → Bool → Next
+next_of s true = More s
+next_of s false = Last s
+
 -- a call leads from one standing to another, and says whether there is another turn
 abbrev pub LeadsNext : Result Bool Stop → Standing → Standing → Painted Cause Next → Type 0
-LeadsNext (Ok true) from to p =
-    looked_first (Some from.looked) p ≡ Done (More (standing_of to)) (Some to.looked)
-LeadsNext (Ok false) from to p =
-    looked_first (Some from.looked) p ≡ Done (Last (standing_of to)) (Some to.looked)
-LeadsNext (Err e) from to p = Stops e p
+LeadsNext r from to p = Comes (next_of (standing_of to)) r from.looked to.looked p

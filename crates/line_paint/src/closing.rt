@@ -1,19 +1,19 @@
 //! What becomes of the top frame at a place (`:syn-matchgroup`, `:syn-nextgroup`,
 //! `:syn-excludenl`).
-ghost use Rattle.std.specs.Prelude.{◌≡◌, ◌<◌, ◌∷◌, ◌&&◌, ◌||◌, true, false, length, reverse, IfOk, None};
+ghost use Rattle.std.specs.Prelude.{◌≡◌, ◌<◌, ◌∷◌, ◌&&◌, ◌||◌, false, length, reverse, IfOk, None};
 ghost use Rattle.std.specs.List.{list_any};
-ghost use Rattle.paint_rules.specs.declared.Spot.TheVariants.{At};
 ghost use Rattle.paint_rules.specs.Rules.{this_line};
 ghost use Rattle.paint_rules.specs.KeptEnd.{has_keepend};
-ghost use Rattle.paint_rules.specs.Close.{is_region_body, is_reached, goes_beyond, closing_of, end_area_of, waiting_after, col_here, body_after_area, anew_over_keepend, exposed_anew, frames_after, line_end_counts, has_line_end, is_region_body_on, container_goes_on};
+ghost use Rattle.paint_rules.specs.Close.{is_region_body, is_reached, goes_beyond, closing_of, end_area_of, waiting_after, body_after_area, exposed_anew, frames_after, line_end_counts, has_line_end, is_region_body_on, container_goes_on};
 ghost use Rattle.line_paint.specs.Answers.{Comes};
-ghost use Rattle.line_paint.specs.Closing.{closing, anew_or, over_searched};
+ghost use Rattle.line_paint.specs.Closing.{closing, AnewComes};
+ghost use Rattle.line_paint.specs.Frames.{anew_if, area_from};
 ghost use Rattle.paint_rules.specs.States.{Fits, WaitFits};
-ghost use Rattle.line_paint.specs.Standing.{frames_or, items_of};
+ghost use Rattle.line_paint.specs.Standing.{FramesCome, frames_or, items_of};
 
-use crate::ends::{is_region_body, searched_anew, searched_if};
-use crate::frames::remade;
-use crate::kinds::none_keeps;
+use crate::ends::{is_region_body, search_from};
+use crate::frames::{stack_or, top_searched};
+use crate::kinds::{may_search, none_keeps};
 use crate::spots::{goes_beyond, is_reached};
 use crate::{Site, Stop};
 use item_pick::PickMemory;
@@ -103,12 +103,14 @@ pub(crate) fn waiting_after<S: Site>(site: &S, c: usize, item: ItemId) -> Option
     }
 }
 
-fn col_here(spot: Spot) -> Option<usize>
-    ensures { result ≡ col_here spot }
+/// The column where the body under a start area is to search: its search place, if its end isn't known
+/// and it lies in this line.
+fn area_from(body: &Frame) -> Option<usize>
+    ensures { result ≡ area_from body.now }
 {
-    match spot {
-        Spot::Past => None,
-        Spot::At { ahead, col } => if ahead == 0 { Some(col) } else { None },
+    match (body.known_end, body.search) {
+        (None, Spot::At { ahead: 0, col }) => Some(col),
+        _ => None,
     }
 }
 
@@ -119,24 +121,17 @@ pub(crate) fn body_after_area<S: Site>(
     stack: &Stack,
     looked: &mut Looked,
 ) -> Result<Option<Stack>, Stop>
-    requires valid { S.valid site.now }
     requires memory { S.stands site.now memory.old }
     requires fits { Fits (length (S.here site.now).rules.items) (reverse stack.now) }
-    ensures comes { Comes (frames_or (reverse stack.now)) result looked.old looked.new
+    ensures comes { FramesCome (reverse stack.now) result looked.old looked.new
         (body_after_area (S.here site.now) (reverse stack.now)) }
-    ensures items { IfOk result
-        (λ s. items_of (frames_or (reverse stack.now) s) ≡ items_of (reverse stack.now)) }
     ensures memory { S.stands site.now memory.new }
 {
     match stack.top_and_below() {
         None => Ok(None),
         Some((body, below)) => {
-            if !is_region_body(site, body) || body.known_end.is_some() {
-                return Ok(None);
-            }
-            let from = col_here(body.search);
-            let frame = searched_if(site, memory, body, from, looked)?;
-            Ok(remade(site.alloc(), body, below, frame, None)?)
+            let from = area_from(body);
+            top_searched(site, memory, (body, below), None, from, looked)
         }
     }
 }
@@ -157,76 +152,42 @@ fn untouched() -> Anew
     }
 }
 
-/// Whether a frame is over a `keepend`, its own included.
-fn is_over<S: Site>(site: &S, top: &Frame, below_is: bool) -> bool
+/// Whether a frame is of an item with `keepend`, or something else holds.
+fn keeps_or<S: Site>(site: &S, top: &Frame, other: bool) -> bool
     requires { (top.now.item).0 < length (S.here site.now).rules.items }
-    ensures { result ≡ (below_is || has_keepend (S.here site.now).rules.items top.now) }
+    ensures { result ≡ (other || has_keepend (S.here site.now).rules.items top.now) }
 {
-    below_is || site.item(top.item).keepend
+    other || site.item(top.item).keepend
 }
 
-/// The top frame over those below it, which have searched.
-fn over_searched<S: Site>(
-    site: &S,
-    memory: &mut PickMemory,
-    c: usize,
-    top: &Frame,
-    below: &Stack,
-    rest: Anew,
-    looked: &mut Looked,
-) -> Result<Anew, Stop>
-    requires valid { S.valid site.now }
-    requires memory { S.stands site.now memory.old }
-    requires is_item { (top.now.item).0 < length (S.here site.now).rules.items }
-    requires room { length below.now < 1000 }
-    requires items { items_of (frames_or (reverse below.now) rest.frames)
-        ≡ items_of (reverse below.now) }
-    ensures comes { Comes (anew_or (top.now ∷ reverse below.now)) result looked.old looked.new
-        (over_searched (S.here site.now) c top.now (anew_or (reverse below.now) rest)) }
-    ensures items { IfOk result
-        (λ a. items_of (frames_or (top.now ∷ reverse below.now) a.frames)
-        ≡ items_of (top.now ∷ reverse below.now)) }
-    ensures memory { S.stands site.now memory.new }
-{
-    if is_over(site, top, rest.over) {
-        let frame = searched_anew(site, memory, c, top, looked)?;
-        let frames = remade(site.alloc(), top, below, frame, rest.frames)?;
-        Ok(Anew { frames, over: true })
-    } else {
-        let frames = remade(site.alloc(), top, below, None, rest.frames)?;
-        Ok(Anew {
-            frames,
-            over: false,
-        })
-    }
-}
-
-/// The frames under one with `extend` that was popped: from the last one with `extend` on, those
-/// with `keepend` and those above such a one search anew, the bottom one first.
+/// The frames under one that was popped, if they are to search: from the last one with `extend` on,
+/// those with `keepend` and those above such a one search anew, the bottom one first.
 fn anew_over_keepend<S: Site>(
     site: &S,
     memory: &mut PickMemory,
     c: usize,
+    wanted: bool,
     stack: &Stack,
     looked: &mut Looked,
 ) -> Result<Anew, Stop>
-    requires valid { S.valid site.now }
     requires memory { S.stands site.now memory.old }
     requires fits { Fits (length (S.here site.now).rules.items) (reverse stack.now) }
-    ensures comes { Comes (anew_or (reverse stack.now)) result looked.old looked.new
-        (anew_over_keepend (S.here site.now) c (reverse stack.now)) }
-    ensures items { IfOk result
-        (λ a. items_of (frames_or (reverse stack.now) a.frames) ≡ items_of (reverse stack.now)) }
+    ensures comes { AnewComes (reverse stack.now) result looked.old looked.new
+        (anew_if (S.here site.now) c wanted (reverse stack.now)) }
     ensures memory { S.stands site.now memory.new }
 {
+    if !wanted {
+        return Ok(untouched());
+    }
     match stack.top_and_below() {
         None => Ok(untouched()),
         Some((top, below)) => {
-            if site.item(top.item).extend {
-                return over_searched(site, memory, c, top, below, untouched(), looked);
-            }
-            let rest = anew_over_keepend(site, memory, c, below, looked)?;
-            over_searched(site, memory, c, top, below, rest, looked)
+            let wanted = !site.item(top.item).extend;
+            let rest = anew_over_keepend(site, memory, c, wanted, below, looked)?;
+            let over = keeps_or(site, top, rest.over);
+            let from = search_from(over, c, top);
+            let frames = top_searched(site, memory, (top, below), rest.frames, from, looked)?;
+            Ok(Anew { frames, over })
         }
     }
 }
@@ -240,31 +201,23 @@ fn exposed_anew<S: Site>(
     stack: &Stack,
     looked: &mut Looked,
 ) -> Result<Option<Stack>, Stop>
-    requires valid { S.valid site.now }
     requires memory { S.stands site.now memory.old }
     requires fits { Fits (length (S.here site.now).rules.items) (reverse stack.now) }
-    ensures comes { Comes (frames_or (reverse stack.now)) result looked.old looked.new
+    ensures comes { FramesCome (reverse stack.now) result looked.old looked.new
         (exposed_anew (S.here site.now) c has_searched (reverse stack.now)) }
-    ensures items { IfOk result
-        (λ s. items_of (frames_or (reverse stack.now) s) ≡ items_of (reverse stack.now)) }
     ensures memory { S.stands site.now memory.new }
 {
     match stack.top_and_below() {
         None => Ok(None),
         Some((top, below)) => {
-            if has_searched {
-                return Ok(None);
-            }
-            if site.item(top.item).keepend {
-                return Ok(None);
-            }
-            let frame = searched_anew(site, memory, c, top, looked)?;
-            Ok(remade(site.alloc(), top, below, frame, None)?)
+            let stays = keeps_or(site, top, has_searched);
+            let from = search_from(!stays, c, top);
+            top_searched(site, memory, (top, below), None, from, looked)
         }
     }
 }
 
-/// What the frames become from which one was popped; none where they stay.
+/// What the frames become from which one was popped.
 pub(crate) fn frames_after<S: Site>(
     site: &S,
     memory: &mut PickMemory,
@@ -272,34 +225,23 @@ pub(crate) fn frames_after<S: Site>(
     popped: &Frame,
     below: &Stack,
     looked: &mut Looked,
-) -> Result<Option<Stack>, Stop>
-    requires valid { S.valid site.now }
+) -> Result<Stack, Stop>
     requires memory { S.stands site.now memory.old }
     requires is_item { (popped.now.item).0 < length (S.here site.now).rules.items }
     requires fits { Fits (length (S.here site.now).rules.items) (reverse below.now) }
-    ensures comes { Comes (frames_or (reverse below.now)) result looked.old looked.new
+    ensures comes { Comes reverse result looked.old looked.new
         (frames_after (S.here site.now) c popped.now (reverse below.now)) }
-    ensures items { IfOk result
-        (λ s. items_of (frames_or (reverse below.now) s) ≡ items_of (reverse below.now)) }
+    ensures items { IfOk result (λ s. items_of (reverse s) ≡ items_of (reverse below.now)) }
     ensures memory { S.stands site.now memory.new }
 {
-    if !site.item(popped.item).extend {
-        return exposed_anew(site, memory, c, false, below, looked);
-    }
-    if none_keeps(site, below) {
-        return exposed_anew(site, memory, c, false, below, looked);
-    }
-    let Anew { frames, over } = anew_over_keepend(site, memory, c, below, looked)?;
-    match frames {
-        None => exposed_anew(site, memory, c, over, below, looked),
-        Some(frames) => {
-            let exposed = exposed_anew(site, memory, c, over, &frames, looked)?;
-            Ok(Some(stack_or(frames, exposed)))
-        }
-    }
+    let wanted = may_search(site, site.item(popped.item).extend, below);
+    let Anew { frames, over } = anew_over_keepend(site, memory, c, wanted, below, looked)?;
+    let frames = stack_or(below, frames)?;
+    let exposed = exposed_anew(site, memory, c, over, &frames, looked)?;
+    Ok(anew_or(frames, exposed))
 }
 
-fn stack_or(stays: Stack, anew: Option<Stack>) -> Stack
+fn anew_or(stays: Stack, anew: Option<Stack>) -> Stack
     ensures { reverse result ≡ frames_or (reverse stays) anew }
 {
     match anew {
@@ -327,15 +269,11 @@ fn has_line_end(kind: &ItemKind) -> bool
     match kind {
         ItemKind::Keyword => false,
         ItemKind::Match(pattern) => line_end_counts(pattern),
-        ItemKind::Region {
-            starts: _,
-            skip: _,
-            ends,
-        } => any_line_end(ends.as_slice()),
+        ItemKind::Region { ends, .. } => any_line_end(ends.as_slice()),
     }
 }
 
-/// Whether the item of some frame has `keepend`, as the frames say one by one.
+/// Whether the item of some frame has `keepend`.
 fn keepend_among<S: Site>(site: &S, stack: &Stack) -> bool
     requires { Fits (length (S.here site.now).rules.items) (reverse stack.now) }
     ensures { result ≡ list_any (has_keepend (S.here site.now).rules.items) (reverse stack.now) }
@@ -344,18 +282,6 @@ fn keepend_among<S: Site>(site: &S, stack: &Stack) -> bool
         None => false,
         Some((top, below)) => site.item(top.item).keepend || keepend_among(site, below),
     }
-}
-
-/// Whether the item of some frame has `keepend`. No frame is walked where their kinds rule it out.
-#[tactic(auto, using(crate::proofs::KindLaws::unkept_none))]
-fn any_keepend<S: Site>(site: &S, stack: &Stack) -> bool
-    requires { Fits (length (S.here site.now).rules.items) (reverse stack.now) }
-    ensures { result ≡ list_any (has_keepend (S.here site.now).rules.items) (reverse stack.now) }
-{
-    if none_keeps(site, stack) {
-        return false;
-    }
-    keepend_among(site, stack)
 }
 
 fn is_region_body_on<S: Site>(site: &S, stack: &Stack) -> bool
@@ -368,7 +294,9 @@ fn is_region_body_on<S: Site>(site: &S, stack: &Stack) -> bool
     }
 }
 
-/// Whether the container goes on past the line's end, so that closing is over for this line.
+/// Whether the container goes on past the line's end, so that closing is over for this line. No frame
+/// is walked for `keepend` where their kinds rule it out.
+#[tactic(auto, using(crate::proofs::KindLaws::unkept_none))]
 pub(crate) fn container_goes_on<S: Site>(site: &S, c: usize, popped: &Frame, below: &Stack) -> bool
     requires is_item { (popped.now.item).0 < length (S.here site.now).rules.items }
     requires fits { Fits (length (S.here site.now).rules.items) (reverse below.now) }
@@ -376,7 +304,7 @@ pub(crate) fn container_goes_on<S: Site>(site: &S, c: usize, popped: &Frame, bel
         popped.now (reverse below.now) }
 {
     has_line_end(&site.item(popped.item).kind)
-        && !any_keepend(site, below)
+        && (none_keeps(site, below) || !keepend_among(site, below))
         && is_region_body_on(site, below)
         && c == site.len()
 }

@@ -1,10 +1,8 @@
 //! The searches of frames for their ends.
-ghost use Rattle.std.specs.Prelude.{◌≡◌, ◌<◌, IfOk, IsTrue, None, length, true};
-ghost use Rattle.std.specs.Option.{option_map};
-ghost use Rattle.paint_rules.specs.Rules.{item_of};
-ghost use Rattle.paint_rules.specs.Close.{is_region, is_region_body, with_end, searched, search_col, searched_if, searched_anew, is_open, at_line_start};
-ghost use Rattle.line_paint.specs.Answers.{Comes};
-ghost use Rattle.line_paint.specs.Frames.{line_end_if, frame_or};
+ghost use Rattle.std.specs.Prelude.{◌≡◌, ◌<◌, IfOk, IsTrue, None, length};
+ghost use Rattle.paint_rules.specs.Close.{is_region, is_region_body, with_end, search_col, is_open};
+ghost use Rattle.line_paint.specs.Frames.{line_end_if, line_start_from, search_from, searched_from};
+ghost use Rattle.line_paint.specs.Standing.{FrameComes, frame_or};
 ghost use Rattle.paint_rules.specs.States.{spot_of};
 
 use crate::spots::spot_of;
@@ -13,7 +11,7 @@ use item_pick::PickMemory;
 use paint_rules::{Part, RegionEnd, Spot};
 use region_ends::EndAnswer;
 use state_stack::Frame;
-use syn_base::{Looked, Memory, Place};
+use syn_base::{Looked, Memory};
 use syntax_set::ItemKind;
 
 /// A frame with the end that its search found, or with none.
@@ -30,8 +28,8 @@ pub(crate) fn with_end<S: Site>(
         Some(e) => {
             searched.known_end = Some(spot_of(site, e.end));
             searched.high_to = Some(spot_of(site, e.high_to));
-            searched.area_end = spot_of_end(site, e.area_end);
-            searched.area_high = spot_of_end(site, e.area_high);
+            searched.area_end = e.area_end.map(|place| spot_of(site, place));
+            searched.area_high = e.area_high.map(|place| spot_of(site, place));
             searched.area_shows = e.area_shows;
         }
         None => {
@@ -43,15 +41,6 @@ pub(crate) fn with_end<S: Site>(
         }
     }
     Ok(searched)
-}
-
-fn spot_of_end<S: Site>(site: &S, place: Option<Place>) -> Option<Spot>
-    ensures { result ≡ option_map (spot_of (S.here site.now)) place }
-{
-    match place {
-        None => None,
-        Some(place) => Some(spot_of(site, place)),
-    }
 }
 
 fn line_end_if<S: Site>(site: &S, wanted: bool) -> Option<Spot>
@@ -79,13 +68,8 @@ fn is_region(kind: &ItemKind) -> bool
     ensures { result ≡ is_region kind.now }
 {
     match kind {
-        ItemKind::Keyword => false,
-        ItemKind::Match(_) => false,
-        ItemKind::Region {
-            starts: _,
-            skip: _,
-            ends: _,
-        } => true,
+        ItemKind::Region { .. } => true,
+        _ => false,
     }
 }
 
@@ -124,34 +108,36 @@ fn ended_anew<S: Site>(
     }
 }
 
-/// A frame that searched its end in this line, from a column; none where it stays.
-fn searched<S: Site>(
+/// A frame that searches its end in this line from a column, if there is one and it is the body of a
+/// region; none where it stays.
+pub(crate) fn searched_from<S: Site>(
     site: &S,
     memory: &mut PickMemory,
     frame: &Frame,
-    c: usize,
+    from: Option<usize>,
     looked: &mut Looked,
 ) -> Result<Option<Frame>, Stop>
-    requires valid { S.valid site.now }
     requires memory { S.stands site.now memory.old }
     requires is_item { (frame.now.item).0 < length (S.here site.now).rules.items }
-    requires is_region { is_region (item_of (S.here site.now).rules.items frame.now.item).kind
-        ≡ true }
-    ensures comes { Comes (frame_or frame.now) result looked.old looked.new
-        (searched (S.here site.now) frame.now c) }
-    ensures item { IfOk result (λ f. (frame_or frame.now f).item ≡ frame.now.item) }
+    ensures comes { FrameComes frame.now result looked.old looked.new
+        (searched_from (S.here site.now) frame.now from) }
     ensures memory { S.stands site.now memory.new }
 {
-    match site.find_end(memory, frame.item, &frame.externals, c)? {
-        EndAnswer::Ends(end, seen) => {
-            *looked = looked.join(seen);
-            Ok(ended_anew(site, frame, Some(end))?)
+    match from {
+        Some(c) if is_region_body(site, frame) => {
+            match site.find_end(memory, frame.item, &frame.externals, c)? {
+                EndAnswer::Ends(end, seen) => {
+                    *looked = looked.join(seen);
+                    Ok(ended_anew(site, frame, Some(end))?)
+                }
+                EndAnswer::NotHere(seen) => {
+                    *looked = looked.join(seen);
+                    Ok(ended_anew(site, frame, None)?)
+                }
+                EndAnswer::TooCostly => Err(Stop::TooCostly(frame.item)),
+            }
         }
-        EndAnswer::NotHere(seen) => {
-            *looked = looked.join(seen);
-            Ok(ended_anew(site, frame, None)?)
-        }
-        EndAnswer::TooCostly => Err(Stop::TooCostly(frame.item)),
+        _ => Ok(None),
     }
 }
 
@@ -162,90 +148,34 @@ fn search_col(c: usize, search: Spot) -> Option<usize>
 {
     match search {
         Spot::Past => Some(c),
-        Spot::At { ahead, col } => if ahead == 0 {
-            Some(if c < col { col } else { c })
-        } else {
-            None
-        },
+        Spot::At { ahead: 0, col } => Some(if c < col { col } else { c }),
+        _ => None,
     }
 }
 
-/// A frame that searched its end from a column, if there is one.
-pub(crate) fn searched_if<S: Site>(
-    site: &S,
-    memory: &mut PickMemory,
-    frame: &Frame,
-    from: Option<usize>,
-    looked: &mut Looked,
-) -> Result<Option<Frame>, Stop>
-    requires valid { S.valid site.now }
-    requires memory { S.stands site.now memory.old }
-    requires is_item { (frame.now.item).0 < length (S.here site.now).rules.items }
-    requires is_region { is_region (item_of (S.here site.now).rules.items frame.now.item).kind
-        ≡ true }
-    ensures comes { Comes (frame_or frame.now) result looked.old looked.new
-        (searched_if (S.here site.now) frame.now from) }
-    ensures item { IfOk result (λ f. (frame_or frame.now f).item ≡ frame.now.item) }
-    ensures memory { S.stands site.now memory.new }
+/// The column where a frame is to search, from a column on, if it is to.
+pub(crate) fn search_from(wanted: bool, c: usize, frame: &Frame) -> Option<usize>
+    ensures { result ≡ search_from wanted c frame.now }
 {
-    match from {
-        None => Ok(None),
-        Some(c) => searched(site, memory, frame, c, looked),
-    }
-}
-
-/// The frame that a region body becomes where it searches anew from a column, or none where it
-/// stays.
-pub(crate) fn searched_anew<S: Site>(
-    site: &S,
-    memory: &mut PickMemory,
-    c: usize,
-    frame: &Frame,
-    looked: &mut Looked,
-) -> Result<Option<Frame>, Stop>
-    requires valid { S.valid site.now }
-    requires memory { S.stands site.now memory.old }
-    requires is_item { (frame.now.item).0 < length (S.here site.now).rules.items }
-    ensures comes { Comes (frame_or frame.now) result looked.old looked.new
-        (searched_anew (S.here site.now) c frame.now) }
-    ensures item { IfOk result (λ f. (frame_or frame.now f).item ≡ frame.now.item) }
-    ensures memory { S.stands site.now memory.new }
-{
-    if is_region_body(site, frame) {
-        searched_if(site, memory, frame, search_col(c, frame.search), looked)
+    if wanted {
+        search_col(c, frame.search)
     } else {
-        Ok(None)
+        None
     }
+}
+
+/// The same at the start of a line: where its end lies before the line or isn't known.
+pub(crate) fn line_start_from(wanted: bool, frame: &Frame) -> Option<usize>
+    ensures { result ≡ line_start_from wanted frame.now }
+{
+    search_from(wanted && is_open(frame.known_end), 0, frame)
 }
 
 fn is_open(end: Option<Spot>) -> bool
     ensures { result ≡ is_open end }
 {
     match end {
-        None => true,
-        Some(Spot::Past) => true,
-        Some(Spot::At { ahead: _, col: _ }) => false,
-    }
-}
-
-/// The frame that searches at the start of a line, if its end lies before it or isn't known.
-pub(crate) fn at_line_start<S: Site>(
-    site: &S,
-    memory: &mut PickMemory,
-    frame: &Frame,
-    looked: &mut Looked,
-) -> Result<Option<Frame>, Stop>
-    requires valid { S.valid site.now }
-    requires memory { S.stands site.now memory.old }
-    requires is_item { (frame.now.item).0 < length (S.here site.now).rules.items }
-    ensures comes { Comes (frame_or frame.now) result looked.old looked.new
-        (at_line_start (S.here site.now) frame.now) }
-    ensures item { IfOk result (λ f. (frame_or frame.now f).item ≡ frame.now.item) }
-    ensures memory { S.stands site.now memory.new }
-{
-    if is_open(frame.known_end) {
-        searched_anew(site, memory, 0, frame, looked)
-    } else {
-        Ok(None)
+        Some(Spot::At { .. }) => false,
+        _ => true,
     }
 }

@@ -1,24 +1,34 @@
 //! What is true of each frame of a stack, seen by the frames' kinds.
-ghost use Rattle.std.specs.Prelude.{◌≡◌, reverse, true};
+ghost use Rattle.std.specs.Prelude.{◌≡◌, reverse, true, ℕ};
 ghost use Rattle.std.specs.List.{list_all};
-ghost use Rattle.line_paint.specs.Kinds.{all_clear, lets_through, never_keeps, none_keeps};
+ghost use Rattle.line_paint.specs.Frames.{anew_if, below_if};
+ghost use Rattle.line_paint.specs.Kinds.{all_clear, is_so, none_keeps};
 
 use crate::Site;
 use state_stack::{Kind, Kinds, Stack};
 
-/// Whether an item is without `keepend`.
-fn never_keeps<S: Site>(site: &S, kind: Kind) -> bool
-    ensures { result ≡ never_keeps (S.here site.now).rules.items kind }
+/// Whether frames of a kind let what lies below them show, or, where that isn't asked, whether their
+/// item is without `keepend`.
+fn is_so<S: Site>(site: &S, clear: bool, kind: Kind) -> bool
+    ensures { result ≡ is_so (S.here site.now).rules.items clear kind }
 {
-    (kind.item.0 as usize) >= site.items().added() || !site.item(kind.item).keepend
+    if (kind.item.0 as usize) >= site.items().added() {
+        return !clear;
+    }
+    let item = site.item(kind.item);
+    if clear {
+        !kind.in_area && item.transparent
+    } else {
+        !item.keepend
+    }
 }
 
-fn never_keep<S: Site>(site: &S, kinds: &Kinds) -> bool
-    ensures { result ≡ list_all (never_keeps (S.here site.now).rules.items) kinds.now }
+fn are_so<S: Site>(site: &S, clear: bool, kinds: &Kinds) -> bool
+    ensures { result ≡ list_all (is_so (S.here site.now).rules.items clear) kinds.now }
 {
     match kinds.first_and_others() {
         None => true,
-        Some((kind, others)) => never_keeps(site, kind) && never_keep(site, others),
+        Some((kind, others)) => is_so(site, clear, kind) && are_so(site, clear, others),
     }
 }
 
@@ -30,27 +40,20 @@ pub(crate) fn none_keeps<S: Site>(site: &S, stack: &Stack) -> bool
 {
     match stack.kinds() {
         None => true,
-        Some(kinds) => never_keep(site, kinds),
+        Some(kinds) => are_so(site, false, kinds),
     }
 }
 
-/// Whether frames of a kind let what lies below them show.
-fn lets_through<S: Site>(site: &S, kind: Kind) -> bool
-    ensures { result ≡ lets_through (S.here site.now).rules.items kind }
+/// Whether frames are to search below a top, where that is wanted: none does where none is of an item
+/// with `keepend`.
+#[tactic(auto, using(crate::proofs::KindLaws::unkept_below, crate::proofs::KindLaws::unkept_anew))]
+pub(crate) fn may_search<S: Site>(site: &S, wanted: bool, stack: &Stack) -> bool
+    ensures at_start { below_if (S.here site.now) result (reverse stack.now)
+        ≡ below_if (S.here site.now) wanted (reverse stack.now) }
+    ensures after_pop { (c : ℕ) → anew_if (S.here site.now) c result (reverse stack.now)
+        ≡ anew_if (S.here site.now) c wanted (reverse stack.now) }
 {
-    if kind.in_area || (kind.item.0 as usize) >= site.items().added() {
-        return false;
-    }
-    site.item(kind.item).transparent
-}
-
-fn let_through<S: Site>(site: &S, kinds: &Kinds) -> bool
-    ensures { result ≡ list_all (lets_through (S.here site.now).rules.items) kinds.now }
-{
-    match kinds.first_and_others() {
-        None => true,
-        Some((kind, others)) => lets_through(site, kind) && let_through(site, others),
-    }
+    wanted && !none_keeps(site, stack)
 }
 
 /// Whether, by the kinds of its frames, each frame lets what lies below it show.
@@ -60,6 +63,6 @@ pub(crate) fn all_clear<S: Site>(site: &S, stack: &Stack) -> bool
 {
     match stack.kinds() {
         None => true,
-        Some(kinds) => let_through(site, kinds),
+        Some(kinds) => are_so(site, true, kinds),
     }
 }

@@ -177,12 +177,7 @@ pub(crate) fn open_area<S: Site>(
 pub(crate) fn shared(alloc: Global, m: Match) -> Result<Rc<Externals>, Memory>
     ensures { IfOk result (λ r. r.value ≡ m.externals) }
 {
-    let Match {
-        from: _,
-        to: _,
-        caps: _,
-        externals,
-    } = m;
+    let Match { externals, .. } = m;
     Ok(Rc::new(alloc, externals)?)
 }
 

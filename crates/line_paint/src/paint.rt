@@ -4,23 +4,23 @@ ghost use Rattle.syn_base.specs.Looked.{one_line, moved_by};
 ghost use Rattle.syn_base.specs.SpansFit.{IsFromColumn};
 ghost use Rattle.paint_rules.specs.Rules.{this_line};
 ghost use Rattle.paint_rules.specs.Close.{line_start};
-ghost use Rattle.paint_rules.specs.Line.{painted_from, painted_line};
-ghost use Rattle.line_paint.specs.Leads.{standing_of, Stands};
-ghost use Rattle.line_paint.specs.Line.{at_of, Paints, Begins, PaintedAs, painted_rest};
+ghost use Rattle.paint_rules.specs.Line.{at_col, painted_from, painted_line};
+ghost use Rattle.line_paint.specs.Leads.{standing_of, IsAt};
+ghost use Rattle.line_paint.specs.Line.{at_of, ComesAs, Paints, PaintedAs, painted_rest};
 ghost use Rattle.paint_rules.specs.Painted.{looked_first};
 ghost use Rattle.line_paint.specs.Quiet.{IsQuiet};
+ghost use Rattle.line_paint.specs.Stretches.{ShowsOver};
 ghost use Rattle.paint_rules.specs.States.{Fits, StateFits};
 ghost use Rattle.state_stack.specs.TopFirst.{top_first};
-ghost use Rattle.line_paint.specs.Turns.{Held};
 
+use crate::frames::stack_or;
 use crate::line_start::line_start;
-use crate::shown::{Stretch, shown};
+use crate::shown::{Stretch, shown_from};
 use crate::spans::Spans;
 use crate::standing::Standing;
 use crate::staying::quiet_until;
 use crate::{Site, Stop};
 use item_pick::PickMemory;
-use paint_rules::Spot;
 use state_stack::{Stack, State};
 use std::alloc::Global;
 use syn_base::{ItemId, List, Looked, Memory, Span};
@@ -58,7 +58,7 @@ pub struct LineNote {
     pub looked: Looked,
 }
 
-fn at(stop: Stop, col: usize) -> PaintError
+pub(crate) fn at(stop: Stop, col: usize) -> PaintError
     ensures { result ≡ at_of stop col }
 {
     match stop {
@@ -68,16 +68,15 @@ fn at(stop: Stop, col: usize) -> PaintError
     }
 }
 
-/// The columns of a line, the first one first, and the characters that stand there.
+/// The columns of a line, the first one first, and the characters that stand there; at the line's end
+/// none does.
 fn columns<S: Site>(
     site: &S,
     memory: &mut PickMemory,
     standing: &mut Standing,
 ) -> Result<List<Span>, PaintError>
-    requires valid { S.valid site.now }
     requires memory { S.stands site.now memory.old }
-    requires stands { Stands (length (S.here site.now).rules.items) 0 standing.old }
-    requires held { Held (one_line (pos (S.here site.now).line)) standing.old.looked }
+    requires at { IsAt (S.here site.now) 0 standing.old }
     ensures painted { Paints result standing.old standing.new
         (painted_from (S.here site.now) 0 (this_line (S.here site.now))
         (standing_of standing.old)) }
@@ -89,19 +88,17 @@ fn columns<S: Site>(
     let mut spans = Spans::new(site.alloc());
     let mut c = 0;
     'columns: while c < len {
-        match standing.column(site, memory, c) {
-            Ok(()) => {}
-            Err(stop) => return Err(at(stop, c)),
-        }
-        let place = Spot::At { ahead: 0, col: c };
-        spans.show(c, shown(site, place, &standing.state.stack))?;
+        standing.column(site, memory, c)?;
+        let stretch = shown_from(site, c, &standing.state.stack);
+        spans.show(c, stretch.group)?;
         forget_tried(site.alloc(), standing);
         let next = c + 1;
         let to = quiet_until(site, memory, next, standing)?;
-        show_quiet(site, standing, &mut spans, next, to)?;
+        show_quiet(site, standing, &mut spans, stretch, next, to)?;
         c = to;
     }
-    last_column(site, memory, c, standing, spans)
+    standing.column(site, memory, c)?;
+    Ok(spans.finish()?)
 }
 
 /// The next column has tried no item yet.
@@ -116,12 +113,15 @@ fn show_quiet<S: Site>(
     site: &S,
     standing: &Standing,
     spans: &mut Spans,
+    stretch: Stretch,
     from: usize,
     to: usize,
 ) -> Result<(), Memory>
     requires order { from ≤ to }
     requires within { to ≤ length (this_line (S.here site.now)) }
     requires fits { Fits (length (S.here site.now).rules.items) (reverse standing.now.state.stack) }
+    requires shows { ShowsOver (S.here site.now).rules (reverse standing.now.state.stack) from
+        stretch }
     requires quiet { (d : ℕ) → from ≤ d → d < to
         → IsQuiet (S.here site.now) standing.now.looked d (standing_of standing.now) }
     ensures { IfOk result
@@ -133,10 +133,7 @@ fn show_quiet<S: Site>(
         (standing_of standing.now) spans.new)) }
 {
     let mut c = from;
-    let mut stretch = Stretch {
-        group: None,
-        until: from,
-    };
+    let mut stretch = stretch;
     'quiet: while c < to {
         stretch = stretch.at(site, c, &standing.state.stack);
         spans.show(c, stretch.group)?;
@@ -145,51 +142,23 @@ fn show_quiet<S: Site>(
     Ok(())
 }
 
-/// The line's end, where no character stands.
-fn last_column<S: Site>(
-    site: &S,
-    memory: &mut PickMemory,
-    c: usize,
-    standing: &mut Standing,
-    spans: Spans,
-) -> Result<List<Span>, PaintError>
-    requires valid { S.valid site.now }
-    requires memory { S.stands site.now memory.old }
-    requires end { c ≡ length (this_line (S.here site.now)) }
-    requires stands { Stands (length (S.here site.now).rules.items) c standing.old }
-    requires held { Held (one_line (pos (S.here site.now).line)) standing.old.looked }
-    ensures painted { Paints result standing.old standing.new
-        (painted_rest (S.here site.now) c [] (standing_of standing.old) spans) }
-    ensures memory { S.stands site.now memory.new }
-    ensures fits { IfOk result
-        (λ _. StateFits (length (S.here site.now).rules.items) (top_first standing.new.state)) }
-{
-    match standing.column(site, memory, c) {
-        Ok(()) => {}
-        Err(stop) => return Err(at(stop, c)),
-    }
-    let all = spans.finish()?;
-    Ok(all)
-}
-
 /// The stack at the start of a line.
+#[tactic(auto, using(crate::proofs::LineLaws::at_fails, crate::proofs::LineLaws::at_leads))]
 fn first_stack<S: Site>(
     site: &S,
     memory: &mut PickMemory,
     stack: &Stack,
     looked: &mut Looked,
 ) -> Result<Stack, PaintError>
-    requires valid { S.valid site.now }
     requires memory { S.stands site.now memory.old }
     requires fits { Fits (length (S.here site.now).rules.items) (reverse stack.now) }
-    ensures begins { Begins result looked.old looked.new
-        (line_start (S.here site.now) (reverse stack.now)) }
+    ensures begins { ComesAs reverse result looked.old looked.new
+        (at_col 0 (line_start (S.here site.now) (reverse stack.now))) }
     ensures fits { IfOk result (λ s. Fits (length (S.here site.now).rules.items) (reverse s)) }
     ensures memory { S.stands site.now memory.new }
 {
     match line_start(site, memory, stack, looked) {
-        Ok(None) => Ok(stack.copy()?),
-        Ok(Some(anew)) => Ok(anew),
+        Ok(anew) => Ok(stack_or(stack, anew)?),
         Err(stop) => Err(at(stop, 0)),
     }
 }
@@ -207,7 +176,6 @@ pub(crate) fn painted_by<S: Site>(
     memory: &mut PickMemory,
     before: &State,
 ) -> Result<LineNote, PaintError>
-    requires valid { S.valid site.now }
     requires memory { S.stands site.now memory.old }
     requires fits { StateFits (length (S.here site.now).rules.items) (top_first before.now) }
     ensures painted { PaintedAs result (S.here site.now).line before.now
@@ -232,13 +200,7 @@ pub(crate) fn painted_by<S: Site>(
     };
     let spans = columns(site, memory, &mut standing)?;
     let before = before.copy()?;
-    let Standing {
-        state,
-        floor: _,
-        tried: _,
-        is_over: _,
-        looked,
-    } = standing;
+    let Standing { state, looked, .. } = standing;
     let looked = counted_here(site, looked)?;
     Ok(LineNote {
         before,

@@ -24,53 +24,24 @@ use pattern_match::Match;
 use region_ends::{EndAnswer, offset_place};
 use state_stack::State;
 use std::alloc::Global;
-use std::marker::Model;
 use std::rc::Rc;
 use syn_base::{Externals, ItemId, Ledger, Lines, Memory, Place, Steps};
 use syntax_set::{ItemSet, Pattern};
 
-/// Nine empty texts that frames share.
-#[derive(Drop)]
-pub(crate) struct NoExternals {
-    shared: Rc<Externals>,
-}
-
-impl Model for NoExternals {
-    ghost use Rattle.std.specs.Prelude.{◌≡◌, List, ℕ};
-    ghost use Rattle.paint_rules.specs.Rules.{no_externals, place_at};
-
-    ghost Value = { List (List ℕ) };
-
-    ghost view = { λ e. e.shared.value };
-
-    ghost invariant = { λ e. e.shared.value ≡ no_externals };
-}
-
-impl NoExternals {
-    fn new(alloc: Global) -> Result<NoExternals, Memory> {
-        let shared = Rc::new(alloc, Externals::none(alloc)?)?;
-        Ok(NoExternals { shared })
-    }
-
-    fn shared(&self) -> &Rc<Externals>
-        ensures { result.now.value ≡ no_externals }
-    {
-        &self.shared
-    }
-}
-
 /// A line of a text, and the parts of a syntax, asked within a budget.
-#[derive_where(Clone, Copy)]
+#[derive(Drop)]
 pub(crate) struct Painting<'a, T: Lines> {
-    pub(crate) asked: Asked<'a>,
-    pub(crate) lines: &'a T,
-    pub(crate) line: u32,
-    no_externals: &'a NoExternals,
+    asked: Asked<'a>,
+    lines: &'a T,
+    line: u32,
+    /// Nine empty texts that frames share.
+    shared: &'a Rc<Externals>,
+    ghost are_empty: { shared.now.value ≡ no_externals },
 }
 
 impl<T: Lines> Painting<'_, T> {
     /// A column of the line.
-    pub(crate) fn place(&self, col: usize) -> Place
+    fn place(&self, col: usize) -> Place
         ensures { result ≡ place_at self.now.line col }
     {
         Place {
@@ -87,9 +58,8 @@ impl<T: Lines> Site for Painting<'_, T> {
 
     ghost here = { λ p. here_by p.asked (T.lines p.lines.now) p.line };
 
-    ghost valid = { λ p. MayBeAsked p.asked (T.lines p.lines.now) p.line };
-
-    ghost stands = { λ p memory. MemoryStands (rules_by p.asked) (T.lines p.lines.now) p.line memory };
+    ghost stands = { λ p memory. MayBeAsked p.asked (T.lines p.lines.now) p.line
+        × MemoryStands (rules_by p.asked) (T.lines p.lines.now) p.line memory };
 
     fn alloc(&self) -> Global {
         self.asked.alloc
@@ -113,7 +83,7 @@ impl<T: Lines> Site for Painting<'_, T> {
     }
 
     fn no_externals(&self) -> &Rc<Externals> {
-        self.no_externals.shared()
+        self.shared
     }
 
     fn offset_place(&self, m: &Match, pattern: &Pattern, which: Which) -> Place {
@@ -147,6 +117,12 @@ impl<T: Lines> Site for Painting<'_, T> {
     ) -> Result<EndAnswer, Memory> {
         memory.find_end(&self.asked, self.lines, region, externals, self.place(c))
     }
+}
+
+fn no_externals(alloc: Global) -> Result<Rc<Externals>, Memory>
+    ensures { IfOk result (λ shared. shared.value ≡ no_externals) }
+{
+    Ok(Rc::new(alloc, Externals::none(alloc)?)?)
 }
 
 /// Paints a line, counted from 0, from the state before it, by the parts of a syntax. Each attempt
@@ -214,17 +190,17 @@ pub fn paint_line_with<T: Lines, L: Ledger>(
 {
     steps.add_one();
     let lines = AtHand::new(lines, line);
-    let no_externals = NoExternals::new(alloc)?;
+    let shared = no_externals(alloc)?;
     let painting = Painting {
         asked: Asked {
             alloc,
             parts,
             budget,
-            no_externals: no_externals.shared(),
+            no_externals: &shared,
         },
         lines: &lines,
         line: line as u32,
-        no_externals: &no_externals,
+        shared: &shared,
     };
     memory.enter_line(parts, lines.line(line))?;
     painted_by(&painting, memory, before)

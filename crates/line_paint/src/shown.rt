@@ -1,7 +1,7 @@
 //! The group that a character shows.
 ghost use Rattle.std.specs.Prelude.{◌≡◌, ◌<◌, ◌≤◌, ◌^◌, ◌-◌, ℕ, None, length, reverse};
 ghost use Rattle.paint_rules.specs.declared.Spot.TheVariants.{At};
-ghost use Rattle.paint_rules.specs.Line.{is_clear, holds, shown};
+ghost use Rattle.paint_rules.specs.Line.{is_clear, holds};
 ghost use Rattle.paint_rules.specs.Close.{is_reached};
 ghost use Rattle.paint_rules.specs.KeptEnd.{is_before};
 ghost use Rattle.paint_rules.specs.States.{Fits};
@@ -31,34 +31,6 @@ fn holds(place: Spot, frame: &Frame) -> bool
     ensures { result ≡ holds place frame.now }
 {
     !is_before(place, frame.high_from) && !is_reached(place, frame.high_to)
-}
-
-/// The group of the first frame from the top down whose highlight holds a place and which isn't
-/// clear, as the frames say one by one.
-fn shown_among<S: Site>(site: &S, place: Spot, stack: &Stack) -> Option<GroupId>
-    requires { Fits (length (S.here site.now).rules.items) (reverse stack.now) }
-    ensures { result ≡ shown (S.here site.now).rules place (reverse stack.now) }
-{
-    match stack.top_and_below() {
-        None => None,
-        Some((top, below)) => if !is_clear(site, top) && holds(place, top) {
-            Some(top.shows)
-        } else {
-            shown_among(site, place, below)
-        },
-    }
-}
-
-/// The group that a character shows. No frame is walked where their kinds say that each is clear.
-#[tactic(auto, using(crate::proofs::KindLaws::clear_shows_none))]
-pub(crate) fn shown<S: Site>(site: &S, place: Spot, stack: &Stack) -> Option<GroupId>
-    requires { Fits (length (S.here site.now).rules.items) (reverse stack.now) }
-    ensures { result ≡ shown (S.here site.now).rules place (reverse stack.now) }
-{
-    if all_clear(site, stack) {
-        return None;
-    }
-    shown_among(site, place, stack)
 }
 
 /// What the characters of a stretch of columns show, from some column up to, and without, another.
@@ -148,7 +120,7 @@ fn shows_none() -> Stretch
 
 /// What those characters show. No frame is walked where their kinds say that each is clear.
 #[tactic(auto, using(crate::proofs::KindLaws::clear_shows_none))]
-fn shown_from<S: Site>(site: &S, c: usize, stack: &Stack) -> Stretch
+pub(crate) fn shown_from<S: Site>(site: &S, c: usize, stack: &Stack) -> Stretch
     requires column { c < 2 ^ 64 - 1 }
     requires fits { Fits (length (S.here site.now).rules.items) (reverse stack.now) }
     ensures behind { c < result.until }

@@ -1,18 +1,16 @@
 //! The line that is painted, and what the painter asks about it.
-ghost use Rattle.std.specs.Prelude.{◌≡◌, ◌<◌, ◌^◌, length, ◌≤◌, ℕ, [], IfOk, pos, true, Some, reverse};
+ghost use Rattle.std.specs.Prelude.{◌≡◌, ◌<◌, ◌^◌, length, ◌≤◌, [], IfOk, true, Some, reverse};
 ghost use Rattle.paint_rules.specs.Rules.{Here, this_line, item_of, no_externals, place_at};
 ghost use Rattle.paint_rules.specs.Offsets.{offset_place};
-ghost use Rattle.syn_base.specs.Looked.{one_line};
 ghost use Rattle.paint_rules.specs.Close.{is_region};
 ghost use Rattle.paint_rules.specs.EndInLine.{end_in_line, search_from};
 ghost use Rattle.region_ends.specs.Searches.{IsEnd};
 ghost use Rattle.paint_rules.specs.Painted.{looked_first};
 ghost use Rattle.paint_rules.specs.Pick.{picked};
 ghost use Rattle.item_pick.specs.Picks.{IsPicked};
-ghost use Rattle.line_paint.specs.Leads.{standing_of, Stands};
 ghost use Rattle.item_pick.specs.QuietUntil.{IsQuietUntil};
-ghost use Rattle.line_paint.specs.Turns.{Held};
 ghost use Rattle.item_pick.specs.declared.memory.PickMemory.{PickMemory as Kept};
+ghost use Rattle.line_paint.specs.Leads.{standing_of, IsAt};
 
 use crate::standing::Standing;
 use item_pick::{PickMemory, Picked};
@@ -30,10 +28,8 @@ pub(crate) trait Site {
     /// The rules, the text, and the number of the line.
     ghost here: { Self → Here };
 
-    /// Whether the line is there, and its rules may be asked.
-    ghost valid: { Self → Type 0 };
-
-    /// Whether what is kept of the syntax, and known of the line, is true.
+    /// Whether the line is there, its rules may be asked, and what is kept of the syntax, and known of
+    /// the line, is true.
     ghost stands: { Self → Kept → Type 0 };
 
     fn alloc(&self) -> Global;
@@ -65,11 +61,8 @@ pub(crate) trait Site {
     /// What starts at a column. It is handed the lines that were looked at so far, and adds those that
     /// it looks at.
     fn pick(&self, memory: &mut PickMemory, c: usize, standing: &Standing) -> Result<Picked, Memory>
-        requires valid { valid self.now }
         requires memory { stands self.now memory.old }
-        requires within { c ≤ length (this_line (here self.now)) }
-        requires stands { Stands (length (here self.now).rules.items) c standing.now }
-        requires held { Held (one_line (pos (here self.now).line)) standing.now.looked }
+        requires at { IsAt (here self.now) c standing.now }
         ensures memory { stands self.now memory.new }
         ensures picked { IfOk result (λ a. IsPicked (here self.now).rules.items a
             (looked_first (Some standing.now.looked)
@@ -83,12 +76,9 @@ pub(crate) trait Site {
         c: usize,
         standing: &Standing,
     ) -> Result<usize, Memory>
-        requires valid { valid self.now }
         requires memory { stands self.now memory.old }
-        requires within { c ≤ length (this_line (here self.now)) }
-        requires stands { Stands (length (here self.now).rules.items) c standing.now }
+        requires at { IsAt (here self.now) c standing.now }
         requires none_tried { standing.now.tried ≡ [] }
-        requires held { Held (one_line (pos (here self.now).line)) standing.now.looked }
         ensures memory { stands self.now memory.new }
         ensures quiet { IfOk result (IsQuietUntil (here self.now).rules (here self.now).text
             (place_at (here self.now).line c) (reverse standing.now.state.stack) standing.now.floor
@@ -102,7 +92,6 @@ pub(crate) trait Site {
         externals: &Externals,
         c: usize,
     ) -> Result<EndAnswer, Memory>
-        requires valid { valid self.now }
         requires memory { stands self.now memory.old }
         requires is_item { region.0 < length (here self.now).rules.items }
         requires is_region { is_region (item_of (here self.now).rules.items region).kind ≡ true }

@@ -27,14 +27,11 @@ pub(crate) fn spot_of<S: Site>(site: &S, place: Place) -> Spot
 pub(crate) fn is_before(a: Spot, b: Spot) -> bool
     ensures { result ≡ is_before a b }
 {
-    match a {
-        Spot::Past => match b {
-            Spot::Past => false,
-            Spot::At { ahead: _, col: _ } => true,
-        },
-        Spot::At { ahead, col } => match b {
-            Spot::Past => false,
-            Spot::At { ahead: k, col: c } => ahead < k || (ahead == k && col < c),
+    match b {
+        Spot::Past => false,
+        Spot::At { ahead: k, col: d } => match a {
+            Spot::Past => true,
+            Spot::At { ahead, col } => ahead < k || (ahead == k && col < d),
         },
     }
 }

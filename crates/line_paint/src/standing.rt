@@ -1,18 +1,16 @@
 //! What the painting of a line carries along.
-ghost use Rattle.std.specs.Prelude.{◌≡◌, ◌<◌, length, reverse, IfOk};
-ghost use Rattle.paint_rules.specs.Close.{body_after_area, frames_after, close_once, closed};
-ghost use Rattle.line_paint.specs.Answers.{Comes};
+ghost use Rattle.std.specs.Prelude.{◌≡◌, reverse, IfOk};
+ghost use Rattle.paint_rules.specs.Close.{close_once, closed};
 ghost use Rattle.line_paint.specs.Leads.{standing_of, Stands, Leads, LeadsOn};
-ghost use Rattle.paint_rules.specs.States.{Fits};
-ghost use Rattle.line_paint.specs.Standing.{items_of};
 
 use crate::closing::{
     Closing, area_on, body_after_area, closing_of, container_goes_on, frames_after, waiting_after,
 };
+use crate::frames::stack_or;
 use crate::{Site, Stop};
 use item_pick::{PickMemory, SoFar};
 use paint_rules::Spot;
-use state_stack::{Frame, Stack, State};
+use state_stack::State;
 use syn_base::{ItemId, List, Looked};
 
 /// What the painting of a line carries along: the state, the column of the last start or close, the
@@ -25,51 +23,6 @@ pub(crate) struct Standing {
     pub tried: List<ItemId>,
     pub is_over: bool,
     pub looked: Looked,
-}
-
-/// The stack under a start area that was popped.
-fn under_area<S: Site>(
-    site: &S,
-    memory: &mut PickMemory,
-    below: &Stack,
-    looked: &mut Looked,
-) -> Result<Stack, Stop>
-    requires valid { S.valid site.now }
-    requires memory { S.stands site.now memory.old }
-    requires fits { Fits (length (S.here site.now).rules.items) (reverse below.now) }
-    ensures comes { Comes reverse result looked.old looked.new
-        (body_after_area (S.here site.now) (reverse below.now)) }
-    ensures items { IfOk result (λ s. items_of (reverse s) ≡ items_of (reverse below.now)) }
-    ensures memory { S.stands site.now memory.new }
-{
-    match body_after_area(site, memory, below, looked)? {
-        None => Ok(below.copy()?),
-        Some(stack) => Ok(stack),
-    }
-}
-
-/// The stack under another frame that was popped.
-fn under_popped<S: Site>(
-    site: &S,
-    memory: &mut PickMemory,
-    c: usize,
-    popped: &Frame,
-    below: &Stack,
-    looked: &mut Looked,
-) -> Result<Stack, Stop>
-    requires valid { S.valid site.now }
-    requires memory { S.stands site.now memory.old }
-    requires is_item { (popped.now.item).0 < length (S.here site.now).rules.items }
-    requires fits { Fits (length (S.here site.now).rules.items) (reverse below.now) }
-    ensures comes { Comes reverse result looked.old looked.new
-        (frames_after (S.here site.now) c popped.now (reverse below.now)) }
-    ensures items { IfOk result (λ s. items_of (reverse s) ≡ items_of (reverse below.now)) }
-    ensures memory { S.stands site.now memory.new }
-{
-    match frames_after(site, memory, c, popped, below, looked)? {
-        None => Ok(below.copy()?),
-        Some(stack) => Ok(stack),
-    }
 }
 
 impl Standing {
@@ -95,13 +48,11 @@ impl Standing {
         memory: &mut PickMemory,
         c: usize,
     ) -> Result<bool, Stop>
-        requires valid { S.valid site.now }
         requires memory { S.stands site.now memory.old }
-        requires stands { Stands (length (S.here site.now).rules.items) c self.old }
+        requires stands { Stands (S.here site.now) c self.old }
         ensures leads { LeadsOn result self.old self.new
             (close_once (S.here site.now) c (standing_of self.old) (reverse self.old.state.stack)) }
-        ensures stands { IfOk result
-            (λ _. Stands (length (S.here site.now).rules.items) c self.new) }
+        ensures stands { IfOk result (λ _. Stands (S.here site.now) c self.new) }
         ensures memory { S.stands site.now memory.new }
     {
         if self.is_over {
@@ -119,14 +70,15 @@ impl Standing {
                     Ok(true)
                 }
                 Closing::LeavesArea => {
-                    let stack = under_area(site, memory, below, &mut self.looked)?;
+                    let anew = body_after_area(site, memory, below, &mut self.looked)?;
+                    let stack = stack_or(below, anew)?;
                     self.state.stack = stack;
                     self.state.waiting = None;
                     self.floor = c;
                     Ok(true)
                 }
                 Closing::Leaves => {
-                    let stack = under_popped(site, memory, c, top, below, &mut self.looked)?;
+                    let stack = frames_after(site, memory, c, top, below, &mut self.looked)?;
                     let waiting = waiting_after(site, c, top.item);
                     let is_over = container_goes_on(site, c, top, below);
                     self.state.stack = stack;
@@ -146,23 +98,19 @@ impl Standing {
         memory: &mut PickMemory,
         c: usize,
     ) -> Result<(), Stop>
-        requires valid { S.valid site.now }
         requires memory { S.stands site.now memory.old }
-        requires stands { Stands (length (S.here site.now).rules.items) c self.old }
+        requires stands { Stands (S.here site.now) c self.old }
         ensures leads { Leads result self.old self.new
             (closed (S.here site.now) c (standing_of self.old)) }
-        ensures stands { IfOk result
-            (λ _. Stands (length (S.here site.now).rules.items) c self.new) }
+        ensures stands { IfOk result (λ _. Stands (S.here site.now) c self.new) }
         ensures memory { S.stands site.now memory.new }
     {
         let len = self.state.stack.len();
         let mut left = len + len;
         'steps: while left > 0 {
             left -= 1;
-            match self.close_once(site, memory, c) {
-                Ok(true) => {}
-                Ok(false) => return Ok(()),
-                Err(stop) => return Err(stop),
+            if !self.close_once(site, memory, c)? {
+                return Ok(());
             }
         }
         Ok(())

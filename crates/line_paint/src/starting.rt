@@ -1,5 +1,6 @@
 //! What a pick started.
-ghost use Rattle.std.specs.Prelude.{◌≡◌, ◌<◌, length, reverse, IfOk, ◌∷◌, None};
+ghost use Rattle.std.specs.Prelude.{◌≡◌, ◌<◌, length, reverse, IfOk};
+ghost use Rattle.paint_rules.specs.Rules.{Here};
 ghost use Rattle.paint_rules.specs.Pick.{started, started_at, AWord, AMatch, AnEmpty, ARegion};
 ghost use Rattle.paint_rules.specs.Pick as rule;
 ghost use Rattle.item_pick.specs.Starts.{IsStarting};
@@ -46,15 +47,11 @@ impl Standing {
     fn start_one(&mut self, alloc: Global, c: usize, item: ItemId, frame: Frame) -> Result<(), Stop>
         ensures leads { Leads result self.old self.new
             (start_one c item (standing_of self.old) frame) }
-        ensures frames { IfOk result
-            (λ _. reverse self.new.state.stack ≡ frame ∷ reverse self.old.state.stack) }
-        ensures floor { IfOk result (λ _. self.new.floor ≡ c) }
-        ensures waits { IfOk result (λ _. self.new.state.waiting ≡ None) }
+        ensures stands { (h : Here) → (frame.item).0 < length h.rules.items → Stands h c self.old
+            → IfOk result (λ _. Stands h c self.new) }
     {
-        match pushed(alloc, &self.state.stack, frame) {
-            Ok(stack) => Ok(self.start_on(stack, None, c, item)?),
-            Err(stop) => Err(stop),
-        }
+        let stack = pushed(alloc, &self.state.stack, frame)?;
+        Ok(self.start_on(stack, None, c, item)?)
     }
 
     /// An item starts with two frames.
@@ -68,18 +65,13 @@ impl Standing {
     ) -> Result<(), Stop>
         ensures leads { Leads result self.old self.new
             (start_two c item (standing_of self.old) body area) }
-        ensures frames { IfOk result
-            (λ _. reverse self.new.state.stack ≡ area ∷ body ∷ reverse self.old.state.stack) }
-        ensures floor { IfOk result (λ _. self.new.floor ≡ c) }
-        ensures waits { IfOk result (λ _. self.new.state.waiting ≡ None) }
+        ensures stands { (h : Here) → (body.item).0 < length h.rules.items
+            → (area.item).0 < length h.rules.items → Stands h c self.old
+            → IfOk result (λ _. Stands h c self.new) }
     {
-        match pushed(alloc, &self.state.stack, body) {
-            Ok(below) => match pushed(alloc, &below, area) {
-                Ok(stack) => Ok(self.start_on(stack, None, c, item)?),
-                Err(stop) => Err(stop),
-            },
-            Err(stop) => Err(stop),
-        }
+        let below = pushed(alloc, &self.state.stack, body)?;
+        let stack = pushed(alloc, &below, area)?;
+        Ok(self.start_on(stack, None, c, item)?)
     }
 
     fn start_word<S: Site>(
@@ -90,11 +82,10 @@ impl Standing {
         end: usize,
     ) -> Result<(), Stop>
         requires is_item { item.0 < length (S.here site.now).rules.items }
-        requires stands { Stands (length (S.here site.now).rules.items) c self.old }
+        requires stands { Stands (S.here site.now) c self.old }
         ensures leads { Leads result self.old self.new
             (started (S.here site.now) c (standing_of self.old) (AWord item end)) }
-        ensures stands { IfOk result
-            (λ _. Stands (length (S.here site.now).rules.items) c self.new) }
+        ensures stands { IfOk result (λ _. Stands (S.here site.now) c self.new) }
     {
         let frame = word_frame(site, c, item, end)?;
         self.start_one(site.alloc(), c, item, frame)
@@ -109,11 +100,10 @@ impl Standing {
         m: &Match,
     ) -> Result<(), Stop>
         requires is_item { item.0 < length (S.here site.now).rules.items }
-        requires stands { Stands (length (S.here site.now).rules.items) c self.old }
+        requires stands { Stands (S.here site.now) c self.old }
         ensures leads { Leads result self.old self.new
             (started (S.here site.now) c (standing_of self.old) (AMatch item pattern.now m.now)) }
-        ensures stands { IfOk result
-            (λ _. Stands (length (S.here site.now).rules.items) c self.new) }
+        ensures stands { IfOk result (λ _. Stands (S.here site.now) c self.new) }
     {
         let frame = match_frame(site, c, item, pattern, m)?;
         self.start_one(site.alloc(), c, item, frame)
@@ -121,11 +111,10 @@ impl Standing {
 
     fn start_empty<S: Site>(&mut self, site: &S, c: usize, item: ItemId) -> Result<(), Stop>
         requires is_item { item.0 < length (S.here site.now).rules.items }
-        requires stands { Stands (length (S.here site.now).rules.items) c self.old }
+        requires stands { Stands (S.here site.now) c self.old }
         ensures leads { Leads result self.old self.new
             (started (S.here site.now) c (standing_of self.old) (AnEmpty item)) }
-        ensures stands { IfOk result
-            (λ _. Stands (length (S.here site.now).rules.items) c self.new) }
+        ensures stands { IfOk result (λ _. Stands (S.here site.now) c self.new) }
     {
         let stack = self.state.stack.copy()?;
         let waiting = waiting_after(site, c, item);
@@ -138,16 +127,16 @@ impl Standing {
         c: usize,
         item: ItemId,
         pattern: &Pattern,
-        m: Match,
-        end: Option<RegionEnd>,
+        found: (Match, Option<RegionEnd>),
     ) -> Result<(), Stop>
         requires is_item { item.0 < length (S.here site.now).rules.items }
-        requires stands { Stands (length (S.here site.now).rules.items) c self.old }
+        requires stands { Stands (S.here site.now) c self.old }
         ensures leads { Leads result self.old self.new
-            (started (S.here site.now) c (standing_of self.old) (ARegion item pattern.now m end)) }
-        ensures stands { IfOk result
-            (λ _. Stands (length (S.here site.now).rules.items) c self.new) }
+            (started (S.here site.now) c (standing_of self.old)
+            (ARegion item pattern.now found.0 found.1)) }
+        ensures stands { IfOk result (λ _. Stands (S.here site.now) c self.new) }
     {
+        let (m, end) = found;
         let open = open_body(site, c, item, pattern, &m)?;
         match pattern.matchgroup {
             None => {
@@ -174,12 +163,11 @@ impl Standing {
     ) -> Result<(), Stop>
         requires starting { (t : rule.Starting)
             × IsStarting (S.here site.now).rules.items starting t }
-        requires stands { Stands (length (S.here site.now).rules.items) c self.old }
+        requires stands { Stands (S.here site.now) c self.old }
         ensures leads { (t : rule.Starting) → IsStarting (S.here site.now).rules.items starting t
             → Leads result self.old self.new
             (started (S.here site.now) c (standing_of self.old) t) }
-        ensures stands { IfOk result
-            (λ _. Stands (length (S.here site.now).rules.items) c self.new) }
+        ensures stands { IfOk result (λ _. Stands (S.here site.now) c self.new) }
     {
         match starting {
             Starting::Word { item, end } => self.start_word(site, c, item, end),
@@ -194,11 +182,13 @@ impl Standing {
                 m,
                 end,
             } => match &site.item(item).kind {
-                ItemKind::Region {
-                    starts,
-                    skip: _,
-                    ends: _,
-                } => self.start_region(site, c, item, starts.get(start), m, end),
+                ItemKind::Region { starts, .. } => self.start_region(
+                    site,
+                    c,
+                    item,
+                    starts.get(start),
+                    (m, end),
+                ),
                 _ => unreachable!(),
             },
         }

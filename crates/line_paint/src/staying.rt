@@ -1,10 +1,8 @@
 //! How long nothing closes or starts.
-ghost use Rattle.std.specs.Prelude.{◌≡◌, ◌<◌, ◌≤◌, ℕ, [], false, length, reverse, IfOk, None, pos};
-ghost use Rattle.syn_base.specs.Looked.{one_line};
+ghost use Rattle.std.specs.Prelude.{◌≡◌, ◌<◌, ◌≤◌, ℕ, [], false, length, reverse, IfOk, None};
 ghost use Rattle.paint_rules.specs.Rules.{this_line};
-ghost use Rattle.line_paint.specs.Leads.{standing_of, Stands};
+ghost use Rattle.line_paint.specs.Leads.{standing_of, IsAt};
 ghost use Rattle.line_paint.specs.Quiet.{IsQuiet};
-ghost use Rattle.line_paint.specs.Turns.{Held};
 ghost use Rattle.paint_rules.specs.declared.Spot.TheVariants.{At};
 ghost use Rattle.paint_rules.specs.Painted.{done};
 ghost use Rattle.paint_rules.specs.Close.{is_reached, close_once};
@@ -25,9 +23,9 @@ fn reached_from(end: Option<Spot>, len: usize) -> usize
     ensures { (d : ℕ) → d < result → is_reached (At 0 d) end ≡ false }
 {
     match end {
-        None => len,
         Some(Spot::Past) => 0,
-        Some(Spot::At { ahead, col }) => if ahead == 0 { col } else { len },
+        Some(Spot::At { ahead: 0, col }) => col,
+        _ => len,
     }
 }
 
@@ -55,12 +53,9 @@ pub(crate) fn quiet_until<S: Site>(
     c: usize,
     standing: &Standing,
 ) -> Result<usize, Memory>
-    requires valid { S.valid site.now }
     requires memory { S.stands site.now memory.old }
-    requires within { c ≤ length (this_line (S.here site.now)) }
-    requires stands { Stands (length (S.here site.now).rules.items) c standing.now }
+    requires at { IsAt (S.here site.now) c standing.now }
     requires none_tried { standing.now.tried ≡ [] }
-    requires held { Held (one_line (pos (S.here site.now).line)) standing.now.looked }
     ensures memory { S.stands site.now memory.new }
     ensures quiet { IfOk result (λ to. (d : ℕ) → c ≤ d → d < to
         → IsQuiet (S.here site.now) standing.now.looked d (standing_of standing.now)) }

@@ -1,12 +1,19 @@
-use Rattle.std.proofs.Common.{◌∙◌, ap}
+use Rattle.std.proofs.Common.{◌∙◌, ap, reverse, sym}
 use Rattle.paint_rules.specs.Rules.{item_of}
-use Rattle.line_paint.proofs.LineStartLaws.{below_step}
+use Rattle.line_paint.specs.Frames.{below_if, top_searched}
+use Rattle.line_paint.specs.Standing.{frames_or}
+use Rattle.line_paint.proofs.SearchLaws.{below_is, frames_then}
 use Rattle.line_paint.proofs.line_start.+below_at_line_start.Goals as goal
 
 pub returns-in_ok-rest-in-Some-clause-comes : goal.returns-in_ok-rest-in-Some-clause-comes
 returns-in_ok-rest-in-Some-clause-comes g t c =
     let h = g.S.Site.here c.args.site.now in
-    below_step h _ _ _ _ _ _ _ c.in-Some.ensures.0
-    (c.item-item.ensures ∙ ap (λ f. item_of h.rules.items f.item) c.top.view_is) c.if-item.false
-    _ _
-    c.in_ok-rest-in-Some.ensures.comes c.top_searched-in-Some.ensures.comes
+    let fs = reverse c.args.stack.now in
+    let below = reverse c.in-Some.below.now in
+    let rest = frames_or below c.in_ok-rest-in-Some.rest in
+    frames_then _ _ _ _ _ _ _ _ _ _ rest c.in-Some.ensures.0
+    (ap (λ b. below_if h b fs) c.if-not-wanted.false
+    ∙ below_is h fs c.in-Some.top.now below c.in-Some.ensures.0 c.item-item.result.now
+    (c.item-item.ensures ∙ ap (λ f. item_of h.rules.items f.item) c.top.view_is))
+    (ap (λ from. top_searched h c.in-Some.top.now from rest) (sym c.line_start_from-from.ensures))
+    c.in_ok-rest-in-Some.ensures.comes.0 c.top_searched.ensures.comes

@@ -1,12 +1,10 @@
-use Rattle.std.proofs.Common.{◌≡◌, ◌≤◌, ◌-◌, length, drop}
-use Rattle.std.specs.Prelude.{Some, pos}
-use Rattle.syn_base.specs.Looked.{one_line}
+use Rattle.std.proofs.Common.{◌≡◌, ◌-◌, drop}
+use Rattle.std.specs.Prelude.{Some}
 use Rattle.paint_rules.specs.Painted.{looked_first}
 use Rattle.paint_rules.specs.Rules.{this_line}
 use Rattle.paint_rules.specs.Line.{painted_from}
-use Rattle.line_paint.specs.Leads.{standing_of, Stands}
+use Rattle.line_paint.specs.Leads.{standing_of, IsAt}
 use Rattle.line_paint.specs.Line.{painted_rest}
-use Rattle.line_paint.specs.Turns.{Held}
 use Rattle.line_paint.proofs.paint.columns.Given as goal
 
 -- what is left is the line from `c` on
@@ -18,10 +16,8 @@ invariant-columns g l =
           (painted_from h 0 (this_line h) (standing_of l.fn.standing)) ≡ looked_first
           (Some (l.standing).looked) (painted_rest h l.c (drop l.c (this_line h))
           (standing_of l.standing) l.spans);
-      stands : Stands (length h.rules.items) l.c l.standing;
-      held : Held (one_line (pos h.line)) (l.standing).looked;
+      at : IsAt h l.c l.standing;
       memory : g.S.Site.stands l.site l.memory;
-      within : l.c ≤ length (this_line h);
     }
 
 abbrev pub decreases-columns : goal.decreases-columns

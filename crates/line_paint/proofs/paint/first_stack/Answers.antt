@@ -1,12 +1,11 @@
-use Rattle.std.proofs.Common.{◌∙◌, ap, sym, List, reverse}
-use Rattle.std.specs.Prelude.{Option}
+use Rattle.std.proofs.Common.{◌∙◌, ap, List, reverse}
 use Rattle.paint_rules.specs.Frames.{Frame}
-use Rattle.line_paint.specs.Standing.{frames_or, items_of}
-use Rattle.line_paint.proofs.ClosingLaws.{fits_same}
+use Rattle.line_paint.specs.Standing.{items_of}
+use Rattle.line_paint.proofs.SearchLaws.{fits_same}
 use Rattle.line_paint.proofs.paint.first_stack.Goals as goal
 
-pub returns-in-Ok-Some-clause-fits : goal.returns-in-Ok-Some-clause-fits
-returns-in-Ok-Some-clause-fits g c =
-    fits_same _ (reverse c.args.stack.now) (reverse c.in-Ok-Some.anew)
-    (ap (λ (s : Option (List Frame)). items_of (frames_or (reverse c.args.stack.now) s))
-    (sym c.in-Ok-Some.field-0-is) ∙ c.in-Ok-Some.ensures.items) c.requires.fits
+pub returns-in_ok-stack_or-in-Ok-clause-fits : goal.returns-in_ok-stack_or-in-Ok-clause-fits
+returns-in_ok-stack_or-in-Ok-clause-fits g c =
+    fits_same _ (reverse c.args.stack.now) (reverse c.in_ok-stack_or-in-Ok.field-0)
+    (ap (λ (fs : List Frame). items_of fs) c.in_ok-stack_or-in-Ok.ensures
+    ∙ c.in-Ok.ensures.comes.1) c.requires.fits

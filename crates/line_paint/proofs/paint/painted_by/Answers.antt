@@ -11,7 +11,6 @@ use Rattle.paint_rules.specs.Close.{line_start}
 use Rattle.paint_rules.specs.Line.{Refusal, PaintedLine, at_col, at_line_begin, painted_from, painted_after_look}
 use Rattle.state_stack.specs.TopFirst.{top_first}
 use Rattle.paint_rules.proofs.PaintedLaws.{goes_on}
-use Rattle.line_paint.proofs.LineLaws.{at_leads}
 use Rattle.line_paint.proofs.SpansLaws.{OfValue, line_fits}
 use Rattle.line_paint.proofs.paint.painted_by.Goals as goal
 
@@ -45,7 +44,7 @@ returns-clause-painted g c =
     (record { spans = c.in_ok-spans.spans; after = top_first to.state }) (Some l) in (
       c.in_ok-before.ensures,
       (subst Q first (goes_on one j (at_col 0 start) stack follow
-          (at_leads 0 one j start stack c.in_ok-stack.ensures.begins)
+          c.in_ok-stack.ensures.begins
           ∙ subst P c.new.ensures c.in_ok-spans.ensures.painted) ∙ ap done c.in_ok-looked.ensures),
     )
 

@@ -1,4 +1,4 @@
-use Rattle.std.proofs.Common.{sym}
+use Rattle.std.proofs.Common.{rules, sym}
 use Rattle.item_pick.specs.PartsSeen.{rules_in}
 use Rattle.region_ends.proofs.SearchLaws.{line_is}
 use Rattle.line_paint.proofs.painting.paint_line_with.Goals as goal
@@ -9,5 +9,8 @@ returns-in_err-enter_line-clause-memory g c =
 
 pub painted_by-requires-clause-memory : goal.painted_by-requires-clause-memory
 painted_by-requires-clause-memory g c =
-    let t = c.new-lines.result in
-    c.in_ok-enter_line.ensures.entered c.args.budget t c.args.line (sym (line_is t c.args.line c.line.result.now c.line.ensures)) c.requires.memory
+    let t = c.new-lines.result in (
+      search rules,
+      c.in_ok-enter_line.ensures.entered c.args.budget t c.args.line
+          (sym (line_is t c.args.line c.line.result.now c.line.ensures)) c.requires.memory,
+    )

@@ -1,3 +1,4 @@
+use Rattle.std.proofs.lemmas.Result.{err_from_is_err_and}
 use Rattle.line_paint.specs.Leads.{standing_of}
 use Rattle.line_paint.proofs.StandingLaws.{step_on, step_stays, step_stops}
 use Rattle.line_paint.proofs.standing.Standing.close.Goals as goal
@@ -6,18 +7,20 @@ pub steps-preserved : goal.steps-preserved
 steps-preserved g c = record {
   whole = step_on (g.S.Site.here c.args.site.now) c.args.c c.steps.left _ _ _ _ c.steps-test.true
       c.steps.invariant.whole _ (standing_of c.close_once.new.self)
-      (rw c.in-Ok-true.field-0-test at c.in-Ok-true.ensures.leads);
-  stands = c.in-Ok-true.ensures.stands;
+      (rw c.if-not-branch.false at c.in_ok-close_once.ensures.leads);
+  stands = c.in_ok-close_once.ensures.stands;
   memory = c.close_once.ensures.memory;
 }
 
-pub returns-in-Ok-false-clause-leads : goal.returns-in-Ok-false-clause-leads
-returns-in-Ok-false-clause-leads g c =
-    let stays = rw c.in-Ok-false.field-0-test at c.in-Ok-false.ensures.leads in
+pub returns-then-not-branch-clause-leads : goal.returns-then-not-branch-clause-leads
+returns-then-not-branch-clause-leads g c =
+    let stays = rw c.if-not-branch.true at c.in_ok-close_once.ensures.leads in
     step_stays (g.S.Site.here c.args.site.now) c.args.c c.steps.left _ _ _ _ c.steps-test.true
     c.steps.invariant.whole _ (standing_of c.close_once.new.self) stays.0 stays.1
 
-pub returns-in-Err-clause-leads : goal.returns-in-Err-clause-leads
-returns-in-Err-clause-leads g c =
-    step_stops (g.S.Site.here c.args.site.now) c.args.c c.steps.left _ _ _ _ c.steps-test.true
-    c.steps.invariant.whole c.in-Err.stop c.in-Err.ensures.leads
+pub returns-in_err-close_once-clause-leads : goal.returns-in_err-close_once-clause-leads
+returns-in_err-close_once-clause-leads g c =
+    let q = err_from_is_err_and c.from_residual.result c.from_residual.ensures.1 in
+    rw (q.1, q.2) (step_stops (g.S.Site.here c.args.site.now) c.args.c c.steps.left _ _ _ _
+    c.steps-test.true c.steps.invariant.whole c.in_err-close_once.field-0.0
+    c.in_err-close_once.ensures.leads)

@@ -1,4 +1,4 @@
-use Rattle.std.proofs.Common.{◌≡◌, length}
+use Rattle.std.proofs.Common.{◌≡◌}
 use Rattle.std.specs.Prelude.{Some}
 use Rattle.paint_rules.specs.Painted.{looked_first}
 use Rattle.paint_rules.specs.Close.{closed, closed_in}
@@ -12,7 +12,7 @@ invariant-steps g l =
     record {
       whole : looked_first (Some (l.fn.self).looked) (closed h l.c (standing_of l.fn.self))
           ≡ looked_first (Some (l.self).looked) (closed_in l.left h l.c (standing_of l.self));
-      stands : Stands (length h.rules.items) l.c l.self;
+      stands : Stands h l.c l.self;
       memory : g.S.Site.stands l.site l.memory;
     }
 

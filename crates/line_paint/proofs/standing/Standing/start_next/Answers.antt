@@ -17,12 +17,12 @@ start-requires-clause-starting g c =
     let p = subst P c.in-Start.is c.in_ok-starting.ensures.picked in
     (p.0, p.1)
 
-pub returns-in-Ok-clause-leads : goal.returns-in-Ok-clause-leads
-returns-in-Ok-clause-leads g c =
+pub returns-in_ok-start-in-Start-clause-leads : goal.returns-in_ok-start-in-Start-clause-leads
+returns-in_ok-start-in-Start-clause-leads g c =
     let h = g.S.Site.here c.args.site.now in
     let s = standing_of c.args.self.now in
     let P : Picked → Type 0 = λ a. IsPicked h.rules.items a
     (looked_first (Some (c.args.self.now).looked) (picked h c.args.c s)) in
     let p = subst P c.in-Start.is c.in_ok-starting.ensures.picked in
     next_starts h c.args.c (c.args.self.now).looked c.in-Start.looked s (c.start.new.self).looked
-    p.0 (standing_of c.start.new.self) p.2 (c.in-Ok.ensures.leads p.0 p.1)
+    p.0 (standing_of c.start.new.self) p.2 (c.in_ok-start-in-Start.ensures.leads p.0 p.1)

@@ -1,5 +1,5 @@
-use Rattle.std.proofs.Common.{◌≡◌, ap, length}
-use Rattle.line_paint.proofs.TurnLaws.{two_stand}
+use Rattle.std.proofs.Common.{◌≡◌, ◌<◌, ap, length, subst, sym}
+use Rattle.syn_base.specs.declared.places.ItemId.{ItemId}
 use Rattle.line_paint.proofs.standing.Standing.start_region.Goals as goal
 
 pub returns-in_ok-body-in-Some-clause-stands : goal.returns-in_ok-body-in-Some-clause-stands
@@ -13,7 +13,7 @@ returns-in_ok-body-in-Some-clause-stands g c =
     let area-open = ap (λ f. f.item) c.in_ok-area-in-Some.ensures in
     let area-full = ap (λ f. f.item) c.with_externals.ensures in
     let area : c.with_externals.result.item ≡ c.args.item = cc (area-view, area-open, area-full) in
-    two_stand (length (g.S.Site.here c.args.site.now).rules.items) c.args.c c.start_two.result
-    c.args.self.now c.start_two.new.self c.args.item _ _ body area c.requires.is_item
-    c.requires.stands c.start_two.ensures.frames c.start_two.ensures.floor
-    c.start_two.ensures.waits
+    let h = g.S.Site.here c.args.site.now in
+    let P : ItemId → Type 0 = λ i. i.0 < length h.rules.items in
+    c.start_two.ensures.stands h (subst P (sym body) c.requires.is_item)
+    (subst P (sym area) c.requires.is_item) c.requires.stands

@@ -1,10 +1,8 @@
 use Rattle.std.proofs.Common.{◌≡◌, length, suc}
-use Rattle.std.specs.Prelude.{Some, pos}
-use Rattle.syn_base.specs.Looked.{one_line}
+use Rattle.std.specs.Prelude.{Some}
 use Rattle.paint_rules.specs.Painted.{looked_first}
 use Rattle.paint_rules.specs.Line.{turns}
-use Rattle.line_paint.specs.Leads.{standing_of, Stands}
-use Rattle.line_paint.specs.Turns.{Held}
+use Rattle.line_paint.specs.Leads.{standing_of, IsAt}
 use Rattle.line_paint.proofs.standing.Standing.turns.Given as goal
 
 -- what is left are so many turns
@@ -15,8 +13,7 @@ invariant-turns g l =
       whole : looked_first (Some (l.fn.self).looked)
           (turns (suc (length h.rules.items)) h l.c (standing_of l.fn.self)) ≡ looked_first
           (Some (l.self).looked) (turns l.left h l.c (standing_of l.self));
-      stands : Stands (length h.rules.items) l.c l.self;
-      held : Held (one_line (pos h.line)) (l.self).looked;
+      at : IsAt h l.c l.self;
       memory : g.S.Site.stands l.site l.memory;
     }
 
