@@ -1,26 +1,5 @@
 -- What a look behind that is known to fail means for an item.
-use Rattle.std.proofs.Common.{◌≡◌, refl, arith, ℕ, ◌≤◌, Bool, true, false, length}
-use Rattle.std.specs.Prelude.{nat_lt}
-use Rattle.std.proofs.lemmas.Bool.Decides.{nat_tests}
-use Rattle.syn_base.specs.declared.looked.Looked.{Looked}
-use Rattle.syn_base.specs.Looked.{hull_of}
-use Rattle.syn_base.specs.declared.places.Place.{Place}
-use Rattle.syn_base.specs.declared.places.ItemId.{ItemId}
-use Rattle.vim_pattern.specs.Tree.{PatternTree}
-use Rattle.match_rules.specs.Ways.{Text, line_at}
-use Rattle.syntax_set.specs.declared.item.Pattern.{Pattern}
-use Rattle.paint_rules.specs.Rules.{Rules, item_of, no_externals, place_at, within_budget}
-use Rattle.pattern_screens.specs.Behind.{is_cheap_behind}
-use Rattle.pattern_screens.specs.Keys.{key_numbered, key_of}
-use Rattle.pattern_screens.specs.Rest.{rest_fails}
-use Rattle.pattern_screens.specs.ScreenLaw.{two_lines}
-use Rattle.pattern_screens.specs.TwoLines.{AreWithin}
-use Rattle.item_pick.specs.Attempts.{IsFutileBy}
-use Rattle.item_pick.specs.Columns.{may_start_at}
-use Rattle.item_pick.specs.Firsts.{IsToldOfFirst, rest_asked}
-use Rattle.item_pick.specs.Screens.{IsVainFrom}
-use Rattle.item_pick.specs.Standing.{IsFirst}
-use Rattle.item_pick.specs.Tables.{IsCheapWithin, IsNumberAt}
+use Rattle.item_pick.proofs.Common.{◌≡◌, refl, arith, ℕ, ◌≤◌, Bool, true, false, length, nat_lt, nat_tests, Looked, hull_of, Place, ItemId, PatternTree, Text, line_at, Pattern, Rules, item_of, no_externals, place_at, within_budget, is_cheap_behind, key_numbered, key_of, rest_fails, two_lines, AreWithin, IsFutileBy, may_start_at, IsToldOfFirst, rest_asked, IsVainFrom, IsFirst, IsCheapWithin, IsNumberAt}
 use Rattle.item_pick.proofs.MatchLaws.{match_absent}
 
 -- an attempt that finds nothing gives nothing, and its lines are looked at

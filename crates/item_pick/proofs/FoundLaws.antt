@@ -1,18 +1,7 @@
 -- The first of some choices that gives anything, choice by choice.
-use Rattle.std.proofs.Common.{◌≡◌, ◌∙◌, refl, sym, ap, arith, ℕ, zero, suc, ◌+◌, ◌-◌, ◌<◌, ◌≤◌, Bool, true, false, List, [], ◌∷◌, length, take, reverse}
-use Rattle.std.specs.Prelude.{Option, Some, None, nat_lt, slice_get}
-use Rattle.std.proofs.lemmas.Bool.Decides.{nat_tests}
-use Rattle.syn_base.specs.declared.looked.Looked.{Looked}
-use Rattle.paint_rules.specs.Painted.{Painted, Done, looked_first, done, first_found}
-use Rattle.paint_rules.specs.Rules.{Cause}
-use Rattle.syn_base.specs.declared.places.ItemId.{ItemId}
+use Rattle.item_pick.proofs.Common.{◌≡◌, ◌∙◌, refl, sym, ap, arith, ℕ, zero, suc, ◌+◌, ◌-◌, ◌<◌, ◌≤◌, Bool, true, false, List, [], ◌∷◌, length, take, reverse, Option, Some, None, nat_lt, slice_get, nat_tests, Looked, Painted, Done, looked_first, done, first_found, Cause, ItemId, items_below, Stop, IsStop, IsIdle, goes_on}
 use Rattle.paint_rules.specs.ItemMatch.{columns, columns_from}
-use Rattle.paint_rules.specs.Pick.{items_below}
 use Rattle.item_pick.proofs.ListLaws.{last_first}
-use Rattle.item_pick.specs.declared.stop.Stop.{Stop}
-use Rattle.item_pick.specs.Told.{IsStop}
-use Rattle.item_pick.specs.Screens.{IsIdle}
-use Rattle.paint_rules.proofs.PaintedLaws.{goes_on}
 use Rattle.item_pick.proofs.ToldLaws.{stops}
 
 module _ {A B : Type 0} (f : A → Painted Cause (Option B)) where

@@ -1,24 +1,13 @@
 -- An attempt that is known to fail finds nothing, within the budget.
-use Rattle.std.proofs.Common.{◌≡◌, ap, refl, ℕ, ◌+◌, ◌≤◌, Bool, true, false, length}
-use Rattle.std.specs.Prelude.{not, nat_lt, option_map}
-use Rattle.char_class.specs.declared.sets.Sets.{Sets}
-use Rattle.vim_pattern.specs.Tree.{PatternTree}
+use Rattle.item_pick.proofs.Common.{◌≡◌, ap, refl, ℕ, ◌+◌, ◌≤◌, Bool, true, false, length, not, nat_lt, option_map, Sets, PatternTree, Text, line_at, no_externals, place_at, context_of, is_cheap_behind, fails, fails_after, takes_first, key_numbered, key_of, two_lines, rest_fails, AreWithin, IsFutile, IsFutileBy}
 use Rattle.match_rules.specs.Attempt.{attempt}
-use Rattle.match_rules.specs.Ways.{Text, line_at, place}
-use Rattle.paint_rules.specs.Rules.{no_externals, place_at}
-use Rattle.paint_rules.specs.Syntax.{attempt_by, context_of}
+use Rattle.match_rules.specs.Ways.{place}
+use Rattle.paint_rules.specs.Syntax.{attempt_by}
 use Rattle.pattern_match.specs.Answers.{match_of}
-use Rattle.pattern_screens.specs.Behind.{is_cheap_behind}
-use Rattle.pattern_screens.specs.Failing.{fails}
-use Rattle.pattern_screens.specs.Following.{fails_after, takes_first}
-use Rattle.pattern_screens.specs.Keys.{key_numbered, key_of}
-use Rattle.pattern_screens.specs.ScreenLaw.{lines_seen, two_lines, IsInVain}
-use Rattle.pattern_screens.specs.Rest.{rest_fails}
-use Rattle.pattern_screens.specs.TwoLines.{AreWithin}
+use Rattle.pattern_screens.specs.ScreenLaw.{lines_seen, IsInVain}
 use Rattle.pattern_screens.proofs.BehindLaws.{behind-law}
 use Rattle.pattern_screens.proofs.FailingLaws.{fails-here}
 use Rattle.pattern_screens.proofs.FollowingLaws.{after-law}
-use Rattle.item_pick.specs.Attempts.{IsFutile, IsFutileBy}
 use Rattle.item_pick.specs.Tables.{passes}
 
 -- one that is in vain by the rules of matching is so by those of painting

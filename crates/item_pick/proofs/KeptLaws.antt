@@ -1,18 +1,9 @@
 -- What is kept of an item at the columns with a key, as a test and as what it says.
-use Rattle.std.proofs.Common.{◌≡◌, refl, sym, subst, ℕ, zero, suc, Bool, true, List, [], ◌∷◌}
-use Rattle.std.specs.Prelude.{Some, Option, slice_get, ◌&&◌}
+use Rattle.item_pick.proofs.Common.{◌≡◌, refl, sym, subst, ℕ, zero, suc, Bool, true, List, [], ◌∷◌, Some, Option, slice_get, ◌&&◌, Sets, ItemId, ItemKind, Keyword, Match, Region, Pattern, Rules, item_of, fails_after, first_asked, idles_before, IsToldOfFirst, sits_by, some_idle, has_one_start, IsFirst, IsPatternOf, is_screened, stays_out, StaysOut}
 use Rattle.std.specs.List.{list_all}
-use Rattle.char_class.specs.declared.sets.Sets.{Sets}
-use Rattle.syn_base.specs.declared.places.ItemId.{ItemId}
-use Rattle.syntax_set.specs.declared.item.ItemKind.{ItemKind}
-use Rattle.syntax_set.specs.declared.item.ItemKind.TheVariants.{Keyword, Match, Region}
-use Rattle.syntax_set.specs.declared.item.Pattern.{Pattern}
-use Rattle.paint_rules.specs.Rules.{Rules, item_of}
-use Rattle.pattern_screens.specs.Following.{fails_after}
 use Rattle.std.proofs.lemmas.Bool.{and_parts as both_true}
-use Rattle.item_pick.specs.Firsts.{Asks, first_asked, idles_before, IsToldOfFirst, sits_by, some_asked, some_idle}
-use Rattle.item_pick.specs.Standing.{has_one_start, IsFirst, IsPatternOf}
-use Rattle.item_pick.specs.Tables.{is_kind_screened, is_screened, stays_out, StaysOut}
+use Rattle.item_pick.specs.Firsts.{Asks, some_asked}
+use Rattle.item_pick.specs.Tables.{is_kind_screened}
 
 -- a test that all of a list pass
 all_pass : {A : Type 0} (f : A → Bool) (xs : List A) → ((n : ℕ) (x : A) → Some x ≡ slice_get xs n → f x ≡ true) → list_all f xs ≡ true

@@ -1,3 +1,4 @@
+pub mod Common
 pub mod BehindLaws
 pub mod FoundLaws
 pub mod FutileLaws

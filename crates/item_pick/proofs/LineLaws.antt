@@ -1,17 +1,6 @@
 -- Items that start nowhere in a line.
-use Rattle.std.proofs.Common.{◌≡◌, refl, sym, subst, arith, ℕ, ◌+◌, ◌≤◌, length}
-use Rattle.std.specs.Prelude.{Result, Ok, Err, IfOk}
-use Rattle.syn_base.specs.declared.looked.Looked.{Looked}
-use Rattle.syn_base.specs.declared.places.ItemId.{ItemId}
-use Rattle.syn_base.specs.declared.places.Place.{Place}
-use Rattle.match_rules.specs.Ways.{Text, line_at}
-use Rattle.syntax_set.specs.declared.item.Pattern.{Pattern}
-use Rattle.paint_rules.specs.Rules.{Rules, item_of, place_at}
-use Rattle.item_pick.specs.declared.runs.Run.{Run}
+use Rattle.item_pick.proofs.Common.{◌≡◌, refl, sym, subst, arith, ℕ, ◌+◌, ◌≤◌, length, Result, Ok, Err, IfOk, Looked, ItemId, Place, Text, line_at, Pattern, Rules, item_of, place_at, Run, HoldsLine, HoldsLines, IsLater, IsPatternOf, IsBarren, IsLackedIn, RunStands}
 use Rattle.item_pick.specs.Runs.{IsWhole}
-use Rattle.item_pick.specs.Screens.{HoldsLine, HoldsLines, IsLater}
-use Rattle.item_pick.specs.Standing.{IsPatternOf}
-use Rattle.item_pick.specs.Tables.{IsBarren, IsLackedIn, RunStands}
 use Rattle.item_pick.proofs.NeedLaws.{IsNeedLaw, lacked_quiet}
 use Rattle.item_pick.proofs.TableLaws.{covered_quiet}
 

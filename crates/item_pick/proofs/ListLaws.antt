@@ -1,7 +1,6 @@
 -- Lists that are read from their end.
-use Rattle.std.proofs.Common.{◌≡◌, ◌∙◌, ap, arith, ℕ, zero, suc, ◌+◌, ◌<◌, ◌≤◌, List, [], ◌∷◌, length, take, reverse, get_or}
-use Rattle.std.specs.Prelude.{Some, slice_get}
-use Rattle.std.proofs.lemmas.List.{take_more, reverse-append}
+use Rattle.item_pick.proofs.Common.{◌≡◌, ◌∙◌, ap, arith, ℕ, zero, suc, ◌+◌, ◌<◌, ◌≤◌, List, [], ◌∷◌, length, take, reverse, get_or, Some, slice_get, reverse-append}
+use Rattle.std.proofs.lemmas.List.{take_more}
 
 pub read : {A : Type 0} (xs : List A) (i : ℕ) (x d : A) → Some x ≡ slice_get xs i → get_or xs i d ≡ x
 read [] i x d e = absurd (cc)

@@ -1,22 +1,9 @@
 -- The match of an item, column by column.
-use Rattle.std.proofs.Common.{◌≡◌, ◌∙◌, refl, sym, ap, arith, ℕ, ◌-◌, ◌<◌, ◌≤◌, Bool, true, false, length}
-use Rattle.std.specs.Prelude.{Option, Some, None, pos, nat_eq, ◌+ℤ◌, ◌&&◌, ◌||◌}
-use Rattle.std.proofs.lemmas.Bool.Decides.{nat_tests}
-use Rattle.syn_base.specs.declared.looked.Looked.{Looked}
-use Rattle.syn_base.specs.declared.places.Place.{Place}
-use Rattle.syn_base.specs.Looked.{hull_of, one_line}
-use Rattle.match_rules.specs.Ways.{Text}
-use Rattle.match_rules.specs.Ways.{line_at}
-use Rattle.syn_base.specs.declared.places.ItemId.{ItemId}
-use Rattle.syntax_set.specs.declared.item.Pattern.{Pattern}
-use Rattle.paint_rules.specs.Painted.{Painted, Done, looked_first, done, ◌>>=◌}
-use Rattle.paint_rules.specs.Rules.{Rules, Matched, Cause, attempted, no_externals, place_at}
-use Rattle.paint_rules.specs.Offsets.{within_line}
-use Rattle.paint_rules.specs.ItemMatch.{may_start, starts_at, looks_at_end, match_from, item_match}
-use Rattle.item_pick.specs.Screens.{HoldsLines, IsIdle, IsSettled}
-use Rattle.item_pick.specs.Columns.{may_start_at, Holds}
+use Rattle.item_pick.proofs.Common.{◌≡◌, ◌∙◌, refl, sym, ap, arith, ℕ, ◌-◌, ◌<◌, ◌≤◌, Bool, true, false, length, Option, Some, None, pos, nat_eq, ◌+ℤ◌, ◌&&◌, ◌||◌, nat_tests, Looked, Place, hull_of, one_line, Text, line_at, ItemId, Pattern, Painted, Done, looked_first, done, ◌>>=◌, Rules, Cause, no_externals, place_at, within_line, match_from, item_match, HoldsLines, IsIdle, IsSettled, may_start_at, goes_on}
+use Rattle.paint_rules.specs.Rules.{Matched, attempted}
+use Rattle.paint_rules.specs.ItemMatch.{may_start, starts_at, looks_at_end}
+use Rattle.item_pick.specs.Columns.{Holds}
 use Rattle.item_pick.specs.declared.columns.Columns.{Columns}
-use Rattle.paint_rules.proofs.PaintedLaws.{goes_on}
 use Rattle.item_pick.proofs.FoundLaws.{from_column, skip_to, skip_rest}
 
 not_true : (b : Bool) → (b ≡ true → ⊥) → b ≡ false

@@ -1,19 +1,8 @@
 -- In a line that lacks what an item needs nothing of it is found.
-use Rattle.std.proofs.Common.{arith, ℕ, ◌≤◌, Bool, false, length}
-use Rattle.char_class.specs.declared.sets.Sets.{Sets}
-use Rattle.vim_pattern.specs.Tree.{PatternTree}
-use Rattle.syn_base.specs.declared.looked.Looked.{Looked}
-use Rattle.syn_base.specs.declared.places.ItemId.{ItemId}
-use Rattle.syn_base.specs.declared.places.Place.{Place}
-use Rattle.match_rules.specs.Ways.{Text, line_at}
+use Rattle.item_pick.proofs.Common.{arith, ℕ, ◌≤◌, Bool, false, length, Sets, PatternTree, Looked, ItemId, Place, Text, line_at, Rules, item_of, no_externals, place_at, context_of, IsFutile, IsQuiet, HoldsLine, IsLackedIn}
 use Rattle.pattern_needs.specs.LineNeeds.{LacksNeed}
 use Rattle.pattern_needs.proofs.NeedsLaws.{needs-law}
-use Rattle.paint_rules.specs.Rules.{Rules, item_of, no_externals, place_at}
-use Rattle.paint_rules.specs.Syntax.{attempt_by, context_of}
-use Rattle.item_pick.specs.Attempts.{IsFutile}
-use Rattle.item_pick.specs.Quiet.{IsQuiet}
-use Rattle.item_pick.specs.Screens.{HoldsLine}
-use Rattle.item_pick.specs.Tables.{IsLackedIn}
+use Rattle.paint_rules.specs.Syntax.{attempt_by}
 use Rattle.item_pick.proofs.FutileLaws.{futile_in}
 use Rattle.item_pick.proofs.ScreenLaws.{futile_idle}
 

@@ -1,13 +1,8 @@
 -- Which items the nextgroup of a waiting item has.
-use Rattle.std.proofs.Common.{◌≡◌, ◌<◌, length, refl, sym, ◌∙◌, ap, Option, None, Some, slice_get}
-use Rattle.std.proofs.lemmas.Option.{slice_get-get_or}
-use Rattle.std.specs.Prelude.{get_or}
-use Rattle.syn_base.specs.declared.places.ItemId.{ItemId}
-use Rattle.syntax_set.specs.declared.added_item.AddedItem.{AddedItem}
+use Rattle.item_pick.proofs.Common.{◌≡◌, ◌<◌, length, refl, sym, ◌∙◌, ap, Option, None, Some, slice_get, slice_get-get_or, get_or, ItemId, AddedItem, Rules, no_added}
 use Rattle.syntax_set.specs.declared.item.GroupList.{GroupList}
 use Rattle.syntax_set.specs.Allowed.{follows, passes}
 use Rattle.syntax_set.specs.Membership.{is_member_of_option}
-use Rattle.paint_rules.specs.Rules.{Rules, no_added}
 use Rattle.paint_rules.specs.Lists.{is_in_list, is_next}
 
 -- an item is a member of a list that may be absent

@@ -1,27 +1,14 @@
 -- What the matcher answers of the patterns of items.
-use Rattle.std.proofs.Common.{◌≡◌, refl, sym, subst, arith, ℕ, ◌+◌, ◌<◌, List, length, get_or, true}
-use Rattle.std.specs.Prelude.{Option, Some, Result, Ok, Err, IfOk, slice_get}
-use Rattle.std.specs.List.{All}
-use Rattle.std.proofs.lemmas.Option.{get_or_from_slice_get, slice_get-get_or, slice_get_within}
-use Rattle.syn_base.specs.declared.places.ItemId.{ItemId}
-use Rattle.syn_base.specs.declared.places.Place.{Place}
+use Rattle.item_pick.proofs.Common.{◌≡◌, refl, sym, subst, arith, ℕ, ◌+◌, ◌<◌, List, length, get_or, true, Option, Some, Result, Ok, Err, IfOk, slice_get, All, get_or_from_slice_get, slice_get-get_or, slice_get_within, ItemId, Place, PatternTree, Text, AddedItem, ItemKind, Keyword, Match, Region, Pattern, item_of, no_added, IsPatternOf}
 use Rattle.syn_base.specs.declared.want_of_memory.Memory.{Memory}
-use Rattle.vim_pattern.specs.Tree.{PatternTree}
-use Rattle.match_rules.specs.Ways.{Text}
 use Rattle.pattern_match.specs.OnText.{IsToldOn}
 use Rattle.pattern_match.specs.declared.answer.Attempt.{Attempt}
 use Rattle.pattern_match.specs.declared.answer.Attempt.TheVariants.{Found, Absent, TooCostly}
 use Rattle.syntax_set.specs.Soundness.{AreKindAdded, AreSound, IsAdded}
-use Rattle.syntax_set.specs.declared.added_item.AddedItem.{AddedItem}
-use Rattle.syntax_set.specs.declared.item.ItemKind.{ItemKind}
-use Rattle.syntax_set.specs.declared.item.ItemKind.TheVariants.{Keyword, Match, Region}
-use Rattle.syntax_set.specs.declared.item.Pattern.{Pattern}
 use Rattle.pattern_match.specs.declared.answer.Match.{Match as MatchOf}
 use Rattle.paint_rules.specs.declared.RegionEnd.{RegionEnd}
 use Rattle.paint_rules.specs.Close.{is_region}
-use Rattle.paint_rules.specs.Rules.{item_of, no_added}
 use Rattle.item_pick.specs.Attempts.{EndsBelow}
-use Rattle.item_pick.specs.Standing.{IsPatternOf}
 use Rattle.item_pick.specs.Started.{IsThere, no_pattern, starts_of}
 use Rattle.item_pick.specs.declared.starting.Starting.TheVariants as begun
 

@@ -1,26 +1,7 @@
 -- Items that have no match at a place give nothing there.
-use Rattle.std.proofs.Common.{◌≡◌, ◌∙◌, refl, sym, ap, subst, arith, ℕ, zero, suc, ◌-◌, ◌<◌, ◌≤◌, ◌⊎◌, inl, inr, Bool, true, false, List, [], ◌∷◌, length}
-use Rattle.std.specs.Prelude.{Option, Some, None, slice_get}
-use Rattle.std.proofs.Math.Seq.{take-length}
-use Rattle.syn_base.specs.declared.looked.Looked.{Looked}
-use Rattle.syn_base.specs.declared.places.Place.{Place}
-use Rattle.match_rules.specs.Ways.{Text}
-use Rattle.match_rules.specs.Ways.{line_at}
-use Rattle.syn_base.specs.declared.places.ItemId.{ItemId}
-use Rattle.syntax_set.specs.declared.item.ItemKind.{ItemKind}
-use Rattle.syntax_set.specs.declared.item.ItemKind.TheVariants.{Keyword, Match, Region}
-use Rattle.syntax_set.specs.declared.item.Pattern.{Pattern}
-use Rattle.paint_rules.specs.Painted.{Painted, Done, looked_first, done}
-use Rattle.paint_rules.specs.Rules.{Rules, Cause, item_of}
-use Rattle.paint_rules.specs.ItemMatch.{match_from, item_match}
-use Rattle.paint_rules.specs.Pick.{Starting, match_start, region_start, start_by}
-use Rattle.item_pick.specs.declared.choice.Choice.{Choice}
-use Rattle.item_pick.specs.Quiet.{IsEarlier, IsNextItem, IsQuiet, item_numbered}
-use Rattle.item_pick.specs.Standing.{IsPatternOf}
-use Rattle.item_pick.specs.Screens.{IsIdle}
-use Rattle.item_pick.specs.Started.{here_at, is_free, start_at, start_if_free}
+use Rattle.item_pick.proofs.Common.{◌≡◌, ◌∙◌, refl, sym, ap, subst, arith, ℕ, zero, suc, ◌-◌, ◌<◌, ◌≤◌, ◌⊎◌, inl, inr, Bool, true, false, List, [], ◌∷◌, length, Option, Some, None, slice_get, take-length, Looked, Place, Text, line_at, ItemId, ItemKind, Keyword, Match, Region, Pattern, Painted, Done, looked_first, done, Rules, Cause, item_of, match_from, item_match, Starting, start_by, Choice, IsEarlier, IsNextItem, IsQuiet, item_numbered, IsPatternOf, IsIdle, here_at, is_free, start_at, start_if_free, goes_on}
+use Rattle.paint_rules.specs.Pick.{match_start, region_start}
 use Rattle.item_pick.proofs.FoundLaws.{below, below_none, skip_rest}
-use Rattle.paint_rules.proofs.PaintedLaws.{goes_on}
 
 some_at : {A : Type 0} (xs : List A) (n : ℕ) → n < length xs → (x : A) × (Some x ≡ slice_get xs n)
 some_at [] n h = absurd (omega arith)

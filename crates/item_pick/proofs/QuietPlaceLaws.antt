@@ -1,24 +1,11 @@
 -- Places at which nothing starts.
-use Rattle.std.proofs.Common.{◌≡◌, ◌∙◌, refl, ap, arith, ℕ, inl, Bool, false, List, [], ◌∷◌, length}
-use Rattle.std.specs.Prelude.{Option, Some, None, option_map, take, drop, ◌-◌}
-use Rattle.std.specs.List.{find, list_any}
-use Rattle.syn_base.specs.declared.places.Place.{Place}
-use Rattle.syn_base.specs.declared.places.ItemId.{ItemId}
-use Rattle.syn_base.specs.declared.looked.Looked.{Looked}
-use Rattle.match_rules.specs.Ways.{Text, line_at}
+use Rattle.item_pick.proofs.Common.{◌≡◌, ◌∙◌, refl, ap, arith, ℕ, inl, Bool, false, List, [], ◌∷◌, length, Option, Some, None, option_map, take, ◌-◌, list_any, Place, ItemId, Looked, Text, line_at, begins_word, Frame, Done, looked_first, done, Rules, place_at, same_item, is_allowed, keyword_at, or_nothing, picked, goes_on, Choice, IsNextItem, item_numbered, IsQuietAt, admits, here_at, is_free, start_if_free, IsNextAt}
+use Rattle.std.specs.Prelude.{drop}
+use Rattle.std.specs.List.{find}
 use Rattle.keyword_table.specs.Candidates.{candidates}
-use Rattle.keyword_table.specs.Words.{begins_word, word_end}
-use Rattle.paint_rules.specs.Frames.{Frame}
-use Rattle.paint_rules.specs.Painted.{Done, looked_first, done}
-use Rattle.paint_rules.specs.Rules.{Rules, place_at, same_item}
-use Rattle.paint_rules.specs.Pick.{Nothing, is_allowed, keyword_at, keyword_to, or_nothing, picked}
-use Rattle.paint_rules.proofs.PaintedLaws.{goes_on}
-use Rattle.item_pick.specs.declared.choice.Choice.{Choice}
+use Rattle.keyword_table.specs.Words.{word_end}
+use Rattle.paint_rules.specs.Pick.{Nothing, keyword_to}
 use Rattle.item_pick.specs.declared.choice.Choice.TheVariants.{NoItem}
-use Rattle.item_pick.specs.Quiet.{IsNextItem, item_numbered}
-use Rattle.item_pick.specs.QuietPlaces.{IsQuietAt}
-use Rattle.item_pick.specs.Started.{admits, here_at, is_free, start_if_free}
-use Rattle.item_pick.specs.Tables.{IsNextAt}
 use Rattle.item_pick.proofs.FoundLaws.{items_skip}
 use Rattle.item_pick.proofs.PickLaws.{allowed_as, among, no_word}
 use Rattle.item_pick.proofs.QuietLaws.{earlier}

@@ -1,21 +1,9 @@
 -- Where the screen fails, an attempt tells nothing that isn't known.
-use Rattle.std.proofs.Common.{◌≡◌, ◌∙◌, refl, sym, ap, subst, arith, ℕ, ◌≤◌, Bool, true, false, length}
-use Rattle.std.specs.Prelude.{Some, None, ℤ, pos, ◌||◌, nat_lt}
+use Rattle.item_pick.proofs.Common.{◌≡◌, ◌∙◌, refl, sym, ap, subst, arith, ℕ, ◌≤◌, Bool, true, false, length, Some, None, pos, ◌||◌, nat_lt, nat_tests, Looked, Place, hull_of, one_line, Text, line_at, ItemId, Pattern, Painted, Done, Refused, looked_first, Rules, item_of, no_externals, place_at, within_budget, match_from, IsFutile, may_start_at, HoldsLine, HoldsLines, IsIdle}
+use Rattle.std.specs.Prelude.{ℤ}
 use Rattle.std.proofs.lemmas.Int.{ints}
-use Rattle.std.proofs.lemmas.Bool.Decides.{nat_tests}
-use Rattle.syn_base.specs.declared.looked.Looked.{Looked}
-use Rattle.syn_base.specs.declared.places.Place.{Place}
-use Rattle.syn_base.specs.Looked.{hull_of, one_line, lesser, greater}
-use Rattle.match_rules.specs.Ways.{Text}
-use Rattle.match_rules.specs.Ways.{line_at}
-use Rattle.syn_base.specs.declared.places.ItemId.{ItemId}
-use Rattle.syntax_set.specs.declared.item.Pattern.{Pattern}
-use Rattle.paint_rules.specs.Painted.{Painted, Done, Refused, looked_first}
-use Rattle.paint_rules.specs.Rules.{Rules, Attempt, item_of, no_externals, place_at, within_budget}
-use Rattle.paint_rules.specs.ItemMatch.{match_from}
-use Rattle.item_pick.specs.Attempts.{IsFutile}
-use Rattle.item_pick.specs.Columns.{may_start_at}
-use Rattle.item_pick.specs.Screens.{HoldsLine, HoldsLines, IsIdle}
+use Rattle.syn_base.specs.Looked.{lesser, greater}
+use Rattle.paint_rules.specs.Rules.{Attempt}
 use Rattle.syn_base.proofs.HullLaws.{hull_assoc, hull_comm, hull_self}
 use Rattle.item_pick.proofs.MatchLaws.{match_absent, no_start}
 

@@ -1,17 +1,6 @@
 -- Columns at which no item starts, since those that wander are settled and the others are idle.
-use Rattle.std.proofs.Common.{◌≡◌, refl, sym, subst, arith, ℕ, ◌+◌, ◌<◌, ◌≤◌, inl, inr, Bool, true, false, List, [], length, get_or}
-use Rattle.syn_base.specs.declared.looked.Looked.{Looked}
-use Rattle.syn_base.specs.declared.places.ItemId.{ItemId}
-use Rattle.match_rules.specs.Ways.{Text, line_at}
-use Rattle.paint_rules.specs.Rules.{Rules, place_at}
-use Rattle.item_pick.specs.declared.choice.Choice.{Choice}
-use Rattle.item_pick.specs.declared.runs.Run.{Run}
-use Rattle.item_pick.specs.Quiet.{IsQuiet, item_numbered}
-use Rattle.item_pick.specs.Runs.{Covers}
-use Rattle.item_pick.specs.Screens.{HoldsLine}
-use Rattle.item_pick.specs.Settled.{ArePassed, AreSettled, item_wanders}
-use Rattle.item_pick.specs.Started.{admits}
-use Rattle.item_pick.specs.Tables.{HasThose, IsNextAt, IsNumberAt, Lacks, ListStands, RunStands}
+use Rattle.item_pick.proofs.Common.{◌≡◌, refl, sym, subst, arith, ℕ, ◌+◌, ◌<◌, ◌≤◌, inl, inr, Bool, true, false, List, [], length, get_or, Looked, ItemId, Text, line_at, Rules, place_at, Choice, Run, IsQuiet, item_numbered, Covers, HoldsLine, item_wanders, admits, HasThose, IsNextAt, IsNumberAt, Lacks, ListStands, RunStands}
+use Rattle.item_pick.specs.Settled.{ArePassed, AreSettled}
 use Rattle.item_pick.proofs.TableLaws.{covered_quiet, has_or_lacks, IsLaw, no_key, stays_quiet}
 
 -- an item that a run covers has no match up to the end of the run's places

@@ -1,15 +1,9 @@
 -- Walking down a stack, whose top is first.
-use Rattle.std.proofs.Common.{◌≡◌, ◌∙◌, sym, ap, subst, Bool, true, false, List, [], ◌∷◌, length}
-use Rattle.std.specs.Prelude.{Option, Some, ◌&&◌}
-use Rattle.std.specs.Option.{ForSome}
-use Rattle.syn_base.specs.declared.places.ItemId.{ItemId}
-use Rattle.paint_rules.specs.Frames.{Frame}
-use Rattle.paint_rules.specs.Rules.{Rules}
+use Rattle.item_pick.proofs.Common.{◌≡◌, ◌∙◌, sym, ap, subst, Bool, true, false, List, [], ◌∷◌, length, Option, Some, ◌&&◌, ForSome, ItemId, Frame, Rules, is_allowed_in, is_allowed, IsItem}
 use Rattle.paint_rules.specs.Close.{is_body}
-use Rattle.paint_rules.specs.Lists.{is_allowed_in}
-use Rattle.paint_rules.specs.Pick.{container_of, is_allowed}
+use Rattle.paint_rules.specs.Pick.{container_of}
 use Rattle.paint_rules.specs.States.{Fits}
-use Rattle.item_pick.specs.Standing.{is_clear, IsItem}
+use Rattle.item_pick.specs.Standing.{is_clear}
 
 -- what the top frame says of an item
 module _ (r : Rules) (stack : List Frame) (top : Frame) (below : List Frame) (is : stack ≡ top ∷ below) where

@@ -1,48 +1,18 @@
 -- What is kept says of an item, and what that means for picking.
-use Rattle.std.proofs.Common.{◌≡◌, ◌∙◌, refl, sym, ap, subst, arith, ℕ, zero, suc, ◌+◌, ◌-◌, ◌<◌, ◌≤◌, ◌⊎◌, inl, inr, Bool, true, false, List, [], ◌∷◌, ◌++◌, length, get_or}
-use Rattle.std.specs.Prelude.{IfSome, IsTrue, slice_get, Result, Ok, Err, IfOk, Option, Some, None, not, slice_index, ◌&&◌, ◌||◌, nat_lt, nat_eq, is_none, pos, ◌+ℤ◌}
-use Rattle.std.specs.List.{list_any}
-use Rattle.std.proofs.lemmas.Bool.{cases_lt}
-use Rattle.std.proofs.lemmas.List.Elements.{All-append, All-cons, All-nil}
+use Rattle.item_pick.proofs.Common.{◌≡◌, ◌∙◌, refl, sym, ap, subst, arith, ℕ, zero, suc, ◌+◌, ◌-◌, ◌<◌, ◌≤◌, ◌⊎◌, inl, inr, Bool, true, false, List, [], ◌∷◌, length, get_or, IfSome, slice_get, Result, Ok, Err, IfOk, Option, Some, None, not, ◌&&◌, ◌||◌, nat_lt, nat_eq, pos, ◌+ℤ◌, list_any, cases_lt, All-append, All-cons, All-nil, nat_tests, Looked, hull_of, ItemId, Place, PatternTree, Text, line_at, ItemKind, Keyword, Match, Region, Pattern, looked_first, Rules, item_of, no_externals, place_at, same_item, match_from, within_line, Sets, is_cheap_behind, fails, fails_at, fails_after, takes_first, key_numbered, key_of, Choice, Reach, Run, IsFutile, may_start_at, IsEarlier, IsNextItem, IsPassed, IsQuiet, item_numbered, Covers, HoldsLine, HoldsLines, IsIdle, IsLater, IsSettled, IsVainFrom, has_one_start, IsFirst, IsPatternOf, admits, is_free, idles_before, IsToldOfFirst, sits_by, some_idle, IsCheapWithin, IsMissed, IsReachOf, IsNextAt, IsNextIn, IsNumberAt, Lacks, LineStands, ListStands, RisesTo, RunStands, StaysOut, one_line}
+use Rattle.std.proofs.Common.{◌++◌}
+use Rattle.std.specs.Prelude.{IsTrue, slice_index, is_none}
 use Rattle.std.proofs.lemmas.List.Sorted.{IsNonDecreasingBy-push}
-use Rattle.std.proofs.lemmas.Bool.Decides.{nat_tests}
-use Rattle.syn_base.specs.declared.looked.Looked.{Looked}
-use Rattle.syn_base.specs.Looked.{hull_of}
-use Rattle.syn_base.specs.declared.places.ItemId.{ItemId}
-use Rattle.syn_base.specs.declared.places.Place.{Place}
 use Rattle.syn_base.specs.declared.want_of_memory.Memory.{Memory}
-use Rattle.vim_pattern.specs.Tree.{PatternTree}
-use Rattle.match_rules.specs.Ways.{Text, line_at}
-use Rattle.syntax_set.specs.declared.item.ItemKind.{ItemKind}
-use Rattle.syntax_set.specs.declared.item.ItemKind.TheVariants.{Keyword, Match, Region}
 use Rattle.syntax_set.specs.declared.item.Offset.{Offset}
-use Rattle.syntax_set.specs.declared.item.Pattern.{Pattern}
-use Rattle.paint_rules.specs.Painted.{looked_first}
-use Rattle.paint_rules.specs.Rules.{Rules, item_of, no_externals, place_at, same_item}
-use Rattle.paint_rules.specs.ItemMatch.{match_from}
-use Rattle.paint_rules.specs.Offsets.{within_line}
-use Rattle.char_class.specs.declared.sets.Sets.{Sets}
 use Rattle.match_rules.specs.Atoms.{has_keyword}
-use Rattle.pattern_screens.specs.Behind.{is_cheap_behind}
-use Rattle.pattern_screens.specs.Failing.{fails, fails_at}
-use Rattle.pattern_screens.specs.Following.{fails_after, takes_first}
-use Rattle.pattern_screens.specs.Keys.{is_first, key_numbered, key_of, last_of}
+use Rattle.pattern_screens.specs.Keys.{is_first, last_of}
 use Rattle.pattern_screens.specs.declared.key.Key.{Key}
 use Rattle.std.proofs.lemmas.Bool.{and_parts as both_true}
-use Rattle.item_pick.specs.declared.choice.Choice.{Choice}
 use Rattle.item_pick.specs.declared.line_known.LineKnown.{LineKnown}
-use Rattle.item_pick.specs.declared.firsts.Reach.{Reach}
-use Rattle.item_pick.specs.declared.runs.Run.{Run}
-use Rattle.item_pick.specs.Attempts.{IsFutile}
-use Rattle.item_pick.specs.Columns.{may_start_at}
-use Rattle.item_pick.specs.Quiet.{IsEarlier, IsNextItem, IsPassed, IsQuiet, item_numbered}
-use Rattle.item_pick.specs.Runs.{Covers, TellsOf}
-use Rattle.item_pick.specs.Screens.{HoldsLine, HoldsLines, IsIdle, IsLater, IsSettled, IsVainFrom}
-use Rattle.item_pick.specs.Standing.{first_pattern, has_one_start, IsFirst, IsPatternOf}
-use Rattle.item_pick.specs.Started.{admits, is_free}
-use Rattle.item_pick.specs.Firsts.{idles_before, IsToldOfFirst, sits_by, some_idle}
-use Rattle.item_pick.specs.Tables.{IsAnchored, IsCheapWithin, IsEnough, IsMissed, IsReachOf, IsNextAt, IsNextIn, IsNumberAt, Lacks, LineStands, ListStands, passes, RisesTo, RunStands, StaysOut}
-use Rattle.syn_base.specs.Looked.{one_line}
+use Rattle.item_pick.specs.Runs.{TellsOf}
+use Rattle.item_pick.specs.Standing.{first_pattern}
+use Rattle.item_pick.specs.Tables.{IsAnchored, IsEnough, passes}
 use Rattle.item_pick.proofs.BehindLaws.{futile_vain}
 use Rattle.item_pick.proofs.MatchLaws.{no_start}
 use Rattle.item_pick.proofs.QuietLaws.{earlier}

@@ -1,17 +1,8 @@
 -- What is kept stays true where one part of it was made anew.
-use Rattle.std.specs.Prelude.{ℕ}
+use Rattle.item_pick.proofs.Common.{ℕ, AnswersStand, fails_at, fails_after, Rules, Reach, item_numbered, IsAt, first_asked, idles_before, rest_asked, AreTablesOf, IsReachOf, stays_out}
 use Rattle.slots.specs.declared.table.Table.{Table}
 use Rattle.region_ends.specs.declared.key_answers.KeyAnswers.{KeyAnswers}
-use Rattle.region_ends.specs.KeyAnswers.{AnswersStand}
-use Rattle.pattern_screens.specs.Failing.{fails_at}
-use Rattle.pattern_screens.specs.Following.{fails_after}
-use Rattle.paint_rules.specs.Rules.{Rules}
-use Rattle.item_pick.specs.declared.firsts.Reach.{Reach}
 use Rattle.item_pick.specs.declared.tables.Tables.{Tables}
-use Rattle.item_pick.specs.Quiet.{item_numbered}
-use Rattle.slots.specs.Entries.{IsAt}
-use Rattle.item_pick.specs.Firsts.{first_asked, idles_before, rest_asked}
-use Rattle.item_pick.specs.Tables.{AreTablesOf, IsReachOf, stays_out}
 
 module _ (r : Rules) (tables : Tables) (stands : AreTablesOf r tables) where
   pub with_outs : (outs : KeyAnswers) → AnswersStand (stays_out r) outs → AreTablesOf r (record tables { outs = outs })

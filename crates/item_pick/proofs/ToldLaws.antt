@@ -1,14 +1,9 @@
 -- What a step tells, where steps follow each other and where one stops.
-use Rattle.std.proofs.Common.{◌≡◌, ◌∙◌, sym, subst}
-use Rattle.std.specs.Prelude.{Some, Result, Ok, Err}
+use Rattle.item_pick.proofs.Common.{◌≡◌, ◌∙◌, sym, subst, Some, Result, Ok, Err, Looked, Painted, Done, Refused, looked_first, ◌>>=◌, Cause, goes_on, Stop, IsStop}
 use Rattle.std.specs.Result.{IsErrAnd}
-use Rattle.syn_base.specs.declared.looked.Looked.{Looked}
-use Rattle.paint_rules.specs.Painted.{Painted, Done, Refused, looked_first, ◌>>=◌}
-use Rattle.paint_rules.specs.Rules.{Cause}
-use Rattle.paint_rules.proofs.PaintedLaws.{first_bind, goes_on}
-use Rattle.item_pick.specs.declared.stop.Stop.{Stop}
+use Rattle.paint_rules.proofs.PaintedLaws.{first_bind}
 use Rattle.item_pick.specs.declared.stop.Stop.TheVariants.{TooCostly, Memory}
-use Rattle.item_pick.specs.Told.{IsStop, IsTold, IsToldAs}
+use Rattle.item_pick.specs.Told.{IsTold, IsToldAs}
 
 -- a step that stopped stops what would follow
 stops_by : {A B : Type 0} (stop : Stop) (m : Painted Cause A) (f : A → Painted Cause B) → IsStop stop m → IsStop stop (m >>= f)

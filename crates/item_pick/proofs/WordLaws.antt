@@ -1,10 +1,7 @@
 -- The items that words start are there.
-use Rattle.std.proofs.Common.{◌≡◌, sym, subst, ℕ, ◌<◌, Bool, List, [], ◌∷◌}
-use Rattle.std.specs.Prelude.{Result, Ok, Err, filter, reverse, IfOk}
-use Rattle.std.specs.List.{All}
-use Rattle.std.proofs.lemmas.List.{reverse-append}
-use Rattle.std.proofs.lemmas.List.Elements.{All-append, All-cons, All-filter, All-head, All-map, All-nil, All-tail}
-use Rattle.syn_base.specs.declared.places.ItemId.{ItemId}
+use Rattle.item_pick.proofs.Common.{◌≡◌, sym, subst, ℕ, ◌<◌, Bool, List, [], ◌∷◌, Result, Ok, Err, reverse, IfOk, All, reverse-append, All-append, All-cons, All-nil, ItemId}
+use Rattle.std.specs.Prelude.{filter}
+use Rattle.std.proofs.lemmas.List.Elements.{All-filter, All-head, All-map, All-tail}
 use Rattle.syn_base.specs.declared.want_of_memory.Memory.{Memory}
 use Rattle.keyword_table.specs.Candidates.{candidates, folded, has_fold, has_word, last_first}
 use Rattle.keyword_table.specs.ItemNumbers.{AreItemsBelow}

@@ -101,12 +101,8 @@ impl Tables {
         let Some(row) = self.row(choice, number) else {
             return false;
         };
-        let resting = row.resting.as_slice();
-        if resting.is_empty() {
-            return true;
-        }
         match line.number_behind(col) {
-            Some(behind) => self.are_idle(resting, behind),
+            Some(behind) => self.are_idle(row.resting.as_slice(), behind),
             None => false,
         }
     }

@@ -1,12 +1,5 @@
-use Rattle.std.proofs.Common.{sym, subst, reverse}
-use Rattle.std.specs.Prelude.{Bool, IfOk, Some}
-use Rattle.syn_base.specs.declared.looked.Looked.{Looked}
-use Rattle.paint_rules.specs.Painted.{looked_first}
-use Rattle.paint_rules.specs.Pick.{picked}
+use Rattle.item_pick.proofs.Common.{sym, subst, reverse, Bool, IfOk, Some, Looked, looked_first, picked, rules_in, IsPicked, here_at}
 use Rattle.region_ends.proofs.SearchLaws.{line_is}
-use Rattle.item_pick.specs.PartsSeen.{rules_in}
-use Rattle.item_pick.specs.Picks.{IsPicked}
-use Rattle.item_pick.specs.Started.{here_at}
 use Rattle.item_pick.proofs.asking.pick.Goals as goal
 
 pub pick-requires-clause-memory : goal.pick-requires-clause-memory

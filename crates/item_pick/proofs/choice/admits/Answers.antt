@@ -1,7 +1,4 @@
-use Rattle.std.proofs.Common.{◌<◌, length, sym, ap, ◌∙◌, subst}
-use Rattle.item_pick.specs.declared.choice.Choice.{Choice}
-use Rattle.item_pick.specs.PartsSeen.{rules_by}
-use Rattle.item_pick.specs.Started.{admits}
+use Rattle.item_pick.proofs.Common.{◌<◌, length, sym, ap, ◌∙◌, subst, Choice, rules_by, admits}
 use Rattle.item_pick.specs.Standing.{ChoiceFits}
 use Rattle.item_pick.proofs.NextLaws.{follows_next}
 use Rattle.item_pick.proofs.choice.admits.Goals as goal

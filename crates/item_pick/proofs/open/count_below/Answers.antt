@@ -1,5 +1,5 @@
-use Rattle.std.proofs.Common.{ℕ, get_or, arith, rules, of_calls}
-use Rattle.std.specs.Prelude.{nat_lt}
+use Rattle.item_pick.proofs.Common.{ℕ, get_or, arith, rules, nat_lt}
+use Rattle.std.proofs.Common.{of_calls}
 use Rattle.std.proofs.lemmas.Fn.{always_returns_same}
 use Rattle.std.proofs.lemmas.List.Sorted.{IsPartitionedBy-ltb}
 use Rattle.item_pick.proofs.TableLaws.{is_below, isnt_below}

@@ -1,5 +1,4 @@
-use Rattle.std.proofs.Common.{subst, sym}
-use Rattle.item_pick.specs.Tables.{RowStands}
+use Rattle.item_pick.proofs.Common.{subst, sym, RowStands}
 use Rattle.item_pick.proofs.tables.row_at.Goals as goal
 
 pub returns-then-row-number-clause-stands : goal.returns-then-row-number-clause-stands

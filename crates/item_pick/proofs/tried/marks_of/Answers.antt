@@ -1,4 +1,4 @@
-use Rattle.item_pick.specs.Quiet.{item_numbered}
+use Rattle.item_pick.proofs.Common.{item_numbered}
 use Rattle.item_pick.proofs.ListLaws.{one_more}
 use Rattle.item_pick.proofs.tried.marks_of.Goals as goal
 

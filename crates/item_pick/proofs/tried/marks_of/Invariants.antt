@@ -1,4 +1,4 @@
-use Rattle.std.specs.Prelude.{reverse, take}
+use Rattle.item_pick.proofs.Common.{reverse, take}
 use Rattle.item_pick.specs.Marks.{AreMarks}
 use Rattle.item_pick.proofs.tried.marks_of.Given as goal
 

@@ -1,7 +1,4 @@
-use Rattle.std.proofs.Common.{◌≡◌, ◌∙◌, sym, subst, below_more, arith, true}
-use Rattle.std.proofs.lemmas.Option.{get_or_from_slice_get, slice_get_within}
-use Rattle.syntax_set.specs.declared.item.Pattern.{Pattern}
-use Rattle.item_pick.specs.Tables.{is_screened}
+use Rattle.item_pick.proofs.Common.{◌≡◌, ◌∙◌, sym, subst, below_more, arith, true, get_or_from_slice_get, slice_get_within, Pattern, is_screened}
 use Rattle.item_pick.proofs.asked.Asked.are_screened.Goals as goal
 
 pub loop-pattern-preserved : goal.loop-pattern-preserved

@@ -1,7 +1,4 @@
-use Rattle.std.proofs.Common.{◌≡◌, ◌<◌, ℕ, true}
-use Rattle.std.specs.Prelude.{Some, slice_get}
-use Rattle.syntax_set.specs.declared.item.Pattern.{Pattern}
-use Rattle.item_pick.specs.Tables.{is_screened}
+use Rattle.item_pick.proofs.Common.{◌≡◌, ◌<◌, ℕ, true, Some, slice_get, Pattern, is_screened}
 use Rattle.item_pick.proofs.asked.Asked.are_screened.Given as goal
 
 -- the patterns before are screened

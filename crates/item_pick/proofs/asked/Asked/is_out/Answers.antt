@@ -1,7 +1,4 @@
-use Rattle.std.proofs.Common.{◌∙◌, ap}
-use Rattle.std.specs.Prelude.{Some, Bool}
-use Rattle.item_pick.specs.PartsSeen.{rules_in}
-use Rattle.item_pick.specs.Tables.{stays_out}
+use Rattle.item_pick.proofs.Common.{◌∙◌, ap, Some, Bool, rules_in, stays_out}
 use Rattle.item_pick.proofs.KeptLaws.{out_by, out_told}
 use Rattle.item_pick.proofs.asked.Asked.is_out.Goals as goal
 

@@ -1,5 +1,4 @@
-use Rattle.std.proofs.Common.{◌∙◌, sym}
-use Rattle.item_pick.specs.PartsSeen.{rules_in}
+use Rattle.item_pick.proofs.Common.{◌∙◌, sym, rules_in}
 use Rattle.item_pick.proofs.TableLaws.{enough_by}
 use Rattle.item_pick.proofs.asked.Asked.least_floor.Goals as goal
 

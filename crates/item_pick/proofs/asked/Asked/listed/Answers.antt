@@ -1,5 +1,4 @@
-use Rattle.std.proofs.Common.{below_more, arith, subst, sym}
-use Rattle.item_pick.specs.Tables.{RisesTo}
+use Rattle.item_pick.proofs.Common.{below_more, arith, subst, sym, RisesTo}
 use Rattle.item_pick.proofs.TableLaws.{none_rises, rises_on}
 use Rattle.item_pick.proofs.asked.Asked.listed.Goals as goal
 

@@ -1,8 +1,4 @@
-use Rattle.std.proofs.Common.{◌≡◌, ◌<◌, ℕ, true}
-use Rattle.item_pick.specs.PartsSeen.{rules_in}
-use Rattle.item_pick.specs.Quiet.{item_numbered}
-use Rattle.item_pick.specs.Started.{admits}
-use Rattle.item_pick.specs.Tables.{Lacks, RisesTo, StaysOut}
+use Rattle.item_pick.proofs.Common.{◌≡◌, ◌<◌, ℕ, true, rules_in, item_numbered, admits, Lacks, RisesTo, StaysOut}
 use Rattle.item_pick.proofs.asked.Asked.listed.Given as goal
 
 -- the items before are on the list, or stay out

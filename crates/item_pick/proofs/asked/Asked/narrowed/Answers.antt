@@ -1,7 +1,4 @@
-use Rattle.std.proofs.Common.{◌<◌, ◌≤◌, ◌-◌, ℕ, List, get_or, length, below_more, arith, ap, subst}
-use Rattle.item_pick.specs.PartsSeen.{rules_in}
-use Rattle.item_pick.specs.Quiet.{item_numbered}
-use Rattle.item_pick.specs.Tables.{Lacks, ListStands, RisesTo, StaysOut}
+use Rattle.item_pick.proofs.Common.{◌<◌, ◌≤◌, ◌-◌, ℕ, List, get_or, length, below_more, arith, ap, subst, rules_in, item_numbered, Lacks, ListStands, RisesTo, StaysOut}
 use Rattle.item_pick.proofs.TableLaws.{narrowed, rises_on}
 use Rattle.item_pick.proofs.asked.Asked.narrowed.Goals as goal
 

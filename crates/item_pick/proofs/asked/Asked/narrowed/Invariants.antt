@@ -1,8 +1,4 @@
-use Rattle.std.proofs.Common.{◌<◌, ◌≤◌, ℕ, get_or, length}
-use Rattle.item_pick.specs.PartsSeen.{rules_in}
-use Rattle.item_pick.specs.Quiet.{item_numbered}
-use Rattle.region_ends.specs.KeyAnswers.{AnswersStand}
-use Rattle.item_pick.specs.Tables.{Lacks, RisesTo, stays_out, StaysOut}
+use Rattle.item_pick.proofs.Common.{◌<◌, ◌≤◌, ℕ, get_or, length, rules_in, item_numbered, AnswersStand, Lacks, RisesTo, stays_out, StaysOut}
 use Rattle.item_pick.proofs.asked.Asked.narrowed.Given as goal
 
 -- those before are on the list, or stay out

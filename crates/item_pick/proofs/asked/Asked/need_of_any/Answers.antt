@@ -1,7 +1,4 @@
-use Rattle.std.proofs.Common.{◌∙◌, arith, below_more, subst, sym}
-use Rattle.std.proofs.lemmas.Option.{get_or_from_slice_get, slice_get_within}
-use Rattle.syntax_set.specs.declared.item.Pattern.{Pattern}
-use Rattle.pattern_needs.specs.LineNeeds.{IsLineNeedOf}
+use Rattle.item_pick.proofs.Common.{◌∙◌, arith, below_more, subst, sym, get_or_from_slice_get, slice_get_within, Pattern, IsLineNeedOf}
 use Rattle.item_pick.proofs.asked.Asked.need_of_any.Goals as goal
 
 pub loop-pattern-preserved : goal.loop-pattern-preserved

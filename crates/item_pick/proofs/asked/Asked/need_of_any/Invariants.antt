@@ -1,6 +1,4 @@
-use Rattle.std.proofs.Common.{◌≡◌, ◌<◌, ℕ, Some, slice_get}
-use Rattle.syntax_set.specs.declared.item.Pattern.{Pattern}
-use Rattle.pattern_needs.specs.LineNeeds.{IsLineNeedOf}
+use Rattle.item_pick.proofs.Common.{◌≡◌, ◌<◌, ℕ, Some, slice_get, Pattern, IsLineNeedOf}
 use Rattle.item_pick.proofs.asked.Asked.need_of_any.Given as goal
 
 -- what it says is needed by the patterns before

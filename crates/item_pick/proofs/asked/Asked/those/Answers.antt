@@ -1,5 +1,4 @@
-use Rattle.std.proofs.Common.{below_more, arith}
-use Rattle.item_pick.specs.PartsSeen.{rules_in}
+use Rattle.item_pick.proofs.Common.{below_more, arith, rules_in}
 use Rattle.item_pick.proofs.SettledLaws.{has_those}
 use Rattle.item_pick.proofs.asked.Asked.those.Goals as goal
 

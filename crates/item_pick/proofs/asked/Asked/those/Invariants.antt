@@ -1,7 +1,4 @@
-use Rattle.std.proofs.Common.{◌≡◌, ◌<◌, ℕ, get_or, length}
-use Rattle.item_pick.specs.PartsSeen.{rules_in}
-use Rattle.item_pick.specs.Settled.{item_wanders}
-use Rattle.item_pick.specs.Tables.{Lacks}
+use Rattle.item_pick.proofs.Common.{◌≡◌, ◌<◌, ℕ, get_or, length, rules_in, item_wanders, Lacks}
 use Rattle.item_pick.proofs.asked.Asked.those.Given as goal
 
 -- those of the items before are on the list

@@ -1,10 +1,6 @@
-use Rattle.std.proofs.Common.{◌≡◌, ◌+◌, ap, arith, length, subst, sym, ℕ, List, true}
-use Rattle.std.specs.List.{All}
-use Rattle.std.proofs.lemmas.Result.{IfOk-weaker}
+use Rattle.item_pick.proofs.Common.{◌≡◌, ◌+◌, ap, arith, length, subst, sym, ℕ, List, true, All, IfOk-weaker, line_at, Sets}
 use Rattle.pattern_needs.specs.Held.{holds}
-use Rattle.match_rules.specs.Ways.{line_at}
 use Rattle.pattern_screens.specs.Keys.{AreNumbers}
-use Rattle.char_class.specs.declared.sets.Sets.{Sets}
 use Rattle.item_pick.proofs.line_known.LineKnown.enter.Goals as goal
 
 pub returns : goal.returns

@@ -1,8 +1,4 @@
-use Rattle.slots.specs.Entries.{Has}
-use Rattle.slots.proofs.EntryLaws.{all_still}
-use Rattle.std.proofs.Common.{arith}
-use Rattle.item_pick.specs.Quiet.{item_numbered}
-use Rattle.item_pick.specs.Tables.{IsBarren, RunStands}
+use Rattle.item_pick.proofs.Common.{Has, all_still, arith, item_numbered, IsBarren, RunStands}
 use Rattle.item_pick.proofs.LineLaws.{whole_barren}
 use Rattle.item_pick.proofs.line_known.LineKnown.keep.Goals as goal
 

@@ -1,9 +1,5 @@
-use Rattle.std.proofs.Common.{ℕ}
-use Rattle.std.specs.List.{All}
-use Rattle.match_rules.specs.Ways.{Text}
+use Rattle.item_pick.proofs.Common.{ℕ, All, Text, rules_in, IsWanted, LineStands}
 use Rattle.item_pick.specs.declared.parts.Parts.{Parts}
-use Rattle.item_pick.specs.PartsSeen.{rules_in}
-use Rattle.item_pick.specs.Tables.{IsWanted, LineStands}
 use Rattle.item_pick.proofs.line_known.LineKnown.note_all_lacking.Given as goal
 
 abbrev pub invariant-loop-one : goal.invariant-loop-one

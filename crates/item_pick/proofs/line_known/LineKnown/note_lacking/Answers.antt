@@ -1,11 +1,5 @@
-use Rattle.std.proofs.Common.{◌≡◌, ℕ, arith, length, subst, sym}
-use Rattle.slots.specs.Entries.{Has}
-use Rattle.slots.proofs.EntryLaws.{all_still}
-use Rattle.match_rules.specs.Ways.{line_at}
+use Rattle.item_pick.proofs.Common.{◌≡◌, ℕ, arith, length, subst, sym, Has, all_still, line_at, rules_in, item_numbered, IsBarren}
 use Rattle.pattern_needs.specs.LineNeeds.{AreHeld}
-use Rattle.item_pick.specs.PartsSeen.{rules_in}
-use Rattle.item_pick.specs.Quiet.{item_numbered}
-use Rattle.item_pick.specs.Tables.{IsBarren}
 use Rattle.item_pick.proofs.LineLaws.{lacked_barren}
 use Rattle.item_pick.proofs.NeedLaws.{futile_lacked}
 use Rattle.item_pick.proofs.line_known.LineKnown.note_lacking.Goals as goal

@@ -1,4 +1,4 @@
-use Rattle.item_pick.specs.PartsSeen.{rules_in}
+use Rattle.item_pick.proofs.Common.{rules_in}
 use Rattle.item_pick.proofs.line_known.LineKnown.run_at.Goals as goal
 
 pub returns-in-Some-clause-stands : goal.returns-in-Some-clause-stands

@@ -1,5 +1,4 @@
-use Rattle.std.proofs.Common.{arith, refl}
-use Rattle.item_pick.specs.Quiet.{item_numbered}
+use Rattle.item_pick.proofs.Common.{arith, refl, item_numbered}
 use Rattle.item_pick.proofs.SettledLaws.{covered_on}
 use Rattle.item_pick.proofs.line_known.LineKnown.settled_to.Goals as goal
 

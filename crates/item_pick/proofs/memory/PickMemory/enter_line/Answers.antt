@@ -1,7 +1,4 @@
-use Rattle.std.proofs.Common.{refl, subst, sym}
-use Rattle.std.specs.List.{All}
-use Rattle.item_pick.specs.PartsSeen.{rules_in}
-use Rattle.item_pick.specs.Tables.{IsWanted}
+use Rattle.item_pick.proofs.Common.{refl, subst, sym, All, rules_in, IsWanted}
 use Rattle.item_pick.proofs.LineLaws.{ok_always}
 use Rattle.item_pick.proofs.memory.PickMemory.enter_line.Goals as goal
 

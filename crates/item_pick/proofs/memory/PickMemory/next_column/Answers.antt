@@ -1,5 +1,4 @@
-use Rattle.std.proofs.Common.{arith, refl}
-use Rattle.item_pick.specs.PartsSeen.{rules_by}
+use Rattle.item_pick.proofs.Common.{arith, refl, rules_by}
 use Rattle.item_pick.proofs.FutileLaws.{futile_after, futile_by}
 use Rattle.item_pick.proofs.LineLaws.{barren_later}
 use Rattle.item_pick.proofs.TableLaws.{later_by, run_goes_on}

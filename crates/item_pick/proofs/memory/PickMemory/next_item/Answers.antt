@@ -1,5 +1,4 @@
-use Rattle.std.proofs.Common.{reverse}
-use Rattle.item_pick.specs.PartsSeen.{rules_by}
+use Rattle.item_pick.proofs.Common.{reverse, rules_by}
 use Rattle.item_pick.proofs.TableLaws.{next_ok}
 use Rattle.item_pick.proofs.memory.PickMemory.next_item.Goals as goal
 

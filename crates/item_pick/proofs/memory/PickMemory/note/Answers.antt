@@ -1,5 +1,4 @@
-use Rattle.std.proofs.Common.{arith}
-use Rattle.item_pick.specs.PartsSeen.{rules_by}
+use Rattle.item_pick.proofs.Common.{arith, rules_by}
 use Rattle.item_pick.proofs.TableLaws.{run_and}
 use Rattle.item_pick.proofs.memory.PickMemory.note.Goals as goal
 

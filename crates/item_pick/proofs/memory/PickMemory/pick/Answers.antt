@@ -1,13 +1,4 @@
-use Rattle.std.proofs.Common.{subst, reverse, List}
-use Rattle.std.specs.Prelude.{IfOk, Some}
-use Rattle.std.proofs.lemmas.Result.{IfOk-weaker}
-use Rattle.syn_base.specs.declared.places.ItemId.{ItemId}
-use Rattle.paint_rules.specs.Painted.{Painted, looked_first}
-use Rattle.paint_rules.specs.Rules.{Cause}
-use Rattle.paint_rules.specs.Pick.{Picked, picked}
-use Rattle.item_pick.specs.PartsSeen.{rules_by}
-use Rattle.item_pick.specs.Picks.{IsPicked}
-use Rattle.item_pick.specs.Started.{here_at, standing_at}
+use Rattle.item_pick.proofs.Common.{subst, reverse, List, IfOk, Some, IfOk-weaker, ItemId, Painted, looked_first, Cause, Picked, picked, rules_by, IsPicked, here_at, standing_at}
 use Rattle.item_pick.proofs.memory.PickMemory.pick.Goals as goal
 
 pub returns-clause-picked : goal.returns-clause-picked

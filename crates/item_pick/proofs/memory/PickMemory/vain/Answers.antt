@@ -1,9 +1,4 @@
-use Rattle.std.proofs.Common.{◌≡◌, ◌∙◌, sym, arith, subst, true}
-use Rattle.std.specs.Prelude.{IfSome, Option, ℕ}
-use Rattle.item_pick.specs.Screens.{IsVainFrom}
-use Rattle.item_pick.specs.Tables.{IsCheapWithin}
-use Rattle.item_pick.specs.Columns.{may_start_at}
-use Rattle.item_pick.specs.PartsSeen.{rules_by}
+use Rattle.item_pick.proofs.Common.{◌≡◌, ◌∙◌, sym, arith, subst, true, IfSome, Option, ℕ, IsVainFrom, IsCheapWithin, may_start_at, rules_by}
 use Rattle.item_pick.proofs.BehindLaws.{vain_behind}
 use Rattle.item_pick.proofs.FutileLaws.{futile_after, futile_behind, futile_by}
 use Rattle.item_pick.proofs.TableLaws.{missed_vain}

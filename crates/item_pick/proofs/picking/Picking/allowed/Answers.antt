@@ -1,8 +1,4 @@
-use Rattle.std.proofs.Common.{◌∙◌, sym, ap, subst, reverse}
-use Rattle.std.specs.Option.{ForSome}
-use Rattle.paint_rules.specs.Lists.{is_allowed_in}
-use Rattle.item_pick.specs.PartsSeen.{rules_by}
-use Rattle.item_pick.specs.Standing.{IsItem}
+use Rattle.item_pick.proofs.Common.{◌∙◌, sym, ap, subst, reverse, ForSome, is_allowed_in, rules_by, IsItem}
 use Rattle.item_pick.proofs.StackLaws.{allowed_within, container_fits, not_allowed}
 use Rattle.item_pick.proofs.picking.Picking.allowed.Goals as goal
 

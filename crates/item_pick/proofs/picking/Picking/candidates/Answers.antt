@@ -1,4 +1,4 @@
-use Rattle.std.proofs.Common.{length}
+use Rattle.item_pick.proofs.Common.{length}
 use Rattle.item_pick.proofs.WordLaws.{candidates_there}
 use Rattle.item_pick.proofs.picking.Picking.candidates.Goals as goal
 

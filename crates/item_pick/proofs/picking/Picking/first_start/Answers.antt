@@ -1,7 +1,4 @@
-use Rattle.std.proofs.Common.{◌≡◌, ◌∙◌, ◌-◌, suc, length, reverse, arith}
-use Rattle.item_pick.specs.PartsSeen.{rules_by}
-use Rattle.item_pick.specs.Started.{start_if_free}
-use Rattle.item_pick.specs.Quiet.{item_numbered}
+use Rattle.item_pick.proofs.Common.{◌≡◌, ◌∙◌, ◌-◌, suc, length, reverse, arith, rules_by, start_if_free, item_numbered}
 use Rattle.item_pick.proofs.FoundLaws.{item_none, item_some, item_stops, items_skip}
 use Rattle.item_pick.proofs.ScreenLaws.{still_held}
 use Rattle.item_pick.proofs.ToldLaws.{stop_by, exits}

@@ -1,9 +1,4 @@
-use Rattle.std.proofs.Common.{◌≡◌, ◌≤◌, length, reverse}
-use Rattle.item_pick.specs.Valid.{MayAsk}
-use Rattle.item_pick.specs.PartsSeen.{rules_by}
-use Rattle.item_pick.specs.Started.{start_if_free}
-use Rattle.paint_rules.specs.Pick.{items_below}
-use Rattle.item_pick.specs.Screens.{HoldsLine}
+use Rattle.item_pick.proofs.Common.{◌≡◌, ◌≤◌, length, reverse, MayAsk, rules_by, start_if_free, items_below, HoldsLine}
 use Rattle.item_pick.proofs.FoundLaws.{found_after}
 use Rattle.item_pick.proofs.picking.Picking.first_start.Given as goal
 

@@ -1,12 +1,6 @@
-use Rattle.std.proofs.Common.{◌≡◌, ◌∙◌, ℕ, List, [], reverse, false, sym, subst, eqb→eq}
-use Rattle.std.specs.Prelude.{nat_eq}
+use Rattle.item_pick.proofs.Common.{◌≡◌, ◌∙◌, ℕ, List, [], reverse, false, sym, subst, nat_eq, ItemId, begins_word, place_at, rules_by, IsQuietAt, IsNextAt}
+use Rattle.std.proofs.Common.{eqb→eq}
 use Rattle.std.proofs.lemmas.Float.{T_from_true}
-use Rattle.syn_base.specs.declared.places.ItemId.{ItemId}
-use Rattle.keyword_table.specs.Words.{begins_word}
-use Rattle.paint_rules.specs.Rules.{place_at}
-use Rattle.item_pick.specs.PartsSeen.{rules_by}
-use Rattle.item_pick.specs.QuietPlaces.{IsQuietAt}
-use Rattle.item_pick.specs.Tables.{IsNextAt}
 use Rattle.item_pick.proofs.QuietPlaceLaws.{none_starts, row_empty}
 use Rattle.item_pick.proofs.SettledLaws.{none_left}
 use Rattle.item_pick.proofs.picking.Picking.is_quiet.Goals as goal

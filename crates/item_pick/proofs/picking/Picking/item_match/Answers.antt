@@ -1,6 +1,4 @@
-use Rattle.std.proofs.Common.{◌≡◌, ◌≤◌, ◌+◌, ◌∙◌, suc, arith}
-use Rattle.paint_rules.specs.ItemMatch.{match_from}
-use Rattle.item_pick.specs.PartsSeen.{rules_by}
+use Rattle.item_pick.proofs.Common.{◌≡◌, ◌≤◌, ◌+◌, ◌∙◌, suc, arith, match_from, rules_by}
 use Rattle.item_pick.proofs.FoundLaws.{column_none, column_some, column_stops, skip_to}
 use Rattle.item_pick.proofs.MatchLaws.{match_begins, match_ends}
 use Rattle.item_pick.proofs.ToldLaws.{stop_by, told_stop}

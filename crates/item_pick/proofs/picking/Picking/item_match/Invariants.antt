@@ -1,10 +1,4 @@
-use Rattle.std.proofs.Common.{◌≡◌, ◌≤◌, ◌-◌, suc}
-use Rattle.std.specs.Prelude.{Some}
-use Rattle.paint_rules.specs.Painted.{looked_first}
-use Rattle.paint_rules.specs.ItemMatch.{item_match, match_from}
-use Rattle.item_pick.specs.Valid.{MayAsk}
-use Rattle.item_pick.specs.PartsSeen.{rules_by}
-use Rattle.item_pick.specs.Screens.{HoldsLine}
+use Rattle.item_pick.proofs.Common.{◌≡◌, ◌≤◌, ◌-◌, suc, Some, looked_first, item_match, match_from, MayAsk, rules_by, HoldsLine}
 use Rattle.item_pick.proofs.FoundLaws.{from_column}
 use Rattle.item_pick.proofs.picking.Picking.item_match.Given as goal
 

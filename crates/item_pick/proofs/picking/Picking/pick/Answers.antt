@@ -1,5 +1,4 @@
-use Rattle.std.proofs.Common.{◌∙◌, sym, reverse}
-use Rattle.item_pick.specs.PartsSeen.{rules_by}
+use Rattle.item_pick.proofs.Common.{◌∙◌, sym, reverse, rules_by}
 use Rattle.item_pick.proofs.ToldLaws.{told_by}
 use Rattle.item_pick.proofs.PickLaws.{wait_met, wait_over}
 use Rattle.item_pick.proofs.ScreenLaws.{still_held}

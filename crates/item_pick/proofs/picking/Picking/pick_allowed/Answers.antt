@@ -1,8 +1,4 @@
-use Rattle.std.proofs.Common.{◌∙◌, ap, reverse}
-use Rattle.std.specs.Prelude.{Some}
-use Rattle.paint_rules.specs.Painted.{looked_first}
-use Rattle.paint_rules.proofs.PaintedLaws.{goes_on}
-use Rattle.item_pick.specs.PartsSeen.{rules_by}
+use Rattle.item_pick.proofs.Common.{◌∙◌, ap, reverse, Some, looked_first, goes_on, rules_by}
 use Rattle.item_pick.proofs.ToldLaws.{stops, stop_by, exits}
 use Rattle.item_pick.proofs.PickLaws.{allowed_as}
 use Rattle.item_pick.proofs.picking.Picking.pick_allowed.Goals as goal

@@ -1,7 +1,4 @@
-use Rattle.std.proofs.Common.{◌≤◌, ℕ, reverse, below_more, arith}
-use Rattle.paint_rules.specs.Rules.{place_at}
-use Rattle.item_pick.specs.PartsSeen.{rules_by}
-use Rattle.item_pick.specs.QuietPlaces.{IsQuietAt}
+use Rattle.item_pick.proofs.Common.{◌≤◌, ℕ, reverse, below_more, arith, place_at, rules_by, IsQuietAt}
 use Rattle.item_pick.proofs.QuietPlaceLaws.{nothing_picked}
 use Rattle.item_pick.proofs.picking.Picking.quiet_until.Goals as goal
 

@@ -1,8 +1,4 @@
-use Rattle.std.proofs.Common.{◌≤◌, ◌<◌, ℕ}
-use Rattle.paint_rules.specs.Rules.{place_at}
-use Rattle.item_pick.specs.PartsSeen.{rules_by}
-use Rattle.item_pick.specs.QuietPlaces.{IsQuietAt}
-use Rattle.item_pick.specs.Valid.{MayAsk}
+use Rattle.item_pick.proofs.Common.{◌≤◌, ◌<◌, ℕ, place_at, rules_by, IsQuietAt, MayAsk}
 use Rattle.item_pick.proofs.picking.Picking.quiet_until.Given as goal
 
 -- the columns before are quiet

@@ -1,5 +1,4 @@
-use Rattle.std.proofs.Common.{reverse}
-use Rattle.item_pick.specs.PartsSeen.{rules_by}
+use Rattle.item_pick.proofs.Common.{reverse, rules_by}
 use Rattle.item_pick.proofs.PickLaws.{no_word}
 use Rattle.item_pick.proofs.picking.Picking.start_among.Goals as goal
 

@@ -1,8 +1,4 @@
-use Rattle.std.proofs.Common.{◌≡◌, ◌∙◌, sym, ap}
-use Rattle.syntax_set.specs.declared.item.Item.{Item}
-use Rattle.syntax_set.specs.declared.item.ItemKind.TheVariants.{Region}
-use Rattle.paint_rules.specs.Rules.{item_of}
-use Rattle.item_pick.specs.PartsSeen.{rules_by}
+use Rattle.item_pick.proofs.Common.{◌≡◌, ◌∙◌, sym, ap, Item, Region, item_of, rules_by}
 use Rattle.item_pick.proofs.picking.Picking.start_by.Goals as goal
 
 pub returns-in-Region-clause-told : goal.returns-in-Region-clause-told

@@ -1,7 +1,4 @@
-use Rattle.std.proofs.Common.{◌≡◌, ◌∙◌, ◌-◌, suc, refl, arith}
-use Rattle.std.proofs.Math.Seq.{take-length}
-use Rattle.item_pick.specs.PartsSeen.{rules_by}
-use Rattle.item_pick.specs.Started.{start_at}
+use Rattle.item_pick.proofs.Common.{◌≡◌, ◌∙◌, ◌-◌, suc, refl, arith, take-length, rules_by, start_at}
 use Rattle.item_pick.proofs.FoundLaws.{below_none, below_some, below_stops}
 use Rattle.item_pick.proofs.ScreenLaws.{still_held}
 use Rattle.item_pick.proofs.ToldLaws.{stop_by, exits}

@@ -1,8 +1,4 @@
-use Rattle.std.proofs.Common.{◌≡◌, ◌≤◌, length, reverse}
-use Rattle.item_pick.specs.Valid.{MayAsk}
-use Rattle.item_pick.specs.PartsSeen.{rules_by}
-use Rattle.item_pick.specs.Started.{start_at}
-use Rattle.item_pick.specs.Screens.{HoldsLine}
+use Rattle.item_pick.proofs.Common.{◌≡◌, ◌≤◌, length, reverse, MayAsk, rules_by, start_at, HoldsLine}
 use Rattle.item_pick.proofs.FoundLaws.{found_after, below}
 use Rattle.item_pick.proofs.picking.Picking.start_of_region.Given as goal
 

@@ -1,4 +1,4 @@
-use Rattle.std.proofs.Common.{below_more, arith}
+use Rattle.item_pick.proofs.Common.{below_more, arith}
 use Rattle.item_pick.proofs.runs.Search.settled_until.Goals as goal
 
 pub loop-id-preserved : goal.loop-id-preserved

@@ -1,9 +1,4 @@
-use Rattle.std.proofs.Common.{◌<◌, ◌≤◌, ℕ, get_or}
-use Rattle.match_rules.specs.Ways.{Text}
-use Rattle.paint_rules.specs.Rules.{Rules, place_at}
-use Rattle.item_pick.specs.Quiet.{IsQuiet, item_numbered}
-use Rattle.item_pick.specs.Screens.{HoldsLine}
-use Rattle.item_pick.specs.Tables.{LineStands}
+use Rattle.item_pick.proofs.Common.{◌<◌, ◌≤◌, ℕ, get_or, Text, Rules, place_at, IsQuiet, item_numbered, HoldsLine, LineStands}
 use Rattle.item_pick.proofs.runs.Search.settled_until.Given as goal
 
 -- those before have no match up to the end

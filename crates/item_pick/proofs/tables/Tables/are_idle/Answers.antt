@@ -1,4 +1,4 @@
-use Rattle.std.proofs.Common.{below_more, arith}
+use Rattle.item_pick.proofs.Common.{below_more, arith}
 use Rattle.item_pick.proofs.tables.Tables.are_idle.Goals as goal
 
 pub loop-id-preserved : goal.loop-id-preserved

@@ -1,7 +1,4 @@
-use Rattle.std.proofs.Common.{◌≡◌, ◌<◌, ℕ, get_or, true}
-use Rattle.paint_rules.specs.Rules.{Rules}
-use Rattle.item_pick.specs.Firsts.{idles_before}
-use Rattle.item_pick.specs.Tables.{AreTablesOf}
+use Rattle.item_pick.proofs.Common.{◌≡◌, ◌<◌, ℕ, get_or, true, Rules, idles_before, AreTablesOf}
 use Rattle.item_pick.proofs.tables.Tables.are_idle.Given as goal
 
 -- the items before are idle

@@ -1,8 +1,4 @@
-use Rattle.std.proofs.Common.{◌≡◌, ◌<◌, ℕ, length, subst, arith, inl, inr}
-use Rattle.std.proofs.lemmas.Bool.{cases_lt}
-use Rattle.match_rules.specs.Ways.{line_at}
-use Rattle.item_pick.specs.PartsSeen.{rules_by}
-use Rattle.item_pick.specs.Tables.{IsMissed}
+use Rattle.item_pick.proofs.Common.{◌≡◌, ◌<◌, ℕ, length, subst, arith, inl, inr, cases_lt, line_at, rules_by, IsMissed}
 use Rattle.item_pick.proofs.TableLaws.{anchored_missed}
 use Rattle.item_pick.proofs.tables.Tables.first_open.Goals as goal
 

@@ -1,7 +1,4 @@
-use Rattle.std.proofs.Common.{◌<◌, ◌≤◌, ℕ}
-use Rattle.match_rules.specs.Ways.{Text, line_at}
-use Rattle.item_pick.specs.PartsSeen.{rules_in}
-use Rattle.item_pick.specs.Tables.{AreTablesOf, IsMissed, LineStands}
+use Rattle.item_pick.proofs.Common.{◌<◌, ◌≤◌, ℕ, Text, line_at, rules_in, AreTablesOf, IsMissed, LineStands}
 use Rattle.item_pick.proofs.tables.Tables.first_open.Given as goal
 
 -- the columns before are missed

@@ -1,7 +1,4 @@
-use Rattle.std.proofs.Common.{◌≡◌, ◌+◌, rules, subst}
-use Rattle.match_rules.specs.Ways.{line_at}
-use Rattle.item_pick.specs.PartsSeen.{rules_by}
-use Rattle.item_pick.specs.Tables.{IsNumberAt}
+use Rattle.item_pick.proofs.Common.{◌≡◌, ◌+◌, rules, subst, line_at, rules_by, IsNumberAt}
 use Rattle.item_pick.proofs.TableLaws.{missed_after, vain_is_missed}
 use Rattle.item_pick.proofs.tables.Tables.is_missed.Goals as goal
 

@@ -1,7 +1,4 @@
-use Rattle.std.proofs.Common.{inr}
-use Rattle.paint_rules.specs.Rules.{place_at}
-use Rattle.item_pick.specs.PartsSeen.{rules_by}
-use Rattle.item_pick.specs.Quiet.{item_numbered}
+use Rattle.item_pick.proofs.Common.{inr, place_at, rules_by, item_numbered}
 use Rattle.item_pick.proofs.FutileLaws.{futile_after}
 use Rattle.item_pick.proofs.TableLaws.{idle_quiet}
 use Rattle.item_pick.proofs.tables.Tables.is_over.Goals as goal

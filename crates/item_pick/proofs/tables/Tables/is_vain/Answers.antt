@@ -1,9 +1,4 @@
-use Rattle.std.proofs.Common.{◌∙◌, ap}
-use Rattle.std.specs.Prelude.{Some, Bool}
-use Rattle.syntax_set.specs.declared.item.Item.{Item}
-use Rattle.item_pick.specs.PartsSeen.{rules_in}
-use Rattle.pattern_screens.specs.Failing.{fails_at}
-use Rattle.item_pick.specs.Firsts.{first_asked}
+use Rattle.item_pick.proofs.Common.{◌∙◌, ap, Some, Bool, Item, rules_in, fails_at, first_asked}
 use Rattle.item_pick.proofs.KeptLaws.{first_by, first_told}
 use Rattle.item_pick.proofs.TablesKept.{with_vains}
 use Rattle.item_pick.proofs.tables.Tables.is_vain.Goals as goal

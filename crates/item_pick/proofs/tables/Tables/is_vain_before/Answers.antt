@@ -1,9 +1,4 @@
-use Rattle.std.proofs.Common.{◌≡◌, ◌∙◌, ap, sym, true, false}
-use Rattle.std.specs.Prelude.{Some, Bool, ◌&&◌}
-use Rattle.syntax_set.specs.declared.item.Item.{Item}
-use Rattle.pattern_screens.specs.Following.{fails_after}
-use Rattle.item_pick.specs.PartsSeen.{rules_in}
-use Rattle.item_pick.specs.Firsts.{first_asked, idles_before}
+use Rattle.item_pick.proofs.Common.{◌≡◌, ◌∙◌, ap, sym, true, false, Some, Bool, ◌&&◌, Item, fails_after, rules_in, first_asked, idles_before}
 use Rattle.item_pick.proofs.KeptLaws.{both_told, first_by, first_told, idle_told}
 use Rattle.item_pick.proofs.TablesKept.{with_afters, with_both}
 use Rattle.item_pick.proofs.tables.Tables.is_vain_before.Goals as goal

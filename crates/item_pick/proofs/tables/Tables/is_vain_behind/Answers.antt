@@ -1,8 +1,4 @@
-use Rattle.std.proofs.Common.{◌∙◌, ap}
-use Rattle.std.specs.Prelude.{Some, Bool}
-use Rattle.syntax_set.specs.declared.item.Item.{Item}
-use Rattle.item_pick.specs.PartsSeen.{rules_in}
-use Rattle.item_pick.specs.Firsts.{first_asked, rest_asked}
+use Rattle.item_pick.proofs.Common.{◌∙◌, ap, Some, Bool, Item, rules_in, first_asked, rest_asked}
 use Rattle.item_pick.proofs.KeptLaws.{first_by, first_told}
 use Rattle.item_pick.proofs.TablesKept.{with_behinds}
 use Rattle.item_pick.proofs.tables.Tables.is_vain_behind.Goals as goal

@@ -1,7 +1,4 @@
-use Rattle.std.proofs.Common.{sym, subst, [], ◌∷◌}
-use Rattle.std.specs.List.{All}
-use Rattle.std.proofs.lemmas.List.Elements.{All-append, All-cons, All-nil}
-use Rattle.item_pick.specs.Tables.{RowStands}
+use Rattle.item_pick.proofs.Common.{sym, subst, [], ◌∷◌, All, All-append, All-cons, All-nil, RowStands}
 use Rattle.item_pick.proofs.tables.Tables.keep.Goals as goal
 
 pub returns : goal.returns

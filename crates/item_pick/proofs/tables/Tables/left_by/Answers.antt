@@ -1,9 +1,5 @@
-use Rattle.std.proofs.Common.{ℕ, List, reverse, subst, sym}
-use Rattle.std.specs.List.Sorted.{IsNonDecreasing}
-use Rattle.paint_rules.specs.Rules.{place_at}
-use Rattle.item_pick.specs.PartsSeen.{rules_in}
+use Rattle.item_pick.proofs.Common.{ℕ, List, reverse, subst, sym, IsNonDecreasing, place_at, rules_in, IsNextIn, ListStands}
 use Rattle.item_pick.proofs.FutileLaws.{futile_by}
-use Rattle.item_pick.specs.Tables.{IsNextIn, ListStands}
 use Rattle.item_pick.proofs.TableLaws.{next_at}
 use Rattle.item_pick.proofs.tables.Tables.left_by.Goals as goal
 

@@ -1,7 +1,4 @@
-use Rattle.std.proofs.Common.{subst, sym}
-use Rattle.std.specs.List.{All}
-use Rattle.item_pick.specs.PartsSeen.{rules_in}
-use Rattle.item_pick.specs.Tables.{RowStands}
+use Rattle.item_pick.proofs.Common.{subst, sym, All, rules_in, RowStands}
 use Rattle.item_pick.proofs.TablesKept.{with_outs}
 use Rattle.item_pick.proofs.tables.Tables.make.Goals as goal
 

@@ -1,4 +1,4 @@
-use Rattle.item_pick.specs.PartsSeen.{rules_in}
+use Rattle.item_pick.proofs.Common.{rules_in}
 use Rattle.item_pick.proofs.tables.Tables.make_whole.Goals as goal
 
 pub returns : goal.returns

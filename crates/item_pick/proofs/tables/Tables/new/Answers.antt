@@ -1,11 +1,5 @@
-use Rattle.std.proofs.Common.{subst, sym}
-use Rattle.std.specs.List.{All}
-use Rattle.std.proofs.lemmas.List.Elements.{All-nil}
+use Rattle.item_pick.proofs.Common.{subst, sym, All, All-nil, fails_at, fails_after, first_asked, idles_before, rest_asked, IsWanted, RowStands, stays_out}
 use Rattle.region_ends.specs.Passing.{is_shut_at}
-use Rattle.pattern_screens.specs.Failing.{fails_at}
-use Rattle.pattern_screens.specs.Following.{fails_after}
-use Rattle.item_pick.specs.Firsts.{first_asked, idles_before, rest_asked}
-use Rattle.item_pick.specs.Tables.{IsWanted, RowStands, stays_out}
 use Rattle.item_pick.proofs.tables.Tables.new.Goals as goal
 
 pub returns : goal.returns

@@ -1,8 +1,4 @@
-use Rattle.std.proofs.Common.{◌<◌, ◌+◌, ◌-◌, ◌≡◌, inl, inr, subst, arith, get_or, length, reverse}
-use Rattle.std.proofs.lemmas.Bool.{cases_lt}
-use Rattle.paint_rules.specs.Rules.{place_at}
-use Rattle.item_pick.specs.Quiet.{IsPassed, item_numbered}
-use Rattle.item_pick.specs.PartsSeen.{rules_in}
+use Rattle.item_pick.proofs.Common.{◌<◌, ◌+◌, ◌-◌, ◌≡◌, inl, inr, subst, arith, get_or, length, reverse, cases_lt, place_at, IsPassed, item_numbered, rules_in}
 use Rattle.item_pick.proofs.TableLaws.{next_in}
 use Rattle.item_pick.proofs.tables.Tables.next_open.Goals as goal
 

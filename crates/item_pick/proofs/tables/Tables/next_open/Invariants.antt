@@ -1,10 +1,4 @@
-use Rattle.std.proofs.Common.{◌<◌, ◌≤◌, ◌⊎◌, ℕ, get_or, length, reverse}
-use Rattle.std.specs.List.Sorted.{IsNonDecreasing}
-use Rattle.match_rules.specs.Ways.{Text, line_at}
-use Rattle.paint_rules.specs.Rules.{place_at}
-use Rattle.item_pick.specs.PartsSeen.{rules_in}
-use Rattle.item_pick.specs.Quiet.{IsPassed, item_numbered}
-use Rattle.item_pick.specs.Screens.{HoldsLine}
+use Rattle.item_pick.proofs.Common.{◌<◌, ◌≤◌, ◌⊎◌, ℕ, get_or, length, reverse, IsNonDecreasing, Text, line_at, place_at, rules_in, IsPassed, item_numbered, HoldsLine}
 use Rattle.item_pick.specs.Tables.{AreKnown}
 use Rattle.item_pick.proofs.tables.Tables.next_open.Given as goal
 

@@ -1,12 +1,4 @@
-use Rattle.std.proofs.Common.{subst, ap}
-use Rattle.std.specs.Prelude.{IfSome, Option}
-use Rattle.syntax_set.specs.declared.item.Item.{Item}
-use Rattle.slots.specs.Entries.{IsAt}
-use Rattle.slots.proofs.EntryLaws.{all_still}
-use Rattle.item_pick.specs.declared.firsts.Reach.{Reach}
-use Rattle.item_pick.specs.PartsSeen.{rules_by}
-use Rattle.item_pick.specs.Quiet.{item_numbered}
-use Rattle.item_pick.specs.Tables.{IsReachOf}
+use Rattle.item_pick.proofs.Common.{subst, ap, IfSome, Option, Item, IsAt, all_still, Reach, rules_by, item_numbered, IsReachOf}
 use Rattle.item_pick.proofs.TableLaws.{reach_by}
 use Rattle.item_pick.proofs.TablesKept.{with_reaches}
 use Rattle.item_pick.proofs.tables.Tables.reach.Goals as goal

@@ -1,6 +1,4 @@
-use Rattle.std.proofs.Common.{subst, sym}
-use Rattle.std.specs.List.{All}
-use Rattle.item_pick.specs.Tables.{RowStands}
+use Rattle.item_pick.proofs.Common.{subst, sym, All, RowStands}
 use Rattle.item_pick.proofs.tables.Tables.row.Goals as goal
 
 pub returns-clause-stands : goal.returns-clause-stands

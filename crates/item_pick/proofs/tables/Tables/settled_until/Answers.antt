@@ -1,8 +1,4 @@
-use Rattle.std.proofs.Common.{◌<◌, ◌≤◌, ℕ, List, get_or, length, subst}
-use Rattle.std.specs.Prelude.{IfSome, true}
-use Rattle.paint_rules.specs.Rules.{place_at}
-use Rattle.item_pick.specs.Quiet.{IsQuiet, item_numbered}
-use Rattle.item_pick.specs.Tables.{HasThose, ListStands}
+use Rattle.item_pick.proofs.Common.{◌<◌, ◌≤◌, ℕ, List, get_or, length, subst, IfSome, true, place_at, IsQuiet, item_numbered, HasThose, ListStands}
 use Rattle.item_pick.proofs.SettledLaws.{settled_by}
 use Rattle.item_pick.proofs.tables.Tables.settled_until.Goals as goal
 
