@@ -1,13 +1,9 @@
 -- What was looked at before comes first, and a call's answer goes on as what follows says.
-use Rattle.std.proofs.Common.{◌≡◌, sym, ap, ◌∙◌}
-use Rattle.std.specs.Prelude.{Result, Ok, Err, Some}
-use Rattle.syn_base.specs.declared.looked.Looked.{Looked}
-use Rattle.paint_rules.specs.Painted.{Painted, Done, looked_first, ◌>>=◌, refusal_of}
-use Rattle.paint_rules.proofs.PaintedLaws.{goes_on, refusal_first, refusal_bind, refusal_then}
-use Rattle.paint_rules.specs.Rules.{Cause}
-use Rattle.line_paint.specs.declared.answers.Stop.{Stop}
+use Rattle.line_paint.proofs.Common.{◌≡◌, sym, ap, ◌∙◌, Result, Ok, Some, Looked, Painted, Done, looked_first, ◌>>=◌, refusal_of, goes_on, refusal_bind, Cause, Stop, Stops}
+use Rattle.std.specs.Prelude.{Err}
+use Rattle.paint_rules.proofs.PaintedLaws.{refusal_first, refusal_then}
 use Rattle.line_paint.specs.declared.answers.Stop.TheVariants as stop
-use Rattle.line_paint.specs.Answers.{Stops, Comes, ComesOf}
+use Rattle.line_paint.specs.Answers.{Comes, ComesOf}
 
 -- a refusal of what is left is one of the whole
 pub refused_same : {E A : Type 0} (c : E) (j k : Looked) (p : Painted E A) (q : Painted E A) →

@@ -1,24 +1,16 @@
 -- What is true of the kinds of frames is true of the frames.
-use Rattle.std.proofs.Common.{◌≡◌, Bool, true, false, List, [], ◌∷◌, reverse, refl, ap, sym, ◌∙◌, ℕ}
-use Rattle.std.specs.Prelude.{◌&&◌, ◌||◌, not, nat_eq, Option, Some, None}
+use Rattle.line_paint.proofs.Common.{◌≡◌, Bool, true, false, List, [], ◌∷◌, reverse, refl, ap, sym, ◌∙◌, ℕ, ◌&&◌, ◌||◌, not, nat_eq, Option, Some, None, GroupId, Frame, Painted, done, ◌>>=◌, Here, Rules, Cause, item_of, has_extend, has_keepend, at_line_start, below_at_line_start, searched_anew, anew_over_keepend, untouched, shown, anew_if, below_if}
 use Rattle.std.specs.List.{list_all, list_any}
 use Rattle.std.proofs.lemmas.Bool.{and_from, and_parts, eqb-true, not-true, or_from}
 use Rattle.std.proofs.lemmas.List.{reverse-append}
 use Rattle.std.proofs.lemmas.List.Folds.{list_all-append}
-use Rattle.syn_base.specs.declared.places.GroupId.{GroupId}
 use Rattle.syntax_set.specs.declared.added_item.AddedItem.{AddedItem}
-use Rattle.paint_rules.specs.Frames.{Frame}
 use Rattle.paint_rules.specs.declared.Part.{Part}
 use Rattle.paint_rules.specs.declared.Part.TheVariants.{Body, StartArea, EndArea, Keyword}
 use Rattle.paint_rules.specs.declared.Spot.{Spot}
-use Rattle.paint_rules.specs.Painted.{Painted, done, ◌>>=◌}
-use Rattle.paint_rules.specs.Rules.{Here, Rules, Cause, item_of}
-use Rattle.paint_rules.specs.KeptEnd.{has_extend, has_keepend}
-use Rattle.paint_rules.specs.Close.{at_line_start, below_at_line_start, searched_anew, anew_over_keepend, untouched}
-use Rattle.paint_rules.specs.Line.{is_clear, holds, shown}
+use Rattle.paint_rules.specs.Line.{is_clear, holds}
 use Rattle.state_stack.specs.declared.kinds.Kind.{Kind}
 use Rattle.state_stack.specs.Kinds.{has, have_kinds, is_area, is_of, kind_of, same_kind, same_truth}
-use Rattle.line_paint.specs.Frames.{anew_if, below_if}
 use Rattle.line_paint.specs.Kinds.{is_so, none_keeps, all_clear}
 
 either : (P : Type 0) (a b : Bool) → a || b ≡ true → (a ≡ true → P) → (b ≡ true → P) → P

@@ -1,3 +1,4 @@
+pub mod Common
 pub mod ComesLaws
 pub mod KindLaws
 pub mod SearchLaws

@@ -1,21 +1,7 @@
 -- A quiet column changes nothing but the character shown.
-use Rattle.std.proofs.Common.{◌≡◌, ◌+◌, ℕ, zero, suc, List, [], ◌∷◌, length, refl, sym, ap, ◌∙◌}
-use Rattle.std.specs.Prelude.{Option, Some, None}
+use Rattle.line_paint.proofs.Common.{◌≡◌, ◌+◌, ℕ, zero, suc, List, [], ◌∷◌, length, refl, sym, ap, ◌∙◌, Option, Some, None, Looked, Span, At, Painted, Done, looked_first, done, ◌>>=◌, Here, Cause, closed, closed_in, column, turns, shown, joined, Spans, painted_rest, IsQuiet, chained, Last, next_start, turn, goes_on}
 use Rattle.std.specs.Option.{option_map}
-use Rattle.syn_base.specs.declared.looked.Looked.{Looked}
-use Rattle.syn_base.specs.declared.places.Span.{Span}
-use Rattle.paint_rules.specs.declared.Spot.TheVariants.{At}
-use Rattle.paint_rules.specs.Painted.{Painted, Done, looked_first, done, ◌>>=◌}
-use Rattle.paint_rules.specs.Rules.{Here, Cause}
 use Rattle.paint_rules.specs.States.{Standing, stale}
-use Rattle.paint_rules.specs.Close.{closed, closed_in}
-use Rattle.paint_rules.specs.Line.{column, turns, shown, joined}
-use Rattle.line_paint.specs.declared.spans.Spans.{Spans}
-use Rattle.line_paint.specs.Line.{painted_rest}
-use Rattle.line_paint.specs.Quiet.{IsQuiet}
-use Rattle.line_paint.specs.Spans.{chained}
-use Rattle.line_paint.specs.Turns.{Last, next_start, turn}
-use Rattle.paint_rules.proofs.PaintedLaws.{goes_on}
 use Rattle.line_paint.proofs.TurnLaws.{next_nothing, one_turn, go_on}
 use Rattle.line_paint.proofs.LineLaws.{at_leads, char_step}
 

@@ -1,17 +1,8 @@
 -- What is kept of the syntax tells of quiet columns, and stands in the line that is entered.
-use Rattle.std.proofs.Common.{◌≡◌, ◌<◌, ◌≤◌, ℕ, [], sym, subst}
-use Rattle.std.specs.Prelude.{None, Some}
-use Rattle.syn_base.specs.declared.looked.Looked.{Looked}
-use Rattle.syn_base.specs.declared.places.Place.{Place}
+use Rattle.line_paint.proofs.Common.{◌≡◌, ◌<◌, ◌≤◌, ℕ, [], sym, subst, None, Some, Looked, Place, Rules, Done, done, looked_first, Nothing, picked, close_once, IsQuietUntil, IsQuiet}
 use Rattle.match_rules.specs.Ways.{Text}
-use Rattle.paint_rules.specs.Rules.{Rules}
-use Rattle.paint_rules.specs.Painted.{Done, done, looked_first}
-use Rattle.paint_rules.specs.Pick.{Nothing, picked}
 use Rattle.paint_rules.specs.States.{Standing}
-use Rattle.paint_rules.specs.Close.{close_once}
 use Rattle.item_pick.specs.Started.{here_at}
-use Rattle.item_pick.specs.QuietUntil.{IsQuietUntil}
-use Rattle.line_paint.specs.Quiet.{IsQuiet}
 
 -- where nothing waits, closes or may start, a column is quiet
 pub quiet_where : (r : Rules) (text : Text) (at : Place) (s : Standing) (k : Looked) (end d : ℕ) →

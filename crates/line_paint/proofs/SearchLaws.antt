@@ -1,20 +1,10 @@
 -- Frames that search: what the code calls is what the rules say.
-use Rattle.std.proofs.Common.{◌≡◌, ◌<◌, ℕ, Bool, true, false, List, [], ◌∷◌, refl, sym, ap, ◌∙◌, subst}
-use Rattle.std.specs.Prelude.{◌||◌, not, Option, None, Some, Result, Ok}
-use Rattle.syn_base.specs.declared.looked.Looked.{Looked}
-use Rattle.paint_rules.specs.Frames.{Frame}
+use Rattle.line_paint.proofs.Common.{◌≡◌, ◌<◌, ℕ, Bool, true, false, List, [], ◌∷◌, refl, sym, ap, ◌∙◌, subst, ◌||◌, not, Option, None, Some, Result, Ok, Looked, Frame, Painted, Done, looked_first, done, ◌>>=◌, Here, Cause, item_of, has_extend, has_keepend, anew_over_keepend, at_line_start, below_at_line_start, line_start, searched_anew, untouched, Fits, bind_assoc, goes_on, ItemId, Stop, anew_if, below_if, top_searched, frames_or, items_of}
 use Rattle.syntax_set.specs.declared.item.Item.{Item}
-use Rattle.paint_rules.specs.Painted.{Painted, Done, looked_first, done, ◌>>=◌}
-use Rattle.paint_rules.specs.Rules.{Here, Cause, item_of}
-use Rattle.paint_rules.specs.KeptEnd.{has_extend, has_keepend}
-use Rattle.paint_rules.specs.Close.{Anew, anew_over_keepend, at_line_start, below_at_line_start, exposed_anew, frames_after, is_open, is_region_body, line_start, search_col, searched_anew, searched_if, untouched}
-use Rattle.paint_rules.specs.States.{Fits}
-use Rattle.paint_rules.proofs.PaintedLaws.{bind_assoc, goes_on}
-use Rattle.syn_base.specs.declared.places.ItemId.{ItemId}
-use Rattle.line_paint.specs.declared.answers.Stop.{Stop}
+use Rattle.paint_rules.specs.Close.{Anew, exposed_anew, frames_after, is_open, is_region_body, search_col, searched_if}
 use Rattle.line_paint.specs.Closing.{AnewComes}
-use Rattle.line_paint.specs.Frames.{anew_if, below_if, line_start_from, search_from, searched_from, top_searched}
-use Rattle.line_paint.specs.Standing.{FramesCome, frames_or, items_of}
+use Rattle.line_paint.specs.Frames.{line_start_from, search_from, searched_from}
+use Rattle.line_paint.specs.Standing.{FramesCome}
 use Rattle.line_paint.proofs.ComesLaws.{comes_of_then}
 
 turned : {A : Type 0} (b : Bool) (x y : A) →

@@ -1,14 +1,6 @@
 -- One step of closing, and what is left of it.
-use Rattle.std.proofs.Common.{◌≡◌, ℕ, suc, ◌-◌, ◌<◌, ap, ◌∙◌, arith}
-use Rattle.std.specs.Prelude.{Option, Some, None}
-use Rattle.syn_base.specs.declared.looked.Looked.{Looked}
-use Rattle.paint_rules.specs.Painted.{Painted, Done, looked_first, done, ◌>>=◌}
-use Rattle.paint_rules.specs.Rules.{Here, Cause}
+use Rattle.line_paint.proofs.Common.{◌≡◌, ℕ, suc, ◌-◌, ◌<◌, ap, ◌∙◌, arith, Option, Some, None, Looked, Painted, Done, looked_first, done, ◌>>=◌, Here, Cause, close_once, closed_in, Stop, Stops, goes_on}
 use Rattle.paint_rules.specs.States.{Standing}
-use Rattle.paint_rules.specs.Close.{close_once, closed_in}
-use Rattle.line_paint.specs.declared.answers.Stop.{Stop}
-use Rattle.line_paint.specs.Answers.{Stops}
-use Rattle.paint_rules.proofs.PaintedLaws.{goes_on}
 use Rattle.line_paint.proofs.ComesLaws.{stops_whole}
 
 module _ (h : Here) (c left : ℕ) (j k : Looked) (p : Painted Cause Standing) (s : Standing)

@@ -1,22 +1,13 @@
 -- Turns at a column: close, and then start what a pick finds.
-use Rattle.std.proofs.Common.{◌≡◌, ◌<◌, ◌≤◌, ℕ, suc, ◌-◌, [], length, refl, sym, ap, ◌∙◌, subst, arith}
-use Rattle.std.specs.Prelude.{Some, None, pos}
-use Rattle.syn_base.specs.declared.looked.Looked.{Looked}
-use Rattle.syn_base.specs.Looked.{hull_of, one_line}
+use Rattle.line_paint.proofs.Common.{◌≡◌, ◌<◌, ◌≤◌, ℕ, suc, ◌-◌, [], length, refl, sym, ap, ◌∙◌, subst, arith, Some, None, pos, Looked, one_line, Painted, Done, Refused, looked_first, done, ◌>>=◌, Here, Cause, this_line, closed, Nothing, picked, turns, Stop, Stops, IsAt, Stands, More, Last, next_start, turn, bind_assoc, goes_on}
+use Rattle.syn_base.specs.Looked.{hull_of}
 use Rattle.syn_base.proofs.HullLaws.{hull_assoc, hull_comm}
-use Rattle.paint_rules.specs.Painted.{Painted, Done, Refused, looked_first, done, ◌>>=◌}
-use Rattle.paint_rules.specs.Rules.{Here, Cause, this_line}
 use Rattle.paint_rules.specs.States.{Standing}
-use Rattle.paint_rules.specs.Close.{closed}
-use Rattle.paint_rules.specs.Pick.{Starting, Picked, Start, SkipOn, Nothing, picked, started}
-use Rattle.paint_rules.specs.Line.{turns}
-use Rattle.line_paint.specs.declared.answers.Stop.{Stop}
+use Rattle.paint_rules.specs.Pick.{Starting, Picked, Start, SkipOn, started}
 use Rattle.line_paint.specs.declared.standing.Standing.{Standing as StandingCode}
-use Rattle.line_paint.specs.Answers.{Stops}
 use Rattle.item_pick.specs.Screens.{HoldsLine}
-use Rattle.line_paint.specs.Leads.{IsAt, Stands}
-use Rattle.line_paint.specs.Turns.{Next, More, Last, after_pick, next_start, turn}
-use Rattle.paint_rules.proofs.PaintedLaws.{first_none, bind_assoc, goes_on}
+use Rattle.line_paint.specs.Turns.{Next, after_pick}
+use Rattle.paint_rules.proofs.PaintedLaws.{first_none}
 use Rattle.line_paint.proofs.ComesLaws.{stops_whole}
 
 held_more : (one j m : Looked) → hull_of j one ≡ j → hull_of (hull_of j m) one ≡ hull_of j m

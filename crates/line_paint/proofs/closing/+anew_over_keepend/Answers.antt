@@ -1,6 +1,4 @@
-use Rattle.std.proofs.Common.{◌∙◌, ap, reverse}
-use Rattle.paint_rules.specs.Rules.{item_of}
-use Rattle.line_paint.specs.Closing.{anew_or}
+use Rattle.line_paint.proofs.Common.{◌∙◌, ap, reverse, item_of, anew_or}
 use Rattle.line_paint.proofs.SearchLaws.{anew_step}
 use Rattle.line_paint.proofs.closing.+anew_over_keepend.Goals as goal
 

@@ -1,10 +1,4 @@
-use Rattle.std.proofs.Common.{◌∙◌, ap, List, reverse, sym}
-use Rattle.std.specs.Prelude.{Some}
-use Rattle.paint_rules.specs.Frames.{Frame}
-use Rattle.paint_rules.specs.Painted.{Done}
-use Rattle.paint_rules.specs.Rules.{item_of}
-use Rattle.line_paint.specs.Closing.{anew_or}
-use Rattle.line_paint.specs.Standing.{items_of}
+use Rattle.line_paint.proofs.Common.{◌∙◌, ap, List, reverse, sym, Some, Frame, Done, item_of, anew_or, items_of}
 use Rattle.line_paint.proofs.SearchLaws.{after_step, fits_same}
 use Rattle.line_paint.proofs.closing.frames_after.Goals as goal
 

@@ -1,7 +1,4 @@
-use Rattle.std.proofs.Common.{◌∙◌, ap, reverse, sym}
-use Rattle.paint_rules.specs.Rules.{item_of}
-use Rattle.line_paint.specs.Frames.{top_searched}
-use Rattle.line_paint.specs.Standing.{frames_or}
+use Rattle.line_paint.proofs.Common.{◌∙◌, ap, reverse, sym, item_of, top_searched, frames_or}
 use Rattle.line_paint.proofs.SearchLaws.{frames_then, start_is}
 use Rattle.line_paint.proofs.line_start.line_start.Goals as goal
 

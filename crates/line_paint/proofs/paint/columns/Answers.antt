@@ -1,17 +1,4 @@
-use Rattle.std.proofs.Common.{◌≡◌, ◌<◌, ◌≤◌, ◌+◌, ◌∙◌, ap, sym, subst, suc, List, ℕ, length, reverse, drop, get_or, drop-cons, arith}
-use Rattle.std.proofs.lemmas.Result.{err_from_is_err_and}
-use Rattle.std.specs.Prelude.{Some, Option}
-use Rattle.syn_base.specs.declared.places.GroupId.{GroupId}
-use Rattle.syn_base.specs.declared.places.Span.{Span}
-use Rattle.paint_rules.specs.Painted.{Done, looked_first}
-use Rattle.paint_rules.specs.Rules.{this_line}
-use Rattle.paint_rules.specs.Line.{at_col, joined, painted_from, column}
-use Rattle.state_stack.specs.TopFirst.{top_first}
-use Rattle.line_paint.specs.declared.spans.Spans.{Spans}
-use Rattle.line_paint.specs.Leads.{standing_of}
-use Rattle.line_paint.specs.Line.{painted_rest}
-use Rattle.line_paint.specs.Spans.{chained}
-use Rattle.line_paint.specs.Stretches.{ShowsOver}
+use Rattle.line_paint.proofs.Common.{◌≡◌, ◌<◌, ◌≤◌, ◌+◌, ◌∙◌, ap, sym, subst, suc, List, ℕ, length, reverse, drop, get_or, drop-cons, arith, err_from_is_err_and, Some, Option, GroupId, Span, Done, looked_first, this_line, at_col, joined, painted_from, column, top_first, Spans, standing_of, painted_rest, chained, ShowsOver}
 use Rattle.line_paint.specs.declared.standing.Standing.{Standing}
 use Rattle.line_paint.proofs.TurnLaws.{at_later}
 use Rattle.line_paint.proofs.LineLaws.{char_step, end_step, fails_step, bind_done, drop_all, untried}

@@ -1,10 +1,4 @@
-use Rattle.std.proofs.Common.{◌≡◌, ◌-◌, drop}
-use Rattle.std.specs.Prelude.{Some}
-use Rattle.paint_rules.specs.Painted.{looked_first}
-use Rattle.paint_rules.specs.Rules.{this_line}
-use Rattle.paint_rules.specs.Line.{painted_from}
-use Rattle.line_paint.specs.Leads.{standing_of, IsAt}
-use Rattle.line_paint.specs.Line.{painted_rest}
+use Rattle.line_paint.proofs.Common.{◌≡◌, ◌-◌, drop, Some, looked_first, this_line, painted_from, standing_of, IsAt, painted_rest}
 use Rattle.line_paint.proofs.paint.columns.Given as goal
 
 -- what is left is the line from `c` on

@@ -1,6 +1,6 @@
-use Rattle.std.proofs.Common.{arith, ap, sym, ◌∙◌, ◌≡◌, ℤ, pos, ◌+ℤ◌}
+use Rattle.line_paint.proofs.Common.{arith, ap, sym, ◌∙◌, ◌≡◌, pos, Looked}
+use Rattle.std.proofs.Common.{ℤ, ◌+ℤ◌}
 use Rattle.std.proofs.lemmas.Int.{ints}
-use Rattle.syn_base.specs.declared.looked.Looked.{Looked}
 use Rattle.syn_base.specs.Looked.{moved_by}
 use Rattle.line_paint.proofs.paint.counted_here.Goals as goal
 

@@ -1,6 +1,4 @@
-use Rattle.std.proofs.Common.{◌∙◌, ap, List, reverse}
-use Rattle.paint_rules.specs.Frames.{Frame}
-use Rattle.line_paint.specs.Standing.{items_of}
+use Rattle.line_paint.proofs.Common.{◌∙◌, ap, List, reverse, Frame, items_of}
 use Rattle.line_paint.proofs.SearchLaws.{fits_same}
 use Rattle.line_paint.proofs.paint.first_stack.Goals as goal
 

@@ -1,16 +1,4 @@
-use Rattle.std.proofs.Common.{◌≡◌, ◌∙◌, ap, subst, List, length, reverse, false}
-use Rattle.std.specs.Prelude.{Some, pos}
-use Rattle.syn_base.specs.declared.looked.Looked.{Looked}
-use Rattle.syn_base.specs.Looked.{one_line}
-use Rattle.paint_rules.specs.Frames.{Frame}
-use Rattle.syn_base.specs.declared.places.ItemId.{ItemId}
-use Rattle.syn_base.specs.SpansFit.{IsFromColumn}
-use Rattle.paint_rules.specs.Painted.{Painted, Done, looked_first}
-use Rattle.paint_rules.specs.Rules.{this_line}
-use Rattle.paint_rules.specs.Close.{line_start}
-use Rattle.paint_rules.specs.Line.{Refusal, PaintedLine, at_col, at_line_begin, painted_from, painted_after_look}
-use Rattle.state_stack.specs.TopFirst.{top_first}
-use Rattle.paint_rules.proofs.PaintedLaws.{goes_on}
+use Rattle.line_paint.proofs.Common.{◌≡◌, ◌∙◌, ap, subst, List, length, reverse, false, Some, pos, Looked, one_line, Frame, ItemId, IsFromColumn, Painted, Done, looked_first, this_line, line_start, Refusal, PaintedLine, at_col, at_line_begin, painted_from, painted_after_look, top_first, goes_on}
 use Rattle.line_paint.proofs.SpansLaws.{OfValue, line_fits}
 use Rattle.line_paint.proofs.paint.painted_by.Goals as goal
 

@@ -1,12 +1,4 @@
-use Rattle.std.proofs.Common.{◌≡◌, ◌<◌, ◌+◌, ◌∙◌, ap, sym, suc, List, ℕ, length, drop, get_or, drop-cons, arith}
-use Rattle.std.specs.Prelude.{Some, Option}
-use Rattle.syn_base.specs.declared.places.GroupId.{GroupId}
-use Rattle.paint_rules.specs.Painted.{looked_first}
-use Rattle.paint_rules.specs.Rules.{this_line}
-use Rattle.paint_rules.specs.Line.{joined}
-use Rattle.line_paint.specs.Leads.{standing_of}
-use Rattle.line_paint.specs.Line.{painted_rest}
-use Rattle.line_paint.specs.Spans.{chained}
+use Rattle.line_paint.proofs.Common.{◌≡◌, ◌<◌, ◌+◌, ◌∙◌, ap, sym, suc, List, ℕ, length, drop, get_or, drop-cons, arith, Some, Option, GroupId, looked_first, this_line, joined, standing_of, painted_rest, chained}
 use Rattle.line_paint.proofs.QuietLaws.{quiet_char}
 use Rattle.line_paint.proofs.paint.show_quiet.Goals as goal
 

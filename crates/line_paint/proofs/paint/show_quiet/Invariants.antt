@@ -1,10 +1,4 @@
-use Rattle.std.proofs.Common.{◌≡◌, ◌≤◌, ◌-◌, drop, reverse}
-use Rattle.std.specs.Prelude.{Some}
-use Rattle.paint_rules.specs.Painted.{looked_first}
-use Rattle.paint_rules.specs.Rules.{this_line}
-use Rattle.line_paint.specs.Leads.{standing_of}
-use Rattle.line_paint.specs.Line.{painted_rest}
-use Rattle.line_paint.specs.Stretches.{ShowsOver}
+use Rattle.line_paint.proofs.Common.{◌≡◌, ◌≤◌, ◌-◌, drop, reverse, Some, looked_first, this_line, standing_of, painted_rest, ShowsOver}
 use Rattle.line_paint.proofs.paint.show_quiet.Given as goal
 
 -- what is left is the line from `c` on

@@ -1,4 +1,4 @@
-use Rattle.item_pick.specs.PartsSeen.{rules_in}
+use Rattle.line_paint.proofs.Common.{rules_in}
 use Rattle.line_paint.proofs.painting.paint_line.Goals as goal
 
 pub paint_line_with-requires-clause-memory : goal.paint_line_with-requires-clause-memory

@@ -1,5 +1,4 @@
-use Rattle.std.proofs.Common.{rules, sym}
-use Rattle.item_pick.specs.PartsSeen.{rules_in}
+use Rattle.line_paint.proofs.Common.{rules, sym, rules_in}
 use Rattle.region_ends.proofs.SearchLaws.{line_is}
 use Rattle.line_paint.proofs.painting.paint_line_with.Goals as goal
 

@@ -1,6 +1,4 @@
-use Rattle.std.proofs.Common.{◌<◌, reverse, refl, arith, ap, rules}
-use Rattle.paint_rules.specs.Rules.{place_at}
-use Rattle.line_paint.specs.Leads.{standing_of}
+use Rattle.line_paint.proofs.Common.{◌<◌, reverse, refl, arith, ap, rules, place_at, standing_of}
 use Rattle.line_paint.proofs.RememberedLaws.{quiet_where}
 use Rattle.line_paint.proofs.staying.quiet_until.Goals as goal
 

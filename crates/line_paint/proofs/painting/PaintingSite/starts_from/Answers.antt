@@ -1,11 +1,7 @@
-use Rattle.std.proofs.Common.{ℕ, reverse, subst}
+use Rattle.line_paint.proofs.Common.{ℕ, reverse, subst, Looked, Place, place_at, IsQuietUntil}
 use Rattle.std.specs.Prelude.{IfOk}
-use Rattle.syn_base.specs.declared.looked.Looked.{Looked}
-use Rattle.syn_base.specs.declared.places.Place.{Place}
 use Rattle.state_stack.specs.declared.state.State.{State}
-use Rattle.paint_rules.specs.Rules.{place_at}
 use Rattle.item_pick.specs.PartsSeen.{rules_by}
-use Rattle.item_pick.specs.QuietUntil.{IsQuietUntil}
 use Rattle.line_paint.proofs.painting.PaintingSite.starts_from.Goals as goal
 
 pub returns-clause-quiet : goal.returns-clause-quiet

@@ -1,5 +1,4 @@
-use Rattle.std.proofs.lemmas.Result.{err_from_is_err_and}
-use Rattle.line_paint.specs.Leads.{standing_of}
+use Rattle.line_paint.proofs.Common.{err_from_is_err_and, standing_of}
 use Rattle.line_paint.proofs.StandingLaws.{step_on, step_stays, step_stops}
 use Rattle.line_paint.proofs.standing.Standing.close.Goals as goal
 

@@ -1,8 +1,4 @@
-use Rattle.std.proofs.Common.{◌≡◌}
-use Rattle.std.specs.Prelude.{Some}
-use Rattle.paint_rules.specs.Painted.{looked_first}
-use Rattle.paint_rules.specs.Close.{closed, closed_in}
-use Rattle.line_paint.specs.Leads.{standing_of, Stands}
+use Rattle.line_paint.proofs.Common.{◌≡◌, Some, looked_first, closed, closed_in, standing_of, Stands}
 use Rattle.line_paint.proofs.standing.Standing.close.Given as goal
 
 -- what is left is closing in so many steps

@@ -1,7 +1,4 @@
-use Rattle.std.proofs.Common.{◌∙◌, ap, arith, List, length, reverse, subst}
-use Rattle.paint_rules.specs.Frames.{Frame}
-use Rattle.paint_rules.specs.States.{Fits}
-use Rattle.line_paint.specs.Standing.{items_of}
+use Rattle.line_paint.proofs.Common.{◌∙◌, ap, arith, List, length, reverse, subst, Frame, Fits, items_of}
 use Rattle.line_paint.proofs.SearchLaws.{fits_same}
 use Rattle.line_paint.proofs.standing.Standing.close_once.Goals as goal
 

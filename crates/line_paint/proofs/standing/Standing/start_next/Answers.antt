@@ -1,10 +1,6 @@
-use Rattle.std.proofs.Common.{subst}
-use Rattle.std.specs.Prelude.{Some}
-use Rattle.paint_rules.specs.Painted.{looked_first}
-use Rattle.paint_rules.specs.Pick.{picked}
+use Rattle.line_paint.proofs.Common.{subst, Some, looked_first, picked, standing_of}
 use Rattle.item_pick.specs.declared.starting.Picked.{Picked}
 use Rattle.item_pick.specs.Picks.{IsPicked}
-use Rattle.line_paint.specs.Leads.{standing_of}
 use Rattle.line_paint.proofs.TurnLaws.{next_starts}
 use Rattle.line_paint.proofs.standing.Standing.start_next.Goals as goal
 

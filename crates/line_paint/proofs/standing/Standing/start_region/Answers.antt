@@ -1,5 +1,4 @@
-use Rattle.std.proofs.Common.{◌≡◌, ◌<◌, ap, length, subst, sym}
-use Rattle.syn_base.specs.declared.places.ItemId.{ItemId}
+use Rattle.line_paint.proofs.Common.{◌≡◌, ◌<◌, ap, length, subst, sym, ItemId}
 use Rattle.line_paint.proofs.standing.Standing.start_region.Goals as goal
 
 pub returns-in_ok-body-in-Some-clause-stands : goal.returns-in_ok-body-in-Some-clause-stands

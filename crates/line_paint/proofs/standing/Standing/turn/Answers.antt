@@ -1,6 +1,5 @@
-use Rattle.paint_rules.specs.Close.{closed}
-use Rattle.line_paint.specs.Leads.{standing_of}
-use Rattle.line_paint.specs.Turns.{next_of, next_start}
+use Rattle.line_paint.proofs.Common.{closed, standing_of, next_start}
+use Rattle.line_paint.specs.Turns.{next_of}
 use Rattle.line_paint.proofs.ComesLaws.{comes_then}
 use Rattle.line_paint.proofs.TurnLaws.{at_after}
 use Rattle.line_paint.proofs.standing.Standing.turn.Goals as goal

@@ -1,10 +1,4 @@
-use Rattle.std.proofs.Common.{◌≡◌, ◌∙◌, ap, ℕ, arith}
-use Rattle.std.proofs.lemmas.Result.{err_from_is_err_and}
-use Rattle.std.specs.Prelude.{Some}
-use Rattle.paint_rules.specs.Painted.{looked_first}
-use Rattle.paint_rules.specs.Line.{turns}
-use Rattle.line_paint.specs.Leads.{standing_of}
-use Rattle.line_paint.specs.Turns.{turn, More}
+use Rattle.line_paint.proofs.Common.{◌≡◌, ◌∙◌, ap, ℕ, arith, err_from_is_err_and, Some, looked_first, turns, standing_of, turn, More}
 use Rattle.line_paint.proofs.TurnLaws.{at_after, turn_on, turn_ends, turn_stops}
 use Rattle.line_paint.proofs.standing.Standing.turns.Goals as goal
 

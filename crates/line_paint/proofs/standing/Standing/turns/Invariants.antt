@@ -1,8 +1,4 @@
-use Rattle.std.proofs.Common.{◌≡◌, length, suc}
-use Rattle.std.specs.Prelude.{Some}
-use Rattle.paint_rules.specs.Painted.{looked_first}
-use Rattle.paint_rules.specs.Line.{turns}
-use Rattle.line_paint.specs.Leads.{standing_of, IsAt}
+use Rattle.line_paint.proofs.Common.{◌≡◌, length, suc, Some, looked_first, turns, standing_of, IsAt}
 use Rattle.line_paint.proofs.standing.Standing.turns.Given as goal
 
 -- what is left are so many turns
