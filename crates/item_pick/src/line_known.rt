@@ -138,6 +138,7 @@ impl LineKnown {
 
     /// The first column from that of a search on at which an item isn't known to have no match, at most
     /// the line's end and one.
+    #[inline(always)]
     pub(crate) fn settled_to(&self, id: u32, search: &Search<'_>) -> usize
         ensures { (r : Rules) (t : Text) (l : ℕ) → LineStands r t l self.now →
             HoldsLine search.now.looked l → (c : ℕ) → search.now.at ≤ c → c < result →

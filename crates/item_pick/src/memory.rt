@@ -134,7 +134,7 @@ impl PickMemory {
             return Ok(None);
         }
         if !begins_behind(&by.pattern.tree) {
-            let missed = self.tables.is_missed(&self.line, asked, by, col)?;
+            let missed = self.tables.is_missed_after(&self.line, asked, by, col)?;
             return Ok(own_line_if(missed, line));
         }
         let Some(most) = self.tables.reach(asked, by)?.longest else {

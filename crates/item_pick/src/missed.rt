@@ -13,9 +13,36 @@ use pattern_screens::takes_first;
 use syn_base::Memory;
 
 impl Tables {
-    /// Whether an item is known, by what stands there or one column behind, not to match by its first
-    /// start pattern from a column.
-    pub(crate) fn is_missed(
+    /// Whether an item is known, by what stands one column behind, not to match by its first start
+    /// pattern from a column.
+    pub(crate) fn is_missed_after(
+        &mut self,
+        line: &LineKnown,
+        asked: &Asked,
+        by: &StartBy<'_>,
+        col: usize,
+    ) -> Result<bool, Memory>
+        requires first { IsFirstOf (rules_by asked.now) by.now }
+        requires stands { AreTablesOf (rules_by asked.now) self.old }
+        ensures stands { AreTablesOf (rules_by asked.now) self.new }
+        ensures missed { IfOk result (λ missed. IsTrue missed → (t : Text) (l : ℕ) →
+            LineStands (rules_by asked.now) t l line.now →
+            IsMissed (rules_by asked.now) (line_at t l) by.now.item by.now.pattern.now col) }
+    {
+        if !takes_first(&by.pattern.tree, col > 0) {
+            return Ok(false);
+        }
+        let Some(after) = col.checked_add(1) else {
+            return Ok(false);
+        };
+        match line.number_at(after) {
+            Some(number) => self.is_vain_before(asked, by, number),
+            None => Ok(false),
+        }
+    }
+
+    /// The same, or by what stands there.
+    fn is_missed(
         &mut self,
         line: &LineKnown,
         asked: &Asked,
@@ -36,16 +63,7 @@ impl Tables {
         if vain {
             return Ok(true);
         }
-        if !takes_first(&by.pattern.tree, col > 0) {
-            return Ok(false);
-        }
-        let Some(after) = col.checked_add(1) else {
-            return Ok(false);
-        };
-        match line.number_at(after) {
-            Some(number) => self.is_vain_before(asked, by, number),
-            None => Ok(false),
-        }
+        self.is_missed_after(line, asked, by, col)
     }
 
     /// The first column from one on from which an item may match by its first start pattern.

@@ -1,20 +1,11 @@
-use Rattle.item_pick.proofs.Common.{◌≡◌, ◌+◌, rules, subst, line_at, rules_by, IsNumberAt}
-use Rattle.item_pick.proofs.TableLaws.{missed_after, vain_is_missed}
+use Rattle.item_pick.proofs.Common.{rules, line_at, rules_by}
+use Rattle.item_pick.proofs.TableLaws.{vain_is_missed}
 use Rattle.item_pick.proofs.tables.Tables.is_missed.Goals as goal
+
+pub returns-clause-missed : goal.returns-clause-missed
+returns-clause-missed c = c.is_missed_after.ensures.missed
 
 pub returns-then-vain-clause-missed : goal.returns-then-vain-clause-missed
 returns-then-vain-clause-missed c = λ e t l stands.
-    let r = rules_by c.args.asked.now in
-    vain_is_missed r (line_at t l) c.args.col c.in-Some.number (c.in-Some.ensures r t l stands)
+    vain_is_missed (rules_by c.args.asked.now) (line_at t l) c.args.col c.in-Some.number (c.in-Some.ensures (rules_by c.args.asked.now) t l stands)
     c.args.by.now.item (c.in_ok-vain.ensures.vain (search rules)) c.args.by.now.pattern.now c.requires.first.first
-
-pub returns-in-Some-number_at-clause-missed : goal.returns-in-Some-number_at-clause-missed
-returns-in-Some-number_at-clause-missed c =
-    let r = rules_by c.args.asked.now in
-    let number = c.in-Some-number_at.number in
-    let behind : c.in-Some-checked_add.after ≡ c.args.col + 1 = search rules in
-    missed_after r c.args.line.now c.args.by.now.item c.args.by.now.pattern.now c.requires.first.first c.args.col number
-    (c.takes_first.ensures (search rules))
-    (λ t l stands. subst (λ n. IsNumberAt r (line_at t l) n number) behind
-    (c.in-Some-number_at.ensures r t l stands))
-    c.is_vain_before.result c.is_vain_before.ensures.vain
