@@ -1,36 +1,8 @@
 -- In lines that aren't too long, where what follows a look behind fails, an attempt has no way, is within the budget,
 -- and looks at the line and the one before.
-use Rattle.std.proofs.Common.{◌≡◌, refl, sym, ap, subst, arith, ℕ, zero, suc, ◌+◌, ◌*◌, ◌≤◌, Bool, true, false, length, List, [], ◌∷◌, ◌++◌, append-nil}
-use Rattle.std.specs.Prelude.{Option, Some, None, IfSome, pos, ◌-ℤ◌, ◌||◌, ◌&&◌, not, nat_lt, if◌then◌else◌}
-use Rattle.std.proofs.lemmas.Bool.{and_parts, both_ways, not-true}
-use Rattle.std.proofs.lemmas.Bool.Decides.{nat_tests}
-use Rattle.std.proofs.lemmas.Int.{ints}
-use Rattle.std.proofs.lemmas.Option.{same_Some, none-some}
-use Rattle.std.proofs.Math.Nat.{suc-mul, mul-le-mul_right}
-use Rattle.syn_base.specs.declared.looked.Looked.{Looked}
-use Rattle.syn_base.specs.declared.places.Place.{Place}
-use Rattle.syn_base.specs.Looked.{hull_of, one_line}
+use Rattle.pattern_screens.proofs.Common.{◌≡◌, refl, sym, ap, subst, arith, ℕ, zero, suc, ◌+◌, ◌*◌, ◌≤◌, Bool, true, false, length, List, [], ◌∷◌, ◌++◌, append-nil, Option, Some, None, IfSome, pos, ◌-ℤ◌, ◌||◌, ◌&&◌, not, nat_lt, if◌then◌else◌, and_parts, both_ways, not-true, nat_tests, ints, same_Some, none-some, suc-mul, mul-le-mul_right, Looked, Place, hull_of, one_line, Shape, one, seq, or, and, group, external, repeat, ahead, before, whole, answer_of, attempt, for_tree, in_order, is_spent, columns_back, ending_at, from_each, line_before, look, look_end, looking_at, starts_behind, tried_behind, Mark, Tick, Reach, first_way, followed, reach_if, ticks_first, visits, noted, noted_external, Context, Way, is_same_place, line_at, place, way_from, AllWays, behind_cost, from_starts, is_within, failing_cost, most_cost, FailBehind, key_numbered, key_of, tries_first, rest_tree, second_of, room_of, two_lines, IsInVain, is_dead, is_futile, still_of, Bound, Key}
 use Rattle.pattern_items.specs.declared.item.Behind.TheVariants.{Any}
-use Rattle.vim_pattern.specs.Shape.{Shape, one, seq, or, and, group, external, repeat, ahead, before, whole}
-use Rattle.match_rules.specs.Attempt.{answer_of, attempt, for_tree}
-use Rattle.match_rules.specs.Counts.{in_order, is_spent}
-use Rattle.match_rules.specs.Looks.{columns_back, ending_at, from_each, line_before, look, look_end, looking_at, starts_behind, tried_behind}
-use Rattle.match_rules.specs.Marks.{Mark, Tick, Reach, first_way, followed, reach_if, ticks_first}
-use Rattle.match_rules.specs.Visits.{visits, noted, noted_external}
-use Rattle.match_rules.specs.Ways.{Context, Way, is_same_place, line_at, place, way_from}
-use Rattle.match_rules.proofs.MarkLaws.{AllWays}
-use Rattle.pattern_screens.specs.Behind.{behind_cost, from_starts, is_within}
-use Rattle.pattern_screens.specs.Bounds.{failing_cost, most_cost}
-use Rattle.pattern_screens.specs.FailingLaw.{FailBehind}
-use Rattle.pattern_screens.specs.Keys.{key_numbered, key_of}
-use Rattle.pattern_screens.specs.Lined.{tries_first}
-use Rattle.pattern_screens.specs.Rest.{rest_tree, second_of}
-use Rattle.pattern_screens.specs.Rooms.{room_of}
-use Rattle.pattern_screens.specs.ScreenLaw.{two_lines, IsInVain}
-use Rattle.pattern_screens.specs.Screens.{is_dead, is_futile, still_of}
 use Rattle.pattern_screens.specs.TwoLines.{length_before, AreWithin}
-use Rattle.pattern_screens.specs.declared.bounds.Bound.{Bound}
-use Rattle.pattern_screens.specs.declared.key.Key.{Key}
 use Rattle.pattern_screens.proofs.Bounded.{AllTicks, Bounded, either, looking, looked-under, seen-append, seen-under, one-then, ticks-append, ticks_of, ways_of}
 use Rattle.pattern_screens.proofs.InVain.{Begins, Within, in-vain-behind, in-vain-within}
 use Rattle.pattern_screens.proofs.LinedParts.{Lined, LinedAt}

@@ -1,8 +1,5 @@
 -- Bounds part by part are those of the whole.
-use Rattle.std.proofs.Common.{◌≡◌, ℕ, ◌+◌, ◌*◌, ap, ◌∙◌, arith}
-use Rattle.vim_pattern.specs.Shape.{Shape}
-use Rattle.pattern_screens.specs.declared.bounds.Bound.{Bound}
-use Rattle.pattern_screens.specs.Bounds.{then_bound, or_bound}
+use Rattle.pattern_screens.proofs.Common.{◌≡◌, ℕ, ◌+◌, ◌*◌, ap, ◌∙◌, arith, Shape, Bound, then_bound, or_bound}
 
 pub then-then : (a b c : Bound) → then_bound (then_bound a b) c ≡ then_bound a (then_bound b c)
 then-then a b c =

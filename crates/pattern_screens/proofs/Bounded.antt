@@ -1,17 +1,6 @@
 -- Marks whose ways stand at places of one kind and whose ticks look at lines of one kind: how many of both there
 -- are at most.
-use Rattle.std.proofs.Common.{◌≡◌, ℕ, zero, suc, ◌+◌, ◌*◌, ◌<◌, ◌≤◌, Bool, true, false, List, [], ◌∷◌, ◌++◌, refl, ap, arith, subst}
-use Rattle.std.specs.Prelude.{Option, Some, None}
-use Rattle.std.proofs.lemmas.Option.{same_Some, none-some}
-use Rattle.std.proofs.Math.Nat.{suc-mul, mul-le-mul_right, mul-le-mul_left}
-use Rattle.syn_base.specs.declared.looked.Looked.{Looked}
-use Rattle.syn_base.specs.declared.places.Place.{Place}
-use Rattle.match_rules.specs.Ways.{Way, is_after}
-use Rattle.match_rules.specs.Marks.{Mark, Tick, Reach, followed, ticks_first, first_way, reach_if}
-use Rattle.match_rules.specs.Counts.{free_turns, in_order, one_less, is_spent}
-use Rattle.match_rules.specs.Looks.{look, look_end}
-use Rattle.match_rules.proofs.MarkLaws.{AllWays, AllWays-append, AllWays-followed}
-use Rattle.pattern_screens.specs.Lined.{chain_ways, chain_cost}
+use Rattle.pattern_screens.proofs.Common.{◌≡◌, ℕ, zero, suc, ◌+◌, ◌*◌, ◌<◌, ◌≤◌, Bool, true, false, List, [], ◌∷◌, ◌++◌, refl, ap, arith, subst, Option, Some, None, same_Some, none-some, suc-mul, mul-le-mul_right, mul-le-mul_left, Looked, Place, Way, is_after, Mark, Tick, Reach, followed, ticks_first, first_way, reach_if, free_turns, in_order, one_less, is_spent, look, look_end, AllWays, AllWays-append, AllWays-followed, chain_ways, chain_cost}
 
 -- ---- counts of marks
 

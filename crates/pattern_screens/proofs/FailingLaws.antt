@@ -1,18 +1,5 @@
 -- An attempt that is known to fail does, within the budget.
-use Rattle.std.proofs.Common.{◌≡◌, subst, arith, ℕ, ◌≤◌, true, false}
-use Rattle.std.specs.Prelude.{not, nat_lt, length}
-use Rattle.std.proofs.lemmas.Bool.{and_parts}
-use Rattle.std.proofs.lemmas.Bool.Decides.{nat_tests}
-use Rattle.vim_pattern.specs.Tree.{PatternTree}
-use Rattle.match_rules.specs.Ways.{Context, place, line_at}
-use Rattle.match_rules.specs.Attempt.{attempt}
-use Rattle.pattern_screens.specs.Bounds.{failing_cost}
-use Rattle.pattern_screens.specs.Failing.{fails}
-use Rattle.pattern_screens.specs.FailingLaw.{FailHere}
-use Rattle.pattern_screens.specs.Keys.{key_numbered, key_of}
-use Rattle.pattern_screens.specs.ScreenLaw.{IsInVain}
-use Rattle.pattern_screens.specs.Screens.{is_futile}
-use Rattle.pattern_screens.specs.declared.key.Key.{Key}
+use Rattle.pattern_screens.proofs.Common.{◌≡◌, subst, arith, ℕ, ◌≤◌, true, false, not, nat_lt, length, and_parts, nat_tests, PatternTree, Context, place, line_at, attempt, failing_cost, fails, FailHere, key_numbered, key_of, IsInVain, is_futile, Key}
 use Rattle.pattern_screens.proofs.InVain.{in-vain-within}
 use Rattle.pattern_screens.proofs.Screened.{law}
 

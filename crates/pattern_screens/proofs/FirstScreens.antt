@@ -1,29 +1,6 @@
 -- Where none of the first atoms fits, they are all that is tried.
-use Rattle.std.proofs.Common.{◌≡◌, ℕ, Bool, true, false, List, [], ◌∷◌, ◌++◌, length, refl, sym, ap, ◌∙◌, arith, subst, length-append}
-use Rattle.std.specs.Prelude.{Option, Some, None, IfSome, pos, not, ◌||◌, nat_lt, slice_get, if◌then◌else◌}
-use Rattle.std.specs.List.{list_any}
-use Rattle.std.proofs.lemmas.Bool.{and_parts, not-true, or_parts}
-use Rattle.std.proofs.lemmas.Option.{IfSome_then, none-some, same_Some}
-use Rattle.std.proofs.lemmas.Bool.Decides.{nat_tests}
-use Rattle.char_class.specs.Classes.{class_holds}
-use Rattle.char_class.specs.Folds.{is_same}
-use Rattle.syn_base.specs.declared.places.Place.{Place}
-use Rattle.syn_base.specs.Looked.{one_line}
-use Rattle.pattern_items.specs.declared.atom.Atom.{Atom}
-use Rattle.pattern_items.specs.declared.atom.Atom.TheVariants.{Char, Any, Is, Set}
-use Rattle.vim_pattern.specs.Shape.{Shape, one, seq, or, group, external, repeat}
-use Rattle.match_rules.specs.Ways.{Context, Way, way_from, place, line_at, behind_character}
-use Rattle.match_rules.specs.Atoms.{character_at, only_if, behind_if, behind_one, behind_one_or_end, fits, lines_looked, turned_round}
-use Rattle.match_rules.specs.Collections.{collection_holds}
-use Rattle.match_rules.specs.Marks.{Mark, Tick, followed}
-use Rattle.match_rules.specs.Counts.{is_spent}
-use Rattle.match_rules.specs.Visits.{visits, noted, noted_external, behind_fit}
-use Rattle.match_rules.specs.Attempt.{answer_of, for_tree}
+use Rattle.pattern_screens.proofs.Common.{◌≡◌, ℕ, Bool, true, false, List, [], ◌∷◌, ◌++◌, length, refl, sym, ap, ◌∙◌, arith, subst, length-append, Option, Some, None, IfSome, pos, not, ◌||◌, nat_lt, slice_get, if◌then◌else◌, list_any, and_parts, not-true, or_parts, IfSome_then, none-some, same_Some, nat_tests, class_holds, is_same, Place, one_line, Atom, Char, Any, Is, Set, Shape, one, seq, or, group, external, repeat, Context, Way, way_from, place, line_at, behind_character, character_at, only_if, behind_if, behind_one, behind_one_or_end, fits, lines_looked, turned_round, collection_holds, Mark, Tick, followed, is_spent, visits, noted, noted_external, behind_fit, answer_of, for_tree, after_turn, is_plain, plain_fits, takes, is_forced, both_lists, first_atoms, some_fits, number_of, IsInVain}
 use Rattle.match_rules.proofs.TurnLaws.{turns-forced}
-use Rattle.match_rules.specs.Counts.{after_turn}
-use Rattle.pattern_screens.specs.PlainAtoms.{is_plain, plain_fits, takes}
-use Rattle.pattern_screens.specs.FirstAtoms.{is_forced, both_lists, first_atoms, some_fits, number_of}
-use Rattle.pattern_screens.specs.ScreenLaw.{IsInVain}
 use Rattle.pattern_screens.specs.FirstLaw.{AreFirstSound, FitAsTold}
 use Rattle.pattern_screens.proofs.Bounded.{Bounded, followed-none, one-or, relaxed}
 use Rattle.pattern_screens.proofs.InVain.{in-vain}

@@ -1,30 +1,6 @@
 -- Behind an atom of one character, where what follows it fails, an attempt has no way, is within the
 -- budget, and looks at its line alone.
-use Rattle.std.proofs.Common.{◌≡◌, refl, sym, ap, subst, arith, ◌∙◌, ℕ, ◌+◌, ◌*◌, ◌≤◌, Bool, true, false, List, [], ◌∷◌, ◌++◌, length, append-nil}
-use Rattle.std.specs.Prelude.{pos, not, nat_eq, nat_lt, ◌&&◌, ◌||◌}
-use Rattle.std.proofs.lemmas.Bool.{and_parts}
-use Rattle.std.proofs.lemmas.Bool.Decides.{nat_tests}
-use Rattle.syn_base.specs.declared.looked.Looked.{Looked}
-use Rattle.syn_base.specs.declared.places.Place.{Place}
-use Rattle.syn_base.specs.Looked.{one_line}
-use Rattle.pattern_items.specs.declared.atom.Atom.{Atom}
-use Rattle.pattern_items.specs.declared.atom.Atom.TheVariants.{Char, Any, Is, Set, LineStart}
-use Rattle.vim_pattern.specs.Shape.{Shape, one, seq, or}
-use Rattle.match_rules.specs.Atoms.{fits, lines_looked, way_behind, character_at, only_if}
-use Rattle.match_rules.specs.Attempt.{answer_of, attempt, for_tree}
-use Rattle.match_rules.specs.Marks.{Mark, Tick, followed}
-use Rattle.match_rules.specs.Visits.{visits, behind_fit}
-use Rattle.match_rules.specs.Ways.{Context, Way, behind_character, line_at, place, way_from}
-use Rattle.match_rules.proofs.MarkLaws.{followed-append}
-use Rattle.pattern_screens.specs.Bounds.{failing_cost, most_cost}
-use Rattle.pattern_screens.specs.FailingLaw.{FailBefore}
-use Rattle.pattern_screens.specs.Following.{is_line_start, takes_first, takes_leaf, takes_piece}
-use Rattle.pattern_screens.specs.Keys.{key_numbered, key_of}
-use Rattle.pattern_screens.specs.PlainAtoms.{is_plain, plain_fits}
-use Rattle.pattern_screens.specs.Rest.{rest_fails, rest_tree, second_of}
-use Rattle.pattern_screens.specs.ScreenLaw.{IsInVain}
-use Rattle.pattern_screens.specs.Screens.{is_dead, is_futile, still_of}
-use Rattle.pattern_screens.specs.declared.key.Key.{Key}
+use Rattle.pattern_screens.proofs.Common.{◌≡◌, refl, sym, ap, subst, arith, ◌∙◌, ℕ, ◌+◌, ◌*◌, ◌≤◌, Bool, true, false, List, [], ◌∷◌, ◌++◌, length, append-nil, pos, not, nat_eq, nat_lt, ◌&&◌, ◌||◌, and_parts, nat_tests, Looked, Place, one_line, Atom, Char, Any, Is, Set, LineStart, Shape, one, seq, or, fits, lines_looked, way_behind, character_at, only_if, answer_of, attempt, for_tree, Mark, Tick, followed, visits, behind_fit, Context, Way, behind_character, line_at, place, way_from, followed-append, failing_cost, most_cost, FailBefore, is_line_start, takes_first, takes_leaf, takes_piece, key_numbered, key_of, is_plain, plain_fits, rest_fails, rest_tree, second_of, IsInVain, is_dead, is_futile, still_of, Key}
 use Rattle.pattern_screens.proofs.Bounded.{Bounded, one-or, relaxed}
 use Rattle.pattern_screens.proofs.FailingLaws.{isnt_more}
 use Rattle.pattern_screens.proofs.FirstScreens.{fits-told, plain-looks}

@@ -1,14 +1,6 @@
 -- What an attempt answers whose marks have no way.
-use Rattle.std.proofs.Common.{◌≡◌, ℕ, suc, ◌+◌, ◌≤◌, Bool, true, false, List, [], ◌∷◌, refl, sym, ap, ◌∙◌, arith, subst}
-use Rattle.std.specs.Prelude.{Option, Some, None, ℤ, pos, ◌-ℤ◌, ◌≤ℤ◌}
-use Rattle.std.proofs.lemmas.Int.{ints}
-use Rattle.syn_base.specs.declared.looked.Looked.{Looked}
-use Rattle.syn_base.specs.declared.places.Place.{Place}
-use Rattle.syn_base.specs.Looked.{hull_of, one_line, lesser, greater}
+use Rattle.pattern_screens.proofs.Common.{◌≡◌, ℕ, suc, ◌+◌, ◌≤◌, Bool, true, false, List, [], ◌∷◌, refl, sym, ap, ◌∙◌, arith, subst, Option, Some, None, ℤ, pos, ◌-ℤ◌, ◌≤ℤ◌, ints, Looked, Place, hull_of, one_line, lesser, greater, Mark, Tick, Reach, Answer, joined, answer_from, answer_of, lines_of, two_lines, IsInVain}
 use Rattle.syn_base.proofs.HullLaws.{hull_self}
-use Rattle.match_rules.specs.Marks.{Mark, Tick, Reach}
-use Rattle.match_rules.specs.Attempt.{Answer, joined, answer_from, answer_of, lines_of}
-use Rattle.pattern_screens.specs.ScreenLaw.{two_lines, IsInVain}
 use Rattle.pattern_screens.proofs.Bounded.{AllTicks, Bounded, seen-under, ticks_of, ways_of}
 use Rattle.pattern_screens.proofs.Stands.{LooksAt}
 

@@ -1,11 +1,7 @@
 -- The numbers of keys.
-use Rattle.std.proofs.Common.{◌≡◌, ℕ, ◌+◌, ◌*◌, ◌/◌, ◌%◌, ◌<◌, inl, inr, List, [], ◌∷◌, ◌++◌, length, get_or, refl, sym, ap, ◌∙◌, subst, arith, add-one, length-append}
-use Rattle.std.specs.Prelude.{None, slice_get}
-use Rattle.std.proofs.lemmas.Bool.{cases_eq}
+use Rattle.pattern_screens.proofs.Common.{◌≡◌, ℕ, ◌+◌, ◌*◌, ◌/◌, ◌%◌, ◌<◌, inl, inr, List, [], ◌∷◌, ◌++◌, length, get_or, refl, sym, ap, ◌∙◌, subst, arith, add-one, length-append, None, slice_get, cases_eq, Sets, AreNumbers, is_keyword, key_of, last_in, last_of, next_of, next_numbered, last_numbered, key_numbered}
 use Rattle.std.proofs.lemmas.Grind.{common_steps}
-use Rattle.char_class.specs.declared.sets.Sets.{Sets}
 use Rattle.pattern_screens.specs.declared.key.Next.TheVariants as next
-use Rattle.pattern_screens.specs.Keys.{AreNumbers, is_keyword, key_of, last_in, last_of, next_of, next_numbered, last_numbered, key_numbered}
 use Rattle.pattern_screens.proofs.StillAtoms.{keyword-key}
 
 pub key-of-parts : (last next : ℕ) → next < 259 → key_numbered (last * 259 + next) ≡ record { next = next_numbered next; last = last_numbered last }

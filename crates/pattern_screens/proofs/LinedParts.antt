@@ -1,24 +1,5 @@
 -- Parts that stay in their line: how many ways and ticks they have.
-use Rattle.std.proofs.Common.{◌≡◌, ℕ, zero, suc, ◌<◌, ◌≤◌, Bool, true, false, List, [], ◌∷◌, length, refl, ap, arith, subst}
-use Rattle.std.specs.Prelude.{Option, Some, None, pos, not}
-use Rattle.std.proofs.lemmas.Bool.{and_parts}
-use Rattle.std.proofs.lemmas.Option.{slice_get_within}
-use Rattle.char_class.specs.Classes.{class_holds}
-use Rattle.char_class.specs.Folds.{is_same}
-use Rattle.syn_base.specs.declared.looked.Looked.{Looked}
-use Rattle.syn_base.specs.declared.places.Place.{Place}
-use Rattle.syn_base.specs.Looked.{one_line}
-use Rattle.pattern_items.specs.declared.atom.Atom.{Atom}
-use Rattle.pattern_items.specs.declared.atom.Atom.TheVariants.{Char, Any, Is, Set, LineStart, LineStop, WordStart, WordStop, MatchStart, MatchStop}
-use Rattle.vim_pattern.specs.Shape.{Shape, empty, one, seq, or, and, group, external, repeat, ahead, before, whole}
-use Rattle.match_rules.specs.Ways.{Context, Way, line_at, is_after, behind_character}
-use Rattle.match_rules.specs.Atoms.{character_at, only_if, behind_if, behind_one, behind_one_or_end, fits, way_behind, turned_round}
-use Rattle.match_rules.specs.Collections.{collection_holds}
-use Rattle.match_rules.specs.Marks.{Mark, Tick, Reach}
-use Rattle.match_rules.specs.Counts.{free_turns, places_behind, turns, one_less, less_by, is_spent}
-use Rattle.match_rules.specs.Visits.{visits, tried, behind_fit, noted, noted_external}
-use Rattle.pattern_screens.specs.Bounds.{bound_of}
-use Rattle.pattern_screens.specs.Lined.{is_lined_atom, is_few, is_lined, chain_ways, chain_cost, most_turns}
+use Rattle.pattern_screens.proofs.Common.{◌≡◌, ℕ, zero, suc, ◌<◌, ◌≤◌, Bool, true, false, List, [], ◌∷◌, length, refl, ap, arith, subst, Option, Some, None, pos, not, and_parts, slice_get_within, class_holds, is_same, Looked, Place, one_line, Atom, Char, Any, Is, Set, LineStart, LineStop, WordStart, WordStop, MatchStart, MatchStop, Shape, empty, one, seq, or, and, group, external, repeat, ahead, before, whole, Context, Way, line_at, is_after, behind_character, character_at, only_if, behind_if, behind_one, behind_one_or_end, fits, way_behind, turned_round, collection_holds, Mark, Tick, Reach, free_turns, places_behind, turns, one_less, less_by, is_spent, visits, tried, behind_fit, noted, noted_external, bound_of, is_lined_atom, is_few, is_lined, chain_ways, chain_cost, most_turns}
 use Rattle.pattern_screens.proofs.Bounded.{Bounded, CountsDown, Keeps, chain-cost-more, chain-ways-more, either, free, looking, noting, one-or, reached, relaxed, stopping, one-then, whole-way}
 use Rattle.pattern_screens.proofs.Stands.{LooksAt}
 

@@ -1,20 +1,5 @@
 -- Parts that stay in a line of at most so many characters: how many ways and ticks they have.
-use Rattle.std.proofs.Common.{◌≡◌, ℕ, zero, suc, ◌+◌, ◌*◌, ◌<◌, ◌≤◌, Bool, true, false, List, [], ◌∷◌, length, refl, sym, arith, subst, inl, inr}
-use Rattle.std.specs.Prelude.{Option, Some, None, IfSome, ◌&&◌, ◌||◌, nat_lt, nat_eq, if◌then◌else◌}
-use Rattle.std.proofs.lemmas.Bool.{and_parts, or_cases, or_parts}
-use Rattle.std.proofs.lemmas.Bool.Decides.{nat_tests}
-use Rattle.std.proofs.lemmas.Option.{IfSome_then}
-use Rattle.std.proofs.Math.Nat.{suc-mul}
-use Rattle.syn_base.specs.declared.places.Place.{Place}
-use Rattle.vim_pattern.specs.Shape.{Shape, empty, one, seq, or, and, group, external, repeat, ahead, before, whole}
-use Rattle.match_rules.specs.Ways.{Context, Way, line_at, is_after}
-use Rattle.match_rules.specs.Marks.{Mark, Reach}
-use Rattle.match_rules.specs.Counts.{places_behind, free_turns, turns}
-use Rattle.match_rules.specs.Visits.{visits, noted, noted_external}
-use Rattle.pattern_screens.specs.Bounds.{chain_of, first_bound, or_bound, then_bound}
-use Rattle.pattern_screens.specs.Lined.{chain_cost, chain_ways, is_few, is_lined_atom}
-use Rattle.pattern_screens.specs.Rooms.{both_rooms, counted_room, first_room, look_then, room_of, turns_room}
-use Rattle.pattern_screens.specs.declared.bounds.Bound.{Bound}
+use Rattle.pattern_screens.proofs.Common.{◌≡◌, ℕ, zero, suc, ◌+◌, ◌*◌, ◌<◌, ◌≤◌, Bool, true, false, List, [], ◌∷◌, length, refl, sym, arith, subst, inl, inr, Option, Some, None, IfSome, ◌&&◌, ◌||◌, nat_lt, nat_eq, if◌then◌else◌, and_parts, or_cases, or_parts, nat_tests, IfSome_then, suc-mul, Place, Shape, empty, one, seq, or, and, group, external, repeat, ahead, before, whole, Context, Way, line_at, is_after, Mark, Reach, places_behind, free_turns, turns, visits, noted, noted_external, chain_of, first_bound, or_bound, then_bound, chain_cost, chain_ways, is_few, is_lined_atom, both_rooms, counted_room, first_room, look_then, room_of, turns_room, Bound}
 use Rattle.pattern_screens.proofs.Bounded.{CountsDown, either, free, looking, nothing, noting, one-or, ordered, reached, relaxed, one-then, whole-way}
 use Rattle.pattern_screens.proofs.LinedParts.{IsIn, Lined, LinedAt, lined, turns-lined}
 

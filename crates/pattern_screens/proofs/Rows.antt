@@ -1,23 +1,8 @@
 -- Worked rows: what screens say of patterns, and what their attempts do.
-use Rattle.std.specs.Prelude.{◌≡◌, ℕ, Bool, true, false, List, [], ◌∷◌, Some, None, codes, pos, refl}
+use Rattle.pattern_screens.proofs.Common.{◌≡◌, ℕ, Bool, true, false, List, [], ◌∷◌, Some, None, codes, pos, refl, Sets, one_line, Char, LineStart, WordStart, FileStart, MatchStart, PatternTree, Shape, one, seq, or, group, repeat, ahead, before, place, search, lines_of, behind_cost, is_cheap_behind, first_cost, fails_after, key_of, is_futile, most_cost, rest_fails, room_of}
 use Rattle.char_class.specs.CharSet.{set_has, is_member}
 use Rattle.char_class.specs.Folds.{is_same, range_holds}
-use Rattle.char_class.specs.declared.sets.Sets.{Sets}
-use Rattle.syn_base.specs.Looked.{one_line}
-use Rattle.pattern_items.specs.declared.atom.Atom.TheVariants.{Char, LineStart, WordStart, FileStart, MatchStart}
 use Rattle.pattern_items.specs.declared.item.Behind.TheVariants as behind
-use Rattle.vim_pattern.specs.Tree.{PatternTree}
-use Rattle.vim_pattern.specs.Shape.{Shape, one, seq, or, group, repeat, ahead, before}
-use Rattle.match_rules.specs.Ways.{place}
-use Rattle.match_rules.specs.Attempt.{search, lines_of}
-use Rattle.pattern_screens.specs.Behind.{behind_cost, is_cheap_behind}
-use Rattle.pattern_screens.specs.FirstAtoms.{first_cost}
-use Rattle.pattern_screens.specs.Following.{fails_after}
-use Rattle.pattern_screens.specs.Keys.{key_of}
-use Rattle.pattern_screens.specs.Screens.{is_futile}
-use Rattle.pattern_screens.specs.Bounds.{most_cost}
-use Rattle.pattern_screens.specs.Rest.{rest_fails}
-use Rattle.pattern_screens.specs.Rooms.{room_of}
 
 abbrev ch : ℕ → Shape
 ch c = one (Char c)

@@ -1,26 +1,5 @@
 -- A pattern that takes nothing stands still, and one whose screen fails is tried in vain.
-use Rattle.std.proofs.Common.{◌≡◌, ℕ, ◌≤◌, Bool, true, false, List, length, refl, sym, ap, ◌∙◌, arith, subst}
-use Rattle.std.specs.Prelude.{Option, Some, None}
-use Rattle.std.proofs.lemmas.Bool.{not-true}
-use Rattle.std.proofs.lemmas.Option.{IfSome_then}
-use Rattle.syn_base.specs.declared.places.Place.{Place}
-use Rattle.char_class.specs.declared.sets.Sets.{Sets}
-use Rattle.pattern_items.specs.declared.atom.Atom.{Atom}
-use Rattle.match_rules.specs.Marks.{Mark}
-use Rattle.vim_pattern.specs.Shape.{Shape, empty, one, seq, or, and, group, external, repeat, ahead, before, whole}
-use Rattle.vim_pattern.specs.Tree.{PatternTree}
-use Rattle.match_rules.specs.Ways.{Context, Way, way_from, place, line_at}
-use Rattle.match_rules.specs.Counts.{is_spent}
-use Rattle.match_rules.specs.Looks.{look}
-use Rattle.match_rules.specs.Visits.{visits, tried, noted, noted_external}
-use Rattle.match_rules.specs.Attempt.{for_tree}
-use Rattle.pattern_screens.specs.Bounds.{atom_ways, bound_of, most_cost}
-use Rattle.pattern_screens.specs.Keys.{key_of}
-use Rattle.pattern_screens.specs.Lined.{is_lined}
-use Rattle.pattern_screens.specs.ScreenLaw.{IsSoundAt, AreSound}
-use Rattle.pattern_screens.specs.Screens.{is_dead, is_futile, or_maybe, still_look, still_of}
-use Rattle.pattern_screens.specs.declared.key.Key.{Key}
-use Rattle.pattern_screens.specs.declared.still.Still.{Still}
+use Rattle.pattern_screens.proofs.Common.{◌≡◌, ℕ, ◌≤◌, Bool, true, false, List, length, refl, sym, ap, ◌∙◌, arith, subst, Option, Some, None, not-true, IfSome_then, Place, Sets, Atom, Mark, Shape, empty, one, seq, or, and, group, external, repeat, ahead, before, whole, PatternTree, Context, Way, way_from, place, line_at, is_spent, look, visits, tried, noted, noted_external, for_tree, atom_ways, bound_of, most_cost, key_of, is_lined, IsSoundAt, AreSound, is_dead, is_futile, or_maybe, still_look, still_of, Key, Still}
 use Rattle.pattern_screens.proofs.Bounded.{Bounded, looking}
 use Rattle.pattern_screens.proofs.InVain.{in-vain}
 use Rattle.pattern_screens.proofs.LinedParts.{IsIn, lined}

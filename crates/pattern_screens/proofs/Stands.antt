@@ -1,19 +1,5 @@
 -- Marks that take nothing: all their ways stand at one place, and each tick looks at its line.
-use Rattle.std.proofs.Common.{◌≡◌, ℕ, zero, suc, ◌+◌, ◌*◌, ◌<◌, ◌≤◌, inl, inr, Bool, true, false, List, [], ◌∷◌, ◌++◌, refl, sym, ap, ◌∙◌, arith, subst}
-use Rattle.std.specs.Prelude.{Option, Some, None, IfSome, pos, if◌then◌else◌}
-use Rattle.std.proofs.lemmas.Bool.{and_cases, and_parts, both_ways, or_cases, or_parts, not-true, not-false}
-use Rattle.std.proofs.lemmas.Bool.Decides.{nat_tests}
-use Rattle.syn_base.specs.declared.looked.Looked.{Looked}
-use Rattle.syn_base.specs.declared.places.Place.{Place}
-use Rattle.syn_base.specs.Looked.{one_line}
-use Rattle.match_rules.specs.Ways.{Text, Way, is_after}
-use Rattle.match_rules.specs.Marks.{Mark, Reach, followed, ticks_first, first_way, reach_if}
-use Rattle.match_rules.specs.Counts.{free_turns, in_order, is_spent, less_by, places_behind, turns}
-use Rattle.match_rules.specs.Looks.{look, look_end}
-use Rattle.pattern_screens.specs.Bounds.{one_way, turn_bound}
-use Rattle.pattern_screens.specs.declared.bounds.Bound.{Bound}
-use Rattle.pattern_screens.specs.declared.still.Still.{Still}
-use Rattle.pattern_screens.specs.Screens.{both, mapped, one_by_one, or_maybe, or_still, still, still_count, still_look, then_still, turned}
+use Rattle.pattern_screens.proofs.Common.{◌≡◌, ℕ, zero, suc, ◌+◌, ◌*◌, ◌<◌, ◌≤◌, inl, inr, Bool, true, false, List, [], ◌∷◌, ◌++◌, refl, sym, ap, ◌∙◌, arith, subst, Option, Some, None, IfSome, pos, if◌then◌else◌, and_cases, and_parts, both_ways, or_cases, or_parts, not-true, not-false, nat_tests, Looked, Place, one_line, Text, Way, is_after, Mark, Reach, followed, ticks_first, first_way, reach_if, free_turns, in_order, is_spent, less_by, places_behind, turns, look, look_end, one_way, turn_bound, Bound, Still, both, mapped, one_by_one, or_maybe, or_still, still, still_count, still_look, then_still, turned}
 use Rattle.pattern_screens.proofs.Bounded.{Bounded, CountsDown, Keeps, either, ended-ways, first-none, first-some, followed-none, followed-some, followed-ways, free, looking, one-or, reached, relaxed, one-then, ways-append, ways_of, whole-way}
 
 abbrev pub LooksAt : ℕ → Looked → Type 0

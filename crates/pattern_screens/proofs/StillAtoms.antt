@@ -1,28 +1,6 @@
 -- What an atom does at a column, where it takes nothing.
-use Rattle.std.proofs.Common.{◌≡◌, ℕ, zero, suc, ◌≤◌, Bool, true, false, List, [], ◌∷◌, length, refl, sym, ap, ◌∙◌, arith, subst}
-use Rattle.std.specs.Prelude.{Option, Some, None, pos, ◌&&◌, not, nat_lt, nat_eq, slice_get, if◌then◌else◌}
-use Rattle.std.proofs.lemmas.Bool.Decides.{nat_tests}
-use Rattle.std.proofs.lemmas.Option.{none-some}
-use Rattle.char_class.specs.Classes.{class_holds}
-use Rattle.char_class.specs.Folds.{is_same}
-use Rattle.char_class.specs.declared.sets.Sets.{Sets}
-use Rattle.syn_base.specs.declared.looked.Looked.{Looked}
-use Rattle.syn_base.specs.declared.places.Place.{Place}
-use Rattle.syn_base.specs.Looked.{one_line}
-use Rattle.pattern_items.specs.declared.atom.Atom.{Atom}
-use Rattle.pattern_items.specs.declared.atom.Atom.TheVariants.{Char, Any, Is, Set, LineEnd, LineStart, LineStop, WordStart, WordStop, MatchStart, MatchStop}
-use Rattle.match_rules.specs.Ways.{Context, Way, line_at, place, behind_character, behind_line_end}
-use Rattle.match_rules.specs.Atoms.{character_at, is_line_end, only_if, behind_if, behind_one, behind_one_or_end, fits, lines_looked, way_behind, keyword_at, keyword_before, keyword_in, has_keyword, turned_round}
-use Rattle.match_rules.specs.Collections.{collection_holds}
-use Rattle.match_rules.specs.Marks.{Tick}
-use Rattle.match_rules.specs.Visits.{tried, behind_fit}
-use Rattle.pattern_screens.specs.PlainAtoms.{plain_takes, takes}
-use Rattle.pattern_screens.specs.Keys.{next_of, other_of, last_of, last_in, key_of, is_end, is_keyword, is_first, is_after_keyword}
-use Rattle.pattern_screens.specs.MayTake.{may_take, takes_end}
-use Rattle.pattern_screens.specs.Bounds.{atom_ways}
-use Rattle.pattern_screens.specs.declared.key.Key.{Key}
+use Rattle.pattern_screens.proofs.Common.{◌≡◌, ℕ, zero, suc, ◌≤◌, Bool, true, false, List, [], ◌∷◌, length, refl, sym, ap, ◌∙◌, arith, subst, Option, Some, None, pos, ◌&&◌, not, nat_lt, nat_eq, slice_get, if◌then◌else◌, nat_tests, none-some, class_holds, is_same, Sets, Looked, Place, one_line, Atom, Char, Any, Is, Set, LineEnd, LineStart, LineStop, WordStart, WordStop, MatchStart, MatchStop, Context, Way, line_at, place, behind_character, behind_line_end, character_at, is_line_end, only_if, behind_if, behind_one, behind_one_or_end, fits, lines_looked, way_behind, keyword_at, keyword_before, keyword_in, has_keyword, turned_round, collection_holds, Tick, tried, behind_fit, plain_takes, takes, next_of, other_of, last_of, last_in, key_of, is_end, is_keyword, is_first, is_after_keyword, may_take, takes_end, atom_ways, Key, still, unless, still_atom}
 use Rattle.pattern_screens.specs.declared.key.Next.TheVariants as next
-use Rattle.pattern_screens.specs.Screens.{still, unless, still_atom}
 use Rattle.pattern_screens.proofs.Bounded.{relaxed}
 use Rattle.pattern_screens.proofs.Stands.{LooksAt, Stands, Told, told, untold}
 use Rattle.pattern_screens.proofs.Taking.{not-taken}

@@ -1,9 +1,6 @@
 -- What is known part by part is what is known of the whole.
-use Rattle.std.proofs.Common.{◌≡◌, Bool, true, false, refl, ap}
-use Rattle.std.specs.Prelude.{Option, Some, None, ◌&&◌, if◌then◌else◌}
+use Rattle.pattern_screens.proofs.Common.{◌≡◌, Bool, true, false, refl, ap, Option, Some, None, ◌&&◌, if◌then◌else◌, Still, then_still, or_still, mapped, both, in_turn}
 use Rattle.std.proofs.Math.Bool.{and_assoc, or_assoc}
-use Rattle.pattern_screens.specs.declared.still.Still.{Still}
-use Rattle.pattern_screens.specs.Screens.{then_still, or_still, mapped, both, in_turn}
 
 then-assoc : (a b c : Still) → then_still (then_still a b) c ≡ then_still a (then_still b c)
 then-assoc a b c = λ i. record { reaches = and_assoc a.reaches b.reaches c.reaches i; surely = and_assoc a.surely b.surely c.surely i }

@@ -1,25 +1,12 @@
 -- An atom that may not take what stands at a column doesn't take the character there.
-use Rattle.std.proofs.Common.{◌≡◌, ℕ, ◌≤◌, Bool, true, false, List, [], ◌∷◌, refl, sym, ap, ◌∙◌, arith}
-use Rattle.std.specs.Prelude.{Option, Some, None, ◌||◌, ◌&&◌, not, nat_le, nat_lt, if◌then◌else◌}
-use Rattle.std.specs.List.{list_any}
-use Rattle.std.proofs.lemmas.Bool.{or_parts}
-use Rattle.std.proofs.lemmas.Bool.Decides.{nat_tests}
+use Rattle.pattern_screens.proofs.Common.{◌≡◌, ℕ, ◌≤◌, Bool, true, false, List, [], ◌∷◌, refl, sym, ap, ◌∙◌, arith, Option, Some, None, ◌||◌, ◌&&◌, not, nat_le, nat_lt, if◌then◌else◌, list_any, or_parts, nat_tests, class_holds, is_digit, is_printable, Sets, Atom, Char, Is, Set, turned_round, class_in_set, part_holds, plain_takes, takes, next_of, other_of, class_has_other, part_may_hold, may_take_other, takes_end, may_take}
 use Rattle.char_class.specs.CharSet.{set_has}
-use Rattle.char_class.specs.Classes.{class_holds, is_digit, is_printable}
 use Rattle.char_class.specs.Folds.{is_same, range_holds}
-use Rattle.char_class.specs.declared.sets.Sets.{Sets}
 use Rattle.syn_base.specs.declared.class.Class.{Class}
 use Rattle.syn_base.specs.declared.class.Class.TheVariants.{Alpha, Lower, Upper, Ident, Keyword, File, Print, IdentNoDigit, KeywordNoDigit, FileNoDigit, PrintNoDigit}
-use Rattle.pattern_items.specs.declared.atom.Atom.{Atom}
-use Rattle.pattern_items.specs.declared.atom.Atom.TheVariants.{Char, Is, Set}
 use Rattle.pattern_items.specs.declared.atom.SetPart.{SetPart}
 use Rattle.pattern_items.specs.declared.atom.SetPart.TheVariants.{Range, Of}
-use Rattle.match_rules.specs.Atoms.{turned_round}
-use Rattle.match_rules.specs.Collections.{class_in_set, part_holds}
-use Rattle.pattern_screens.specs.PlainAtoms.{plain_takes, takes}
-use Rattle.pattern_screens.specs.Keys.{next_of, other_of}
 use Rattle.pattern_screens.specs.declared.key.Next.TheVariants as next
-use Rattle.pattern_screens.specs.MayTake.{class_has_other, part_may_hold, may_take_other, takes_end, may_take}
 
 -- ---- characters from 256 on
 

@@ -15,3 +15,4 @@ pub mod Rest
 pub mod Behind
 pub mod Following
 pub mod FailingLaw
+pub mod Common

@@ -1,9 +1,7 @@
 //! Whether an atom takes a character.
 ghost use Rattle.std.specs.Prelude.{◌≡◌};
 ghost use Rattle.std.specs.List.{list_any};
-ghost use Rattle.match_rules.specs.Collections.{class_in_set, collection_holds, part_holds};
-ghost use Rattle.pattern_screens.specs.PlainAtoms.{is_plain, plain_takes};
-ghost use Rattle.pattern_screens.specs.MayTake.{class_has_other, may_take, may_take_other, part_may_hold, takes_end};
+ghost use Rattle.pattern_screens.specs.Common.{class_in_set, collection_holds, part_holds, is_plain, plain_takes, class_has_other, may_take, may_take_other, part_may_hold, takes_end};
 
 use crate::key::Next;
 use char_class::{Sets, class_has, range_has, same};
@@ -26,11 +24,7 @@ pub(crate) fn is_plain(atom: &Atom) -> bool
     match atom {
         Atom::Char(_) => true,
         Atom::Any { line_end } => !*line_end,
-        Atom::Is {
-            class: _,
-            not: _,
-            line_end,
-        } => !*line_end,
+        Atom::Is { line_end, .. } => !*line_end,
         Atom::Set(ranges) => !ranges.line_end,
         _ => false,
     }
@@ -42,11 +36,7 @@ fn plain_takes(by: &By, atom: &Atom, c: char) -> bool
 {
     match atom {
         Atom::Char(d) => same(*d, c, by.ignore),
-        Atom::Is {
-            class,
-            not,
-            line_end: _,
-        } => class_has(*class, c, by.sets) != *not,
+        Atom::Is { class, not, .. } => class_has(*class, c, by.sets) != *not,
         Atom::Set(ranges) => collection_has(ranges, c, by),
         _ => true,
     }
@@ -71,11 +61,7 @@ fn may_take_other(keyword: bool, ignore: bool, atom: &Atom) -> bool
 {
     match atom {
         Atom::Char(c) => ignore || u32::from(*c) >= 256,
-        Atom::Is {
-            class,
-            not,
-            line_end: _,
-        } => class_has_other(*class, keyword) != *not,
+        Atom::Is { class, not, .. } => class_has_other(*class, keyword) != *not,
         Atom::Set(ranges) => {
             ranges.not || some_part_may_hold(keyword, ignore, ranges.parts.as_slice())
         }
@@ -127,11 +113,7 @@ fn takes_end(atom: &Atom) -> bool
 {
     match atom {
         Atom::Any { line_end } => *line_end,
-        Atom::Is {
-            class: _,
-            not: _,
-            line_end,
-        } => *line_end,
+        Atom::Is { line_end, .. } => *line_end,
         Atom::Set(ranges) => ranges.line_end,
         _ => false,
     }

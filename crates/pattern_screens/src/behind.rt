@@ -1,7 +1,6 @@
 //! Patterns that begin with a look behind without a limit, at columns where what follows it fails.
 ghost use Rattle.std.specs.Prelude.{◌≡◌, Some, IfSome, IsTrue, true};
-ghost use Rattle.vim_pattern.specs.Shape.{bare};
-ghost use Rattle.pattern_screens.specs.Behind.{behind_cost, is_cheap_behind, is_within, piece_cost};
+ghost use Rattle.pattern_screens.specs.Common.{bare, behind_cost, is_cheap_behind, is_within, piece_cost};
 
 use crate::lined::tries_first;
 use crate::rest::failing_rest_cost;

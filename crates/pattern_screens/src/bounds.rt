@@ -1,8 +1,6 @@
 //! How much an attempt costs at most where the screen of its pattern fails.
 ghost use Rattle.std.specs.Prelude.{◌≡◌, ◌+◌, ◌*◌, ◌<◌, IfSome};
-ghost use Rattle.vim_pattern.specs.Shape.{bare};
-ghost use Rattle.pattern_screens.specs.Bounds.{atom_ways, bound_of, chain_of, count_bound, failing_cost, first_bound, most_cost, one_turn_more, or_bound, then_bound, turn_bound};
-ghost use Rattle.pattern_screens.specs.Lined.{most_turns};
+ghost use Rattle.pattern_screens.specs.Common.{bare, atom_ways, bound_of, chain_of, count_bound, failing_cost, first_bound, most_cost, one_turn_more, or_bound, then_bound, turn_bound, most_turns};
 
 use crate::lined::{is_lined, is_spent};
 use pattern_items::Atom;
@@ -141,7 +139,7 @@ fn bound_of(node: &Node, taking: bool) -> Option<Bound>
             part,
             least,
             most,
-            lazy: _,
+            ..
         } => bound_of(part, taking)?.count(taking, *least, *most),
         Node::Ahead { part, not: _ } => Some(bound_of(part, taking || is_lined(part))?.first()),
         Node::Whole(a) => Some(bound_of(a, taking)?.first()),
@@ -179,8 +177,7 @@ fn bound_behind(first: Bound, node: &Node, taking: bool) -> Option<Bound>
 fn bound_either(one: Bound, node: &Node, taking: bool) -> Option<Bound>
     ensures { IfSome result (λ bound. bound ≡ or_bound one (bound_of taking (bare node.now))) }
 {
-    let mut known = one;
-    let mut rest = node;
+    let (mut known, mut rest) = (one, node);
     while let Node::Or(a, b) = rest {
         known = known.or(bound_of(a, taking)?)?;
         rest = b;

@@ -1,7 +1,6 @@
 //! Columns at which an attempt is known to fail, and to cost no more than a budget.
 ghost use Rattle.std.specs.Prelude.{◌≡◌, ◌<◌, ℕ, IsTrue, true, false};
-ghost use Rattle.pattern_screens.specs.Failing.{fails, fails_at, FailsPastFirst};
-ghost use Rattle.pattern_screens.specs.Keys.{is_first, key_numbered};
+ghost use Rattle.pattern_screens.specs.Common.{fails, fails_at, FailsPastFirst, is_first, key_numbered};
 
 use crate::bounds::failing_cost;
 use crate::futile::is_futile;

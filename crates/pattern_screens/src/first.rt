@@ -1,8 +1,7 @@
 //! How many first atoms a pattern has.
 ghost use Rattle.std.specs.Prelude.{◌≡◌, length, IfOk};
 ghost use Rattle.std.specs.Option.{option_map};
-ghost use Rattle.vim_pattern.specs.Shape.{bare};
-ghost use Rattle.pattern_screens.specs.FirstAtoms.{first_atoms, first_cost, is_forced};
+ghost use Rattle.pattern_screens.specs.Common.{bare, first_atoms, first_cost, is_forced};
 
 use crate::atoms::is_plain;
 use crate::lined::is_spent;
@@ -40,7 +39,7 @@ fn count_first(node: &Node) -> Result<Option<u64>, Memory>
             part,
             least,
             most,
-            lazy: _,
+            ..
         } => {
             if is_forced(*least, *most) {
                 count_first(part)

@@ -1,8 +1,7 @@
 //! Patterns that begin with an atom of one character, or one of two, at columns behind which what
 //! follows it fails.
 ghost use Rattle.std.specs.Prelude.{◌≡◌, ◌+◌, ◌*◌, IfSome, IsTrue, true};
-ghost use Rattle.vim_pattern.specs.Shape.{bare};
-ghost use Rattle.pattern_screens.specs.Following.{fails_after, takes_first, takes_leaf, takes_piece};
+ghost use Rattle.pattern_screens.specs.Common.{bare, fails_after, takes_first, takes_leaf, takes_piece};
 
 use crate::atoms::is_plain;
 use crate::rest::rest_cost;

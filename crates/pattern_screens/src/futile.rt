@@ -1,8 +1,6 @@
 //! What the screen of a pattern says of a column.
 ghost use Rattle.std.specs.Prelude.{◌≡◌};
-ghost use Rattle.vim_pattern.specs.Shape.{bare};
-ghost use Rattle.pattern_screens.specs.Screens.{is_dead, is_futile, still_of};
-ghost use Rattle.pattern_screens.specs.ScreenLaw.{IsSoundAt};
+ghost use Rattle.pattern_screens.specs.Common.{bare, is_dead, is_futile, still_of, IsSoundAt};
 
 use crate::atoms::By;
 use crate::key::Key;

@@ -1,7 +1,6 @@
 //! What a screen sees of a column.
 ghost use Rattle.std.specs.Prelude.{◌≡◌, ◌≤◌, ◌<◌, ◌+◌, ℕ, length, slice_get, slice_index, IfOk};
-ghost use Rattle.match_rules.specs.Atoms.{has_keyword};
-ghost use Rattle.pattern_screens.specs.Keys.{AreNumbers, is_after_keyword, is_end, is_first, is_keyword, key_numbered, key_of, last_in, last_numbered, last_of, next_numbered, next_of};
+ghost use Rattle.pattern_screens.specs.Common.{has_keyword, AreNumbers, is_after_keyword, is_end, is_first, is_keyword, key_numbered, key_of, last_in, last_numbered, last_of, next_numbered, next_of};
 
 use char_class::Sets;
 use syn_base::Memory;
@@ -104,27 +103,21 @@ fn next_numbered(number: u16) -> Next
 {
     match u8::try_from(number) {
         Ok(code) => Next::Code(code),
-        Err(_) => {
-            if number == 256 {
-                Next::OtherKeyword
-            } else if number == 257 {
-                Next::OtherCharacter
-            } else {
-                Next::LineEnd
-            }
-        }
+        Err(_) => match number {
+            256 => Next::OtherKeyword,
+            257 => Next::OtherCharacter,
+            _ => Next::LineEnd,
+        },
     }
 }
 
 fn last_numbered(number: u16) -> Last
     ensures { result ≡ last_numbered number }
 {
-    if number == 0 {
-        Last::Nothing
-    } else if number == 1 {
-        Last::Keyword
-    } else {
-        Last::Other
+    match number {
+        0 => Last::Nothing,
+        1 => Last::Keyword,
+        _ => Last::Other,
     }
 }
 

@@ -7,9 +7,7 @@
 //! screen of a pattern says can be kept in a table.
 #![tactic(auto)]
 
-ghost use Rattle.pattern_screens.specs.FailingLaw.{FailBefore, FailBehind, FailHere};
-ghost use Rattle.pattern_screens.specs.FirstLaw.{AreFirstSound, FitAsTold};
-ghost use Rattle.pattern_screens.specs.ScreenLaw.{AreSound};
+ghost use Rattle.pattern_screens.specs.Common.{FailBefore, FailBehind, FailHere, AreFirstSound, FitAsTold, AreSound};
 
 mod atoms;
 mod behind;

@@ -1,8 +1,6 @@
 //! Parts that stay in their line.
 ghost use Rattle.std.specs.Prelude.{◌≡◌};
-ghost use Rattle.vim_pattern.specs.Shape.{bare};
-ghost use Rattle.match_rules.specs.Counts.{is_spent};
-ghost use Rattle.pattern_screens.specs.Lined.{is_few, is_lined, is_lined_atom, tries_first};
+ghost use Rattle.pattern_screens.specs.Common.{bare, is_spent, is_few, is_lined, is_lined_atom, tries_first};
 
 use crate::atoms::is_plain;
 use pattern_items::Atom;
@@ -18,12 +16,7 @@ pub(crate) fn is_lined(node: &Node) -> bool
         Node::One(atom) => is_lined_atom(atom),
         Node::Seq(a, b) | Node::Or(a, b) | Node::And(a, b) => is_lined(a) && are_lined(b),
         Node::Group(a, _) | Node::External(a, _) | Node::Whole(a) => is_lined(a),
-        Node::Repeat {
-            part,
-            least: _,
-            most,
-            lazy: _,
-        } => is_few(*most) && is_lined(part),
+        Node::Repeat { part, most, .. } => is_few(*most) && is_lined(part),
         Node::Ahead { part, not: _ } => is_lined(part),
         Node::Before { .. } => false,
     }

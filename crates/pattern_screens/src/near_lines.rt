@@ -1,7 +1,6 @@
 //! A line and the one before: what a look behind without a limit looks at.
 ghost use Rattle.std.specs.Prelude.{◌≡◌, ◌<◌, ◌^◌, length, IsTrue};
-ghost use Rattle.pattern_screens.specs.ScreenLaw.{two_lines};
-ghost use Rattle.pattern_screens.specs.TwoLines.{AreWithin, length_before};
+ghost use Rattle.pattern_screens.specs.Common.{two_lines, AreWithin, length_before};
 
 use syn_base::{Lines, Looked};
 

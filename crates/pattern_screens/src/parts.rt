@@ -1,8 +1,6 @@
 //! What the parts of a pattern do at a column where none of their atoms takes anything.
 ghost use Rattle.std.specs.Prelude.{◌≡◌, Some};
-ghost use Rattle.vim_pattern.specs.Shape.{bare};
-ghost use Rattle.pattern_screens.specs.Screens.{both, in_turn, or_maybe, or_still, still_atom, still_look, still_of};
-ghost use Rattle.pattern_screens.specs.Lined.{is_lined};
+ghost use Rattle.pattern_screens.specs.Common.{bare, both, in_turn, or_maybe, or_still, still_atom, still_look, still_of, is_lined};
 
 use crate::atoms::{By, may_take};
 use crate::key::{Key, is_after_keyword, is_end, is_first, is_keyword};
@@ -36,7 +34,7 @@ pub(crate) fn still_of(node: &Node, by: &By, key: Key) -> Option<Still>
             part,
             least,
             most,
-            lazy: _,
+            ..
         } => {
             if is_spent(*most) {
                 return Some(Still::new(true));

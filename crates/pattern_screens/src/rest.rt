@@ -1,8 +1,6 @@
 //! What follows the first piece of a pattern.
 ghost use Rattle.std.specs.Prelude.{◌≡◌, IfSome, IsTrue, true};
-ghost use Rattle.vim_pattern.specs.Shape.{bare};
-ghost use Rattle.pattern_screens.specs.Bounds.{failing_cost};
-ghost use Rattle.pattern_screens.specs.Rest.{rest_fails, rest_tree, second_of};
+ghost use Rattle.pattern_screens.specs.Common.{bare, failing_cost, rest_fails, rest_tree, second_of};
 
 use crate::atoms::By;
 use crate::bounds::most_cost;

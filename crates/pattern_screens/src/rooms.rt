@@ -1,7 +1,6 @@
 //! How many ways and ticks a part has at most that stays in a line of so many characters.
 ghost use Rattle.std.specs.Prelude.{◌≡◌, Some, IfSome};
-ghost use Rattle.vim_pattern.specs.Shape.{bare};
-ghost use Rattle.pattern_screens.specs.Rooms.{room_of, turns_room};
+ghost use Rattle.pattern_screens.specs.Common.{bare, room_of, turns_room};
 
 use crate::bounds::{Bound, ONE_WAY};
 use crate::lined::{is_few, is_lined_atom};
@@ -56,7 +55,7 @@ pub(crate) fn room_of(most: u64, node: &Node) -> Option<Bound>
             part,
             least,
             most: turns,
-            lazy: _,
+            ..
         } => turns_room(most, *least, *turns, room_of(most, part)?),
         Node::Ahead { part, not: _ } => Some(room_of(most, part)?.first()),
         Node::Before { .. } => None,

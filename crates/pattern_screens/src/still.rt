@@ -1,6 +1,6 @@
 //! What is known of a part that takes nothing, and how that of parts is put together.
 ghost use Rattle.std.specs.Prelude.{◌≡◌};
-ghost use Rattle.pattern_screens.specs.Screens.{maybe, or_still, still, then_still, turned, unless};
+ghost use Rattle.pattern_screens.specs.Common.{maybe, or_still, still, then_still, turned, unless};
 
 /// What a part does at a column where none of its atoms takes anything, and each looks at its line alone.
 #[derive(Clone, Copy)]

@@ -1,6 +1,4 @@
-use Rattle.std.proofs.Common.{◌≡◌, drop}
-use Rattle.std.specs.List.{list_any}
-use Rattle.match_rules.specs.Collections.{part_holds}
+use Rattle.pattern_screens.proofs.Common.{◌≡◌, drop, list_any, part_holds}
 use Rattle.pattern_screens.proofs.atoms.some_part_has.Given as goal
 
 -- the parts before are none of these

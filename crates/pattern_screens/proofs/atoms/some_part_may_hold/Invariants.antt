@@ -1,6 +1,4 @@
-use Rattle.std.proofs.Common.{◌≡◌, drop}
-use Rattle.std.specs.List.{list_any}
-use Rattle.pattern_screens.specs.MayTake.{part_may_hold}
+use Rattle.pattern_screens.proofs.Common.{◌≡◌, drop, list_any, part_may_hold}
 use Rattle.pattern_screens.proofs.atoms.some_part_may_hold.Given as goal
 
 -- the parts before are none of these

@@ -1,7 +1,4 @@
-use Rattle.std.proofs.Common.{◌≡◌, ◌≤◌, ◌+◌, ◌*◌}
-use Rattle.vim_pattern.specs.Shape.{bare}
-use Rattle.vim_pattern.specs.Parted.{node_count}
-use Rattle.pattern_screens.specs.Bounds.{bound_of, or_bound, then_bound}
+use Rattle.pattern_screens.proofs.Common.{◌≡◌, ◌≤◌, ◌+◌, ◌*◌, bare, node_count, bound_of, or_bound, then_bound}
 use Rattle.pattern_screens.proofs.bounds.+bound_of.Given as goal
 
 abbrev pub decreases-bound_of : goal.decreases-bound_of

@@ -1,7 +1,4 @@
-use Rattle.std.proofs.Common.{◌≡◌, ℕ, false, subst, true, arith, inl, inr}
-use Rattle.std.proofs.lemmas.Bool.{cases_lt}
-use Rattle.pattern_screens.specs.Failing.{fails_at}
-use Rattle.pattern_screens.specs.Keys.{is_first, key_numbered}
+use Rattle.pattern_screens.proofs.Common.{◌≡◌, ℕ, false, subst, true, arith, inl, inr, cases_lt, fails_at, is_first, key_numbered}
 use Rattle.pattern_screens.proofs.failing.fails_past_first.Goals as goal
 
 pub loop-number-preserved : goal.loop-number-preserved

@@ -1,6 +1,4 @@
-use Rattle.std.specs.Prelude.{◌≡◌, ◌<◌, ℕ, false, true}
-use Rattle.pattern_screens.specs.Failing.{fails_at}
-use Rattle.pattern_screens.specs.Keys.{is_first, key_numbered}
+use Rattle.pattern_screens.proofs.Common.{◌≡◌, ◌<◌, ℕ, false, true, fails_at, is_first, key_numbered}
 use Rattle.pattern_screens.proofs.failing.fails_past_first.Given as goal
 
 -- at those before it fails

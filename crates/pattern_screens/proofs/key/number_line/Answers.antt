@@ -1,5 +1,4 @@
-use Rattle.std.proofs.Common.{◌≡◌, ◌+◌, length, ap, sym, ◌∙◌, subst, arith}
-use Rattle.pattern_screens.specs.Keys.{AreNumbers, is_keyword, key_numbered, key_of, last_in, last_of}
+use Rattle.pattern_screens.proofs.Common.{◌≡◌, ◌+◌, length, ap, sym, ◌∙◌, subst, arith, AreNumbers, is_keyword, key_numbered, key_of, last_in, last_of}
 use Rattle.pattern_screens.proofs.KeyLaws.{end-key, last-after, one-more-number}
 use Rattle.pattern_screens.proofs.key.number_line.Goals as goal
 

@@ -1,5 +1,4 @@
-use Rattle.std.proofs.Common.{◌≡◌}
-use Rattle.pattern_screens.specs.Keys.{AreNumbers, last_in}
+use Rattle.pattern_screens.proofs.Common.{◌≡◌, AreNumbers, last_in}
 use Rattle.pattern_screens.proofs.key.number_line.Given as goal
 
 -- the columns before have their numbers

@@ -1,7 +1,4 @@
-use Rattle.std.proofs.Common.{◌≡◌, ◌≤◌, ◌+◌, ◌*◌}
-use Rattle.vim_pattern.specs.Shape.{bare}
-use Rattle.vim_pattern.specs.Parted.{node_count}
-use Rattle.pattern_screens.specs.Lined.{is_lined}
+use Rattle.pattern_screens.proofs.Common.{◌≡◌, ◌≤◌, ◌+◌, ◌*◌, bare, node_count, is_lined}
 use Rattle.pattern_screens.proofs.lined.+lined.Given as goal
 
 abbrev pub decreases-is_lined : goal.decreases-is_lined

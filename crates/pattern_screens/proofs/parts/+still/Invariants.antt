@@ -1,8 +1,4 @@
-use Rattle.std.proofs.Common.{◌≡◌, ◌≤◌, ◌+◌, ◌*◌}
-use Rattle.std.specs.Prelude.{Some}
-use Rattle.vim_pattern.specs.Shape.{bare}
-use Rattle.vim_pattern.specs.Parted.{node_count}
-use Rattle.pattern_screens.specs.Screens.{both, in_turn, or_still, still_of}
+use Rattle.pattern_screens.proofs.Common.{◌≡◌, ◌≤◌, ◌+◌, ◌*◌, Some, bare, node_count, both, in_turn, or_still, still_of}
 use Rattle.pattern_screens.proofs.parts.+still.Given as goal
 
 abbrev pub decreases-still_of : goal.decreases-still_of

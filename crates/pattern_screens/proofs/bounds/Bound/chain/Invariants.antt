@@ -1,5 +1,4 @@
-use Rattle.std.proofs.Common.{◌≡◌}
-use Rattle.pattern_screens.specs.Bounds.{chain_of}
+use Rattle.pattern_screens.proofs.Common.{◌≡◌, chain_of}
 use Rattle.pattern_screens.proofs.bounds.Bound.chain.Given as goal
 
 abbrev pub invariant-loop-turn : goal.invariant-loop-turn
