@@ -1,17 +1,12 @@
 -- What is answered of an attempt is what the rules say of it.
-use Rattle.region_ends.proofs.Common.{◌≡◌, ℕ, ◌≤◌, Bool, true, false, List, refl, sym, ap, arith, subst, Option, Some, None, nat_lt, if◌then◌else◌, IfOk-weaker, nat_tests, Sets, ItemId, Place, PatternTree, Text, attempt, Attempt, match_of, IsToldOn, Pattern, Cause, Matched, context_of, IsAttempted, IsTried}
+use Rattle.region_ends.proofs.Common.{◌≡◌, ℕ, ◌≤◌, Bool, true, false, List, refl, sym, ap, arith, subst, Option, Some, None, nat_lt, if◌then◌else◌, IfOk-weaker, nat_tests, Sets, ItemId, Place, PatternTree, Text, attempt, Attempt, match_of, IsToldOn, Pattern, context_of, IsAttempted, IsTried, slice_get_within, Way, IsPlaceOf, Answer, within_budget, attempt_in}
 use Rattle.paint_rules.specs.Syntax.{attempt_by}
 use Rattle.std.specs.Prelude.{Result, IfOk, option_map}
-use Rattle.std.proofs.lemmas.Option.{slice_get_within}
-use Rattle.match_rules.specs.Ways.{Way, IsPlaceOf}
-use Rattle.match_rules.specs.Attempt.{Answer}
 use Rattle.pattern_match.specs.declared.answer.Attempt.TheVariants as tried
 use Rattle.pattern_match.specs.Answers.{answered, found_or_absent, IsAttempt}
 use Rattle.pattern_match.proofs.AnswerLaws.{answers-on}
 use Rattle.syntax_set.specs.Soundness.{IsAdded}
 use Rattle.paint_rules.specs.Rules as rule
-use Rattle.paint_rules.specs.Rules.{within_budget}
-use Rattle.paint_rules.specs.Syntax.{attempt_in}
 
 by_way : (budget : ℕ) (text : Text) (start : Place) (answer : Answer) (o : Option Way) → answer.way ≡ o → answer.cost ≤ budget →
     IsAttempted (found_or_absent text start answer o) budget (attempt_in text start answer)

@@ -1,7 +1,5 @@
 -- Tests of two parts, and lists from their last element on.
-use Rattle.region_ends.proofs.Common.{◌≡◌, ◌⊎◌, inl, inr, ◌∙◌, refl, sym, ap, subst, arith, ℕ, ◌-◌, ◌+◌, ◌<◌, ◌≤◌, Bool, true, false, List, [], ◌∷◌, length, take, reverse, Some, ◌&&◌, ◌||◌, get_or, slice_get, All, reverse-append, All-head, All-tail, get_or_from_slice_get}
-use Rattle.std.proofs.lemmas.List.{take_more}
-use Rattle.std.proofs.lemmas.List.Elements.{All-push}
+use Rattle.region_ends.proofs.Common.{◌≡◌, ◌⊎◌, inl, inr, ◌∙◌, refl, sym, ap, subst, arith, ℕ, ◌-◌, ◌+◌, ◌<◌, ◌≤◌, Bool, true, false, List, [], ◌∷◌, length, take, reverse, Some, ◌&&◌, ◌||◌, get_or, slice_get, All, reverse-append, All-head, All-tail, get_or_from_slice_get, take_more, All-push}
 
 pub both : (a b : Bool) → (a && b) ≡ true → (a ≡ true) × (b ≡ true)
 both true b e = (refl, e)

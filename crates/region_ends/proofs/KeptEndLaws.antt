@@ -1,10 +1,6 @@
 -- The frames up to one, its top first.
-use Rattle.region_ends.proofs.Common.{◌≡◌, ℕ, suc, ◌<◌, List, [], ◌∷◌, length, take, reverse, sym, ap, ◌∙◌, arith, reverse-append, AddedItem, Frame}
-use Rattle.std.proofs.Common.{◌++◌, length-append}
-use Rattle.std.proofs.lemmas.List.{reverse-reverse, take-append-le}
+use Rattle.region_ends.proofs.Common.{◌≡◌, ℕ, suc, ◌<◌, List, [], ◌∷◌, length, take, reverse, sym, ap, ◌∙◌, arith, reverse-append, AddedItem, Frame, ◌++◌, length-append, reverse-reverse, take-append-le, kept_end_over, kept_end, kept_end_of_first}
 use Rattle.std.proofs.Math.Seq.{take-length}
-use Rattle.paint_rules.specs.KeptEnd.{kept_end_over}
-use Rattle.region_ends.specs.KeptEnd.{kept_end, kept_end_of_first}
 
 stack_is : (stack below : List Frame) (top : Frame) → reverse stack ≡ top ∷ reverse below → stack ≡ below ++ top ∷ []
 stack_is stack below top e =

@@ -1,14 +1,9 @@
 -- Frames whose known ends are those of items without `keepend` put no limit to a frame above them.
-use Rattle.region_ends.proofs.Common.{◌≡◌, inl, inr, Bool, true, false, List, [], ◌∷◌, reverse, refl, ap, subst, ◌∙◌, ◌&&◌, ◌||◌, not, nat_eq, Option, Some, None, AllPass-from_list_all, ItemId, AddedItem, Frame, item_of}
-use Rattle.std.specs.Prelude.{is_none}
-use Rattle.std.proofs.lemmas.Bool.{eqb-true, not-true}
-use Rattle.std.proofs.lemmas.List.Sums.{list_all-from_AllPass}
+use Rattle.region_ends.proofs.Common.{◌≡◌, inl, inr, Bool, true, false, List, [], ◌∷◌, reverse, refl, ap, subst, ◌∙◌, ◌&&◌, ◌||◌, not, nat_eq, Option, Some, None, AllPass-from_list_all, ItemId, AddedItem, Frame, item_of, is_none, eqb-true, not-true, list_all-from_AllPass, earlier_end, has_extend, has_keepend, is_start_area, limit_on, keep_none}
 use Rattle.paint_rules.specs.declared.Spot.{Spot}
-use Rattle.paint_rules.specs.KeptEnd.{earlier_end, has_extend, has_keepend, is_start_area, limit_on}
 use Rattle.state_stack.specs.declared.enders.Enders.{Enders}
 use Rattle.state_stack.specs.declared.enders.Enders.TheVariants.{Nothing, One, Two, Three, Many}
 use Rattle.state_stack.specs.Enders.{ends_by, have_enders, is_among}
-use Rattle.region_ends.specs.KeptEnd.{keep_none}
 use Rattle.region_ends.proofs.CommonLaws.{all_reverse, both, one_of}
 
 none_or_end : (b : Bool) (end : Option Spot) → end ≡ None → ◌≡◌ {A = Option Spot} (elim b [ true ↦ None | false ↦ end ]) None

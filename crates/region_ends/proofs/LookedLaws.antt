@@ -1,9 +1,6 @@
 -- A line that was looked at stays among those looked at.
-use Rattle.region_ends.proofs.Common.{◌≡◌, ◌∙◌, refl, sym, ap, subst, arith, ℕ, Bool, true, false, Some, None, pos, ◌||◌, Looked, one_line, hull_assoc, Painted, Done, Refused, looked_first, HoldsLine}
-use Rattle.std.specs.Prelude.{ℤ}
+use Rattle.region_ends.proofs.Common.{◌≡◌, ◌∙◌, refl, sym, ap, subst, arith, ℕ, Bool, true, false, Some, None, pos, ◌||◌, Looked, one_line, hull_assoc, Painted, Done, Refused, looked_first, HoldsLine, ℤ, hull_of, lesser, greater, hull_comm}
 use Rattle.std.proofs.lemmas.Int.{ints}
-use Rattle.syn_base.specs.Looked.{hull_of, lesser, greater}
-use Rattle.syn_base.proofs.HullLaws.{hull_comm}
 
 wider : (j n : Looked) (l : ℕ) → HoldsLine j l → HoldsLine (hull_of j n) l
 wider j n l h =

@@ -1,21 +1,16 @@
 -- An end that begins with the text of an external gives nothing where another character stands than
 -- the first of that text.
-use Rattle.region_ends.proofs.Common.{◌≡◌, ◌∙◌, ◌⊎◌, inl, inr, refl, sym, ap, subst, arith, ℕ, Bool, true, false, List, [], ◌∷◌, Option, Some, None, pos, nat_eq, not, get_or, slice_get, ◌-◌, nat_tests, Looked, Place, one_line, hull_self, PatternTree, Context, attempt, ignores_case, IsInVain, Pattern, Opening, With, IsToldOf, begins_with, first_of, is_unopened}
-use Rattle.std.proofs.Common.{cond}
+use Rattle.region_ends.proofs.Common.{◌≡◌, ◌∙◌, ◌⊎◌, inl, inr, refl, sym, ap, subst, arith, ℕ, Bool, true, false, List, [], ◌∷◌, Option, Some, None, pos, nat_eq, not, get_or, slice_get, ◌-◌, nat_tests, Looked, Place, one_line, hull_self, PatternTree, Context, attempt, ignores_case, IsInVain, Pattern, Opening, With, IsToldOf, begins_with, first_of, is_unopened, cond, behind_character, way_from, behind_if, behind_piece, behind_pieces, character, character_at, characters, last_line_of, lines_from, lines_looked, only_if, answer_of, for_tree, external_of, first_external, stands}
 use Rattle.std.proofs.Math.Bool.{beq}
 use Rattle.char_class.specs.Folds.{is_same}
 use Rattle.pattern_items.specs.declared.atom.Atom.{Atom}
 use Rattle.pattern_items.specs.declared.atom.Atom.TheVariants as atom
 use Rattle.vim_pattern.specs.Shape.{Shape, empty, one, seq, or, and, group, external, repeat, ahead, before, whole}
-use Rattle.match_rules.specs.Ways.{behind_character, way_from}
-use Rattle.match_rules.specs.Atoms.{behind_if, behind_piece, behind_pieces, character, character_at, characters, last_line_of, lines_from, lines_looked, only_if}
-use Rattle.match_rules.specs.Attempt.{answer_of, for_tree}
 use Rattle.match_rules.specs.Marks.{Mark, Tick}
 use Rattle.match_rules.specs.Visits.{visits}
 use Rattle.pattern_match.specs.FirstAtom.{first_atom}
 use Rattle.pattern_match.proofs.FirstAtomLaws.{first_atom-fails}
 use Rattle.region_ends.specs.declared.opening.Opening.TheVariants.{Nothing, Unknown}
-use Rattle.region_ends.specs.Opening.{external_of, first_external, stands}
 
 -- ---- the first atom
 

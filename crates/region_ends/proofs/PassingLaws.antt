@@ -1,9 +1,7 @@
 -- The search goes on behind columns where neither the skip nor an end can fit.
-use Rattle.region_ends.proofs.Common.{◌≡◌, inl, inr, ◌∙◌, refl, sym, ap, subst, arith, ℕ, zero, suc, ◌+◌, ◌-◌, ◌<◌, ◌≤◌, Bool, true, false, List, [], ◌∷◌, length, Option, Some, None, pos, nat_eq, nat_lt, not, ◌&&◌, reverse, slice_get, if◌then◌else◌, All, list_all, nat_tests, All-head, All-tail, AllPass-from_list_all, Looked, one_line, attempt, ignores_case, Context, Text, match_of, IsInVain, Region, Pattern, Painted, Done, looked_first, done, first_found, Cause, item_of, place_at, context_of, Search, Skip, NoSkip, skip_at, tried_at, end_at, offset_place, Me, Walk, IsToldOf, begins_with, first_of, is_unopened, IsPassedOver, IsWalk, are_shut, is_end_shut, is_shut_at, question_of, search_in, HoldsLine, left_from}
+use Rattle.region_ends.proofs.Common.{◌≡◌, inl, inr, ◌∙◌, refl, sym, ap, subst, arith, ℕ, zero, suc, ◌+◌, ◌-◌, ◌<◌, ◌≤◌, Bool, true, false, List, [], ◌∷◌, length, Option, Some, None, pos, nat_eq, nat_lt, not, ◌&&◌, reverse, slice_get, if◌then◌else◌, All, list_all, nat_tests, All-head, All-tail, AllPass-from_list_all, Looked, one_line, attempt, ignores_case, Context, Text, match_of, IsInVain, Region, Pattern, Painted, Done, looked_first, done, first_found, Cause, item_of, place_at, context_of, Search, Skip, NoSkip, skip_at, tried_at, end_at, offset_place, Me, Walk, IsToldOf, begins_with, first_of, is_unopened, IsPassedOver, IsWalk, are_shut, is_end_shut, is_shut_at, question_of, search_in, HoldsLine, left_from, is_some, has_keyword, skip_to, goes_on, IsOfRegion, Question, are_shut_anyway, are_shut_by, is_cheap, is_shut, is_skip_shut}
 use Rattle.paint_rules.specs.Syntax.{attempt_by}
-use Rattle.std.specs.Prelude.{is_some}
 use Rattle.std.specs.Option.{option_map}
-use Rattle.match_rules.specs.Atoms.{has_keyword}
 use Rattle.pattern_match.specs.declared.answer.Attempt.TheVariants as tried
 use Rattle.pattern_screens.specs.Bounds.{failing_cost}
 use Rattle.pattern_screens.specs.declared.key.Key.{Key}
@@ -14,9 +12,6 @@ use Rattle.pattern_screens.specs.declared.key.Next.TheVariants as nexts
 use Rattle.pattern_screens.specs.Keys.{key_numbered, key_of, last_in, next_of, other_of}
 use Rattle.pattern_screens.specs.Screens.{is_futile}
 use Rattle.pattern_screens.proofs.Screened.{law as futile}
-use Rattle.paint_rules.specs.EndInLine.{skip_to}
-use Rattle.paint_rules.proofs.PaintedLaws.{goes_on}
-use Rattle.region_ends.specs.Passing.{IsOfRegion, Question, are_shut_anyway, are_shut_by, is_cheap, is_shut, is_skip_shut}
 use Rattle.region_ends.proofs.CommonLaws.{all_reverse, both, one_of}
 use Rattle.region_ends.proofs.OpeningLaws.{attempt_fails, begins_here, differs, told_differs}
 use Rattle.region_ends.proofs.SearchLaws.{after_try, first_end, tried_at_is, to_later}

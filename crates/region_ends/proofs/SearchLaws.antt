@@ -1,11 +1,7 @@
 -- Each answer of a step is what the rule says, after what was looked at before.
-use Rattle.region_ends.proofs.Common.{◌≡◌, ℕ, zero, suc, ◌+◌, ◌-◌, ◌<◌, ◌≤◌, Bool, true, false, List, [], ◌∷◌, length, refl, sym, ap, ◌∙◌, arith, subst, Option, Some, None, pos, nat_lt, slice_get, reverse, take, get_or_from_slice_get, nat_tests, Looked, ItemId, Place, one_line, Text, line_at, Attempt, IsToldOn, ItemKind, Pattern, Painted, Done, looked_first, ◌>>=◌, done, first_found, refusal_of, Cause, Matched, TooCostly, place_at, item_of, RegionEnd, columns_from, Search, Skip, NoSkip, SkipTo, SkipLine, skip_of, ends_of, skip_at, tried_at, end_at, end_made, end_from, hull_assoc, refusal_bind, IsAttempted, IsTried}
+use Rattle.region_ends.proofs.Common.{◌≡◌, ℕ, zero, suc, ◌+◌, ◌-◌, ◌<◌, ◌≤◌, Bool, true, false, List, [], ◌∷◌, length, refl, sym, ap, ◌∙◌, arith, subst, Option, Some, None, pos, nat_lt, slice_get, reverse, take, get_or_from_slice_get, nat_tests, Looked, ItemId, Place, one_line, Text, line_at, Attempt, IsToldOn, ItemKind, Pattern, Painted, Done, looked_first, ◌>>=◌, done, first_found, refusal_of, Cause, Matched, TooCostly, place_at, item_of, RegionEnd, columns_from, Search, Skip, NoSkip, SkipTo, SkipLine, skip_of, ends_of, skip_at, tried_at, end_at, end_made, end_from, hull_assoc, refusal_bind, IsAttempted, IsTried, attempted, looks_at_end, columns, first_bind, refusal_first, seen, EndsBefore}
 use Rattle.std.specs.Option.{option_map}
 use Rattle.pattern_match.specs.declared.answer.Attempt.TheVariants as tried
-use Rattle.paint_rules.specs.Rules.{attempted}
-use Rattle.paint_rules.specs.ItemMatch.{looks_at_end, columns}
-use Rattle.paint_rules.proofs.PaintedLaws.{first_bind, refusal_first}
-use Rattle.region_ends.specs.Steps.{seen, EndsBefore}
 use Rattle.region_ends.proofs.AttemptLaws.{within}
 use Rattle.region_ends.proofs.CommonLaws.{last_first}
 

@@ -1,18 +1,11 @@
 -- Searches from several columns that come to the same.
-use Rattle.region_ends.proofs.Common.{◌≡◌, ◌∙◌, refl, sym, ap, subst, arith, ℕ, suc, ◌<◌, ◌≤◌, Bool, true, false, List, [], ◌∷◌, length, inl, inr, Option, Some, None, nat_lt, pos, reverse, nat_tests, Sets, Looked, ItemId, Place, one_line, hull_self, Text, line_at, AddedItem, ItemKind, Region, Pattern, RegionEnd, Me, Painted, Done, Refused, looked_first, ◌>>=◌, done, first_found, Cause, Matched, item_of, no_externals, place_at, offset_place, columns_from, Search, Skip, NoSkip, SkipTo, SkipLine, skip_of, ends_of, skip_at, tried_at, end_at, end_made, end_from, end_in_line, Walk, EndAnswer, KnownStands, IsPassedOver, IsWalk, search_of, IsEnd, search_in, answer_at, left_from, HoldsLine}
+use Rattle.region_ends.proofs.Common.{◌≡◌, ◌∙◌, refl, sym, ap, subst, arith, ℕ, suc, ◌<◌, ◌≤◌, Bool, true, false, List, [], ◌∷◌, length, inl, inr, Option, Some, None, nat_lt, pos, reverse, nat_tests, Sets, Looked, ItemId, Place, one_line, hull_self, Text, line_at, AddedItem, ItemKind, Region, Pattern, RegionEnd, Me, Painted, Done, Refused, looked_first, ◌>>=◌, done, first_found, Cause, Matched, item_of, no_externals, place_at, offset_place, columns_from, Search, Skip, NoSkip, SkipTo, SkipLine, skip_of, ends_of, skip_at, tried_at, end_at, end_made, end_from, end_in_line, Walk, EndAnswer, KnownStands, IsPassedOver, IsWalk, search_of, IsEnd, search_in, answer_at, left_from, HoldsLine, cases_lt, is_after, He, Re, later_place, earlier_place, end_in_present, IsKept, found_from, GoesOn, IsFirst, IsSearched, ReachesEnd, TellsColumns}
 use Rattle.std.specs.Option.{option_map}
-use Rattle.std.proofs.lemmas.Bool.{cases_lt}
 use Rattle.syn_base.specs.declared.places.GroupId.{GroupId}
-use Rattle.match_rules.specs.Ways.{is_after}
-use Rattle.paint_rules.specs.declared.Which.TheVariants.{He, Re}
-use Rattle.paint_rules.specs.Offsets.{later_place, earlier_place}
-use Rattle.paint_rules.specs.EndInLine.{end_in_present}
 use Rattle.region_ends.specs.declared.end_memo.Known.{Known}
 use Rattle.region_ends.specs.declared.searching.EndAnswer.TheVariants.{NotHere}
 use Rattle.region_ends.specs.declared.searching.Searched.{Searched}
 use Rattle.region_ends.specs.declared.searching.Searching.{Searching}
-use Rattle.region_ends.specs.EndMemo.{IsKept}
-use Rattle.region_ends.specs.Stretches.{found_from, GoesOn, IsFirst, IsSearched, ReachesEnd, TellsColumns}
 use Rattle.region_ends.proofs.LookedLaws.{alone_before}
 use Rattle.region_ends.proofs.PassingLaws.{columns_passed}
 use Rattle.region_ends.proofs.SearchLaws.{none_left}

@@ -9,3 +9,4 @@ pub mod Steps
 pub mod Stretches
 pub mod Opening
 pub mod Passing
+pub mod Common

@@ -1,16 +1,7 @@
 //! What is remembered of a line: where regions end in it.
 ghost use Rattle.std.specs.Prelude.{◌≡◌, ◌<◌, ◌≤◌, ◌^◌, ℕ, List, length, true, IfOk, IfSome, IsTrue};
+ghost use Rattle.region_ends.specs.Common.{Text, AddedItem, no_externals, end_in_line, search_of, IsEnd, answer_at, EndMemoStands, KnownStands, IsKept, TellsOf, AnswersStand, is_shut_at, MaySearch, search_in};
 ghost use Rattle.char_class.specs.declared.sets.Sets.{Sets as SetsRules};
-ghost use Rattle.match_rules.specs.Ways.{Text};
-ghost use Rattle.syntax_set.specs.declared.added_item.AddedItem.{AddedItem};
-ghost use Rattle.paint_rules.specs.Rules.{no_externals};
-ghost use Rattle.paint_rules.specs.EndInLine.{end_in_line};
-ghost use Rattle.region_ends.specs.Searches.{search_of, IsEnd};
-ghost use Rattle.region_ends.specs.Stretches.{answer_at};
-ghost use Rattle.region_ends.specs.EndMemo.{EndMemoStands, KnownStands, IsKept, TellsOf};
-ghost use Rattle.region_ends.specs.KeyAnswers.{AnswersStand};
-ghost use Rattle.region_ends.specs.Passing.{is_shut_at};
-ghost use Rattle.region_ends.specs.Steps.{MaySearch, search_in};
 
 use crate::key_answers::KeyAnswers;
 use crate::searching::{EndAnswer, Searched, Searching};

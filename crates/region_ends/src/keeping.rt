@@ -1,9 +1,6 @@
 //! The kept end of a frame (`:syn-keepend`, `:syn-extend`).
 ghost use Rattle.std.specs.Prelude.{◌≡◌, ◌<◌, length, reverse};
-ghost use Rattle.paint_rules.specs.KeptEnd.{earlier_end, is_before, limit_of, limit_on, kept_end_over};
-ghost use Rattle.paint_rules.specs.Rules.{item_of};
-ghost use Rattle.paint_rules.specs.States.{Fits};
-ghost use Rattle.region_ends.specs.KeptEnd.{keep_none, kept_end};
+ghost use Rattle.region_ends.specs.Common.{earlier_end, is_before, limit_of, limit_on, kept_end_over, item_of, Fits, keep_none, kept_end};
 
 use paint_rules::{Part, Spot};
 use state_stack::{Enders, Frame, Stack};

@@ -1,6 +1,6 @@
 //! Answers to a question of yes or no that is asked of an item at the columns with a key.
 ghost use Rattle.std.specs.Prelude.{◌≡◌, ℕ, Bool, Some, true};
-ghost use Rattle.region_ends.specs.KeyAnswers.{AnswersStand};
+ghost use Rattle.region_ends.specs.Common.{AnswersStand};
 
 use slots::Grid;
 use std::alloc::Global;

@@ -1,10 +1,6 @@
 //! Attempts of the patterns of items.
 ghost use Rattle.std.specs.Prelude.{◌≡◌, ◌<◌, ◌≤◌, length, IfOk};
-ghost use Rattle.match_rules.specs.Ways.{IsPlaceOf};
-ghost use Rattle.pattern_match.specs.OnText.{IsToldOn};
-ghost use Rattle.paint_rules.specs.Syntax.{attempt_by};
-ghost use Rattle.syntax_set.specs.Soundness.{IsAdded};
-ghost use Rattle.region_ends.specs.Attempts.{IsAttempted};
+ghost use Rattle.region_ends.specs.Common.{IsPlaceOf, IsToldOn, attempt_by, IsAdded, IsAttempted};
 
 use char_class::Sets;
 use pattern_match::{Attempt, Context, Programs};

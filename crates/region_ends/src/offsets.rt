@@ -1,7 +1,6 @@
 //! The places that offsets name (`:syn-pattern-offset`).
 ghost use Rattle.std.specs.Prelude.{◌≡◌, ℤ, pos, negsuc, ◌+ℤ◌, ◌≤ℤ◌, length};
-ghost use Rattle.match_rules.specs.Ways.{line_at};
-ghost use Rattle.paint_rules.specs.Offsets.{within_line, moved_in_line, offset_from, offset_place, later_place, earlier_place};
+ghost use Rattle.region_ends.specs.Common.{line_at, within_line, moved_in_line, offset_from, offset_place, later_place, earlier_place};
 
 use paint_rules::Which;
 use pattern_match::Match;

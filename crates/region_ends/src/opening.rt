@@ -1,10 +1,8 @@
 //! What ends begin with that begin with the text of an external (`\z1`).
 ghost use Rattle.std.specs.Prelude.{◌≡◌, ◌⊎◌, Bool, List, ℕ, Some, IfSome};
 ghost use Rattle.std.specs.List.{All};
-ghost use Rattle.match_rules.specs.Attempt.{ignores_case};
+ghost use Rattle.region_ends.specs.Common.{ignores_case, bare, IsToldOf, begins_with, external_of, first_external, first_of, stands};
 ghost use Rattle.syntax_set.specs.declared.item.Pattern.{Pattern as OnePattern};
-ghost use Rattle.vim_pattern.specs.Shape.{bare};
-ghost use Rattle.region_ends.specs.Opening.{IsToldOf, begins_with, external_of, first_external, first_of, stands};
 
 use char_class::same;
 use syn_base::Externals;

@@ -1,9 +1,7 @@
 //! Columns that a search passes over: by what stands there, neither the skip nor an end can fit.
 ghost use Rattle.std.specs.Prelude.{◌≡◌, ◌≤◌, ◌<◌, ◌+◌, ℕ, suc, true, length, slice_get, IsTrue};
 ghost use Rattle.std.specs.List.{list_all};
-ghost use Rattle.pattern_screens.specs.Keys.{key_of};
-ghost use Rattle.region_ends.specs.Opening.{is_unopened};
-ghost use Rattle.region_ends.specs.Passing.{are_shut, are_shut_anyway, are_shut_by, is_cheap, is_end_shut, is_shut, is_skip_shut, question_of, IsOfRegion, IsPassedOver, ShutStands};
+ghost use Rattle.region_ends.specs.Common.{key_of, is_unopened, are_shut, are_shut_anyway, are_shut_by, is_cheap, is_end_shut, is_shut, is_skip_shut, question_of, IsOfRegion, IsPassedOver, ShutStands};
 
 use crate::key_answers::KeyAnswers;
 use crate::opening::{Opening, begins_with, stands};
@@ -87,6 +85,7 @@ impl Walk<'_> {
     }
 
     /// The same at the columns for which an answer is kept by a number.
+    #[inline(never)]
     fn are_shut_by(&self, number: u16) -> bool
         requires { number < 777 + 256 }
         ensures { IsTrue result → are_shut_by (question_of self.now) number ≡ true }
@@ -97,22 +96,7 @@ impl Walk<'_> {
         self.are_shut_anyway(Next::Code((number - KEYS) as u8))
     }
 
-    /// The same. The answer is kept, if there is memory.
-    #[inline(never)]
-    fn are_shut_anew(&self, number: u16, answers: &mut KeyAnswers) -> bool
-        requires number { number < 777 + 256 }
-        requires of { IsOfRegion self.now }
-        requires answers { ShutStands self.now.search answers.old }
-        ensures answers { ShutStands self.now.search answers.new }
-        ensures shut { IsTrue result → are_shut_by (question_of self.now) number ≡ true }
-    {
-        let shut = self.are_shut_by(number);
-        match answers.keep(number, self.search.region, shut) {
-            Ok(()) | Err(Memory) => shut,
-        }
-    }
-
-    /// The same, by the answers that are kept.
+    /// The same, asked once: the answer is kept, if there is memory.
     #[inline(always)]
     fn are_known_shut(&self, number: u16, answers: &mut KeyAnswers) -> bool
         requires number { number < 777 + 256 }
@@ -123,15 +107,13 @@ impl Walk<'_> {
     {
         match answers.known(number, self.search.region) {
             Some(shut) => shut,
-            None => self.are_shut_anew(number, answers),
+            None => {
+                let shut = self.are_shut_by(number);
+                match answers.keep(number, self.search.region, shut) {
+                    Ok(()) | Err(Memory) => shut,
+                }
+            }
         }
-    }
-
-    /// What stands at a column.
-    fn at(&self, c: usize) -> Option<char>
-        ensures { result ≡ slice_get self.now.line.now c }
-    {
-        self.line.get(c).copied()
     }
 
     /// The same of a column, by the character that stands there alone, if it is below 256: this costs
@@ -150,6 +132,13 @@ impl Walk<'_> {
                 Err(_) => false,
             },
         }
+    }
+
+    /// What stands at a column.
+    fn at(&self, c: usize) -> Option<char>
+        ensures { result ≡ slice_get self.now.line.now c }
+    {
+        self.line.get(c).copied()
     }
 
     /// Whether no end that begins with the text of an external can begin at a column.

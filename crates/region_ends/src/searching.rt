@@ -1,15 +1,6 @@
 //! The search for the end of a region in a line (`:syn-region`).
 ghost use Rattle.std.specs.Prelude.{◌≡◌, ◌<◌, ◌≤◌, ◌^◌, length, reverse, true, IfOk, Some};
-ghost use Rattle.syntax_set.specs.Soundness.{AreSound, IsAdded};
-ghost use Rattle.paint_rules.specs.Painted.{looked_first, first_found};
-ghost use Rattle.paint_rules.specs.Rules.{item_of};
-ghost use Rattle.paint_rules.specs.Close.{is_region};
-ghost use Rattle.paint_rules.specs.EndInLine.{end_in_line, end_at, end_made, skip_at, tried_at};
-ghost use Rattle.region_ends.specs.Searches.{search_of, IsEnd};
-ghost use Rattle.region_ends.specs.KeyAnswers.{AnswersStand};
-ghost use Rattle.region_ends.specs.Passing.{is_shut_at, IsWalk, ShutStands};
-ghost use Rattle.region_ends.specs.Stretches.{IsFirst, IsSearched, IsStep, TellsColumns};
-ghost use Rattle.region_ends.specs.Steps.{search_in, MaySearch, EndsBefore, seen, IsTried, IsSkip, GoesFurther};
+ghost use Rattle.region_ends.specs.Common.{AreSound, IsAdded, looked_first, first_found, item_of, is_region, end_in_line, end_at, end_made, skip_at, tried_at, search_of, IsEnd, AnswersStand, is_shut_at, IsWalk, ShutStands, IsFirst, IsSearched, IsStep, TellsColumns, search_in, MaySearch, EndsBefore, seen, IsTried, IsSkip, GoesFurther};
 
 use crate::keeping::item_of;
 use crate::key_answers::KeyAnswers;
@@ -269,11 +260,7 @@ impl Searching<'_> {
         let _count = lines.len();
         let item = item_of(self.items, self.region);
         match &item.kind {
-            ItemKind::Region {
-                starts: _,
-                skip,
-                ends,
-            } => {
+            ItemKind::Region { skip, ends, .. } => {
                 let walk = Walk {
                     search: *self,
                     ignore: item.ignore,

@@ -1,6 +1,6 @@
 //! What a skip pattern says of a column (`:syn-skip`).
 ghost use Rattle.std.specs.Prelude.{◌≡◌, ◌≤◌, ◌<◌, ◌^◌};
-ghost use Rattle.region_ends.specs.Steps.{skip_from, SkipIs, GoesFurther};
+ghost use Rattle.region_ends.specs.Common.{skip_from, SkipIs, GoesFurther};
 
 use syn_base::{Looked, Place};
 

@@ -1,6 +1,4 @@
-use Rattle.region_ends.proofs.Common.{◌≡◌, ◌<◌, ◌≤◌, inl, inr, List, length, get_or, take, arith, subst, All, Pattern, IsToldOf}
-use Rattle.std.proofs.lemmas.List.{take_all}
-use Rattle.std.proofs.lemmas.List.Elements.{All-more, All-weaker}
+use Rattle.region_ends.proofs.Common.{◌≡◌, ◌<◌, ◌≤◌, inl, inr, List, length, get_or, take, arith, subst, All, Pattern, IsToldOf, take_all, All-more, All-weaker}
 use Rattle.region_ends.proofs.opening.known_opening.Goals as goal
 
 pub loop-pattern-preserved : goal.loop-pattern-preserved

@@ -1,6 +1,4 @@
-use Rattle.region_ends.proofs.Common.{KnownStands}
-use Rattle.slots.specs.Entries.{Has}
-use Rattle.slots.proofs.EntryLaws.{all_still}
+use Rattle.region_ends.proofs.Common.{KnownStands, Has, all_still}
 use Rattle.region_ends.proofs.end_memo.EndMemo.keep.Goals as goal
 
 pub returns : goal.returns

@@ -1,5 +1,4 @@
-use Rattle.region_ends.proofs.Common.{subst, refl, true, Bool, ◌≡◌, IsIn}
-use Rattle.slots.proofs.EntryLaws.{all_still_in}
+use Rattle.region_ends.proofs.Common.{subst, refl, true, Bool, ◌≡◌, IsIn, all_still_in}
 use Rattle.region_ends.proofs.key_answers.KeyAnswers.keep.Goals as goal
 
 pub returns : goal.returns

@@ -1,5 +1,4 @@
-use Rattle.region_ends.proofs.Common.{subst, Bool, Option, IsIn}
-use Rattle.std.specs.Prelude.{IfSome}
+use Rattle.region_ends.proofs.Common.{subst, Bool, Option, IsIn, IfSome}
 use Rattle.region_ends.proofs.key_answers.KeyAnswers.known.Goals as goal
 
 pub returns : goal.returns

@@ -1,8 +1,7 @@
-use Rattle.region_ends.proofs.Common.{◌≡◌, ◌+◌, ◌∙◌, [], ap, arith, length, subst, suc, Some, None, reverse, Region, looked_first, first_found, NoSkip, SkipTo, end_at, skip_at, EndAnswer, IsEnd, search_in, left_from}
+use Rattle.region_ends.proofs.Common.{◌≡◌, ◌+◌, ◌∙◌, [], ap, arith, length, subst, suc, Some, None, reverse, Region, looked_first, first_found, NoSkip, SkipTo, end_at, skip_at, EndAnswer, IsEnd, search_in, left_from, GoesFurther, IsSkip}
 use Rattle.region_ends.proofs.LookedLaws.{still_held}
 use Rattle.region_ends.proofs.SearchLaws.{to_next, to_none, to_end, to_later, ends_costly, skip_costly}
 use Rattle.region_ends.specs.declared.skips.SkipAnswer.{SkipAnswer}
-use Rattle.region_ends.specs.Steps.{GoesFurther, IsSkip}
 use Rattle.region_ends.proofs.passing.Walk.answer_at.Goals as goal
 
 pub returns-in-SkipTo : goal.returns-in-SkipTo

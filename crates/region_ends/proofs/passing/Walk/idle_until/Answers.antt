@@ -1,5 +1,4 @@
-use Rattle.region_ends.proofs.Common.{◌≤◌, ℕ, arith, IsPassedOver}
-use Rattle.std.proofs.Common.{below_more}
+use Rattle.region_ends.proofs.Common.{◌≤◌, ℕ, arith, IsPassedOver, below_more}
 use Rattle.region_ends.proofs.passing.Walk.idle_until.Goals as goal
 
 pub loop-col-preserved : goal.loop-col-preserved

@@ -1,6 +1,4 @@
-use Rattle.region_ends.proofs.Common.{arith, subst}
-use Rattle.std.proofs.Common.{rules}
-use Rattle.region_ends.specs.Stretches.{IsStep}
+use Rattle.region_ends.proofs.Common.{arith, subst, rules, IsStep}
 use Rattle.region_ends.proofs.StretchLaws.{answered, begun, none_found, passed, stepped}
 use Rattle.region_ends.proofs.passing.Walk.search.Goals as goal
 
