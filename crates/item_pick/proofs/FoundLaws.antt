@@ -1,6 +1,5 @@
 -- The first of some choices that gives anything, choice by choice.
-use Rattle.item_pick.proofs.Common.{◌≡◌, ◌∙◌, refl, sym, ap, arith, ℕ, zero, suc, ◌+◌, ◌-◌, ◌<◌, ◌≤◌, Bool, true, false, List, [], ◌∷◌, length, take, reverse, Option, Some, None, nat_lt, slice_get, nat_tests, Looked, Painted, Done, looked_first, done, first_found, Cause, ItemId, items_below, Stop, IsStop, IsIdle, goes_on}
-use Rattle.paint_rules.specs.ItemMatch.{columns, columns_from}
+use Rattle.item_pick.proofs.Common.{◌≡◌, ◌∙◌, refl, sym, ap, arith, ℕ, zero, suc, ◌+◌, ◌-◌, ◌<◌, ◌≤◌, Bool, true, false, List, [], ◌∷◌, length, take, reverse, Option, Some, None, nat_lt, slice_get, nat_tests, Looked, Painted, Done, looked_first, done, first_found, Cause, ItemId, items_below, Stop, IsStop, IsIdle, goes_on, columns, columns_from}
 use Rattle.item_pick.proofs.ListLaws.{last_first}
 use Rattle.item_pick.proofs.ToldLaws.{stops}
 

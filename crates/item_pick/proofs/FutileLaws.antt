@@ -1,10 +1,8 @@
 -- An attempt that is known to fail finds nothing, within the budget.
-use Rattle.item_pick.proofs.Common.{◌≡◌, ap, refl, ℕ, ◌+◌, ◌≤◌, Bool, true, false, length, not, nat_lt, option_map, Sets, PatternTree, Text, line_at, no_externals, place_at, context_of, is_cheap_behind, fails, fails_after, takes_first, key_numbered, key_of, two_lines, rest_fails, AreWithin, IsFutile, IsFutileBy}
+use Rattle.item_pick.proofs.Common.{◌≡◌, ap, refl, ℕ, ◌+◌, ◌≤◌, Bool, true, false, length, not, nat_lt, option_map, Sets, PatternTree, Text, line_at, no_externals, place_at, context_of, is_cheap_behind, fails, fails_after, takes_first, key_numbered, key_of, two_lines, rest_fails, AreWithin, IsFutile, IsFutileBy, place, lines_seen, IsInVain}
 use Rattle.match_rules.specs.Attempt.{attempt}
-use Rattle.match_rules.specs.Ways.{place}
 use Rattle.paint_rules.specs.Syntax.{attempt_by}
 use Rattle.pattern_match.specs.Answers.{match_of}
-use Rattle.pattern_screens.specs.ScreenLaw.{lines_seen, IsInVain}
 use Rattle.pattern_screens.proofs.BehindLaws.{behind-law}
 use Rattle.pattern_screens.proofs.FailingLaws.{fails-here}
 use Rattle.pattern_screens.proofs.FollowingLaws.{after-law}

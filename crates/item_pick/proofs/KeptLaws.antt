@@ -1,9 +1,6 @@
 -- What is kept of an item at the columns with a key, as a test and as what it says.
-use Rattle.item_pick.proofs.Common.{◌≡◌, refl, sym, subst, ℕ, zero, suc, Bool, true, List, [], ◌∷◌, Some, Option, slice_get, ◌&&◌, Sets, ItemId, ItemKind, Keyword, Match, Region, Pattern, Rules, item_of, fails_after, first_asked, idles_before, IsToldOfFirst, sits_by, some_idle, has_one_start, IsFirst, IsPatternOf, is_screened, stays_out, StaysOut}
-use Rattle.std.specs.List.{list_all}
+use Rattle.item_pick.proofs.Common.{◌≡◌, refl, sym, subst, ℕ, zero, suc, Bool, true, List, [], ◌∷◌, Some, Option, slice_get, ◌&&◌, Sets, ItemId, ItemKind, Keyword, Match, Region, Pattern, Rules, item_of, fails_after, first_asked, idles_before, IsToldOfFirst, sits_by, some_idle, has_one_start, IsFirst, IsPatternOf, is_screened, stays_out, StaysOut, list_all, Asks, some_asked, is_kind_screened}
 use Rattle.std.proofs.lemmas.Bool.{and_parts as both_true}
-use Rattle.item_pick.specs.Firsts.{Asks, some_asked}
-use Rattle.item_pick.specs.Tables.{is_kind_screened}
 
 -- a test that all of a list pass
 all_pass : {A : Type 0} (f : A → Bool) (xs : List A) → ((n : ℕ) (x : A) → Some x ≡ slice_get xs n → f x ≡ true) → list_all f xs ≡ true
@@ -51,10 +48,10 @@ first_by asks r i number told pattern first =
 pub both_told : (a b : Bool) → a ≡ true → b ≡ true → (a && b) ≡ true
 both_told a b e f = λ i. e i && f i
 
-pub idle_told : (r : Rules) (i : ItemId) (number : ℕ) (ignore : Bool) → ignore ≡ (item_of r.items i).ignore → (pattern : Pattern) → IsFirst r i pattern → (is sits : Bool) →
-    (is ≡ true → fails_after r.sets r.budget ignore number pattern.tree ≡ true) → (sits ≡ true → (has_one_start (item_of r.items i).kind && sits_by pattern) ≡ true) → (is && sits) ≡ true → idles_before r number i.0 ≡ true
-idle_told r i number ignore same pattern first is sits told sat e =
+pub idle_by : (r : Rules) (i : ItemId) (number : ℕ) (pattern : Pattern) → IsFirst r i pattern → (is sits : Bool) → (is ≡ true → first_asked fails_after r number i.0 ≡ true) →
+    (sits ≡ true → (has_one_start (item_of r.items i).kind && sits_by pattern) ≡ true) → (is && sits) ≡ true → idles_before r number i.0 ≡ true
+idle_by r i number pattern first is sits told sat e =
     let a = both_true is sits e in
     let b = both_true (has_one_start (item_of r.items i).kind) (sits_by pattern) (sat a.1) in
-    let fails : fails_after r.sets r.budget (item_of r.items i).ignore number pattern.tree ≡ true = subst (λ c. fails_after r.sets r.budget c number pattern.tree ≡ true) same (told a.0) in
+    let fails = first_by fails_after r i number (told a.0) pattern first in
     λ j. b.0 j && subst (λ (o : Option Pattern). some_idle r.sets r.budget (item_of r.items i).ignore number o ≡ true) (sym first) (λ k. b.1 k && fails k) j

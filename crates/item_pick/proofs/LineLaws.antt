@@ -1,6 +1,5 @@
 -- Items that start nowhere in a line.
-use Rattle.item_pick.proofs.Common.{◌≡◌, refl, sym, subst, arith, ℕ, ◌+◌, ◌≤◌, length, Result, Ok, Err, IfOk, Looked, ItemId, Place, Text, line_at, Pattern, Rules, item_of, place_at, Run, HoldsLine, HoldsLines, IsLater, IsPatternOf, IsBarren, IsLackedIn, RunStands}
-use Rattle.item_pick.specs.Runs.{IsWhole}
+use Rattle.item_pick.proofs.Common.{◌≡◌, refl, sym, subst, arith, ℕ, ◌+◌, ◌≤◌, length, Result, Ok, Err, IfOk, Looked, ItemId, Place, Text, line_at, Pattern, Rules, item_of, place_at, Run, HoldsLine, HoldsLines, IsLater, IsPatternOf, IsBarren, IsLackedIn, RunStands, IsWhole}
 use Rattle.item_pick.proofs.NeedLaws.{IsNeedLaw, lacked_quiet}
 use Rattle.item_pick.proofs.TableLaws.{covered_quiet}
 

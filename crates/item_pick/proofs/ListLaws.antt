@@ -1,6 +1,5 @@
 -- Lists that are read from their end.
-use Rattle.item_pick.proofs.Common.{◌≡◌, ◌∙◌, ap, arith, ℕ, zero, suc, ◌+◌, ◌<◌, ◌≤◌, List, [], ◌∷◌, length, take, reverse, get_or, Some, slice_get, reverse-append}
-use Rattle.std.proofs.lemmas.List.{take_more}
+use Rattle.item_pick.proofs.Common.{◌≡◌, ◌∙◌, ap, arith, ℕ, zero, suc, ◌+◌, ◌<◌, ◌≤◌, List, [], ◌∷◌, length, take, reverse, get_or, Some, slice_get, reverse-append, take_more}
 
 pub read : {A : Type 0} (xs : List A) (i : ℕ) (x d : A) → Some x ≡ slice_get xs i → get_or xs i d ≡ x
 read [] i x d e = absurd (cc)

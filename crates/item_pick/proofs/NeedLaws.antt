@@ -1,8 +1,6 @@
 -- In a line that lacks what an item needs nothing of it is found.
-use Rattle.item_pick.proofs.Common.{arith, ℕ, ◌≤◌, Bool, false, length, Sets, PatternTree, Looked, ItemId, Place, Text, line_at, Rules, item_of, no_externals, place_at, context_of, IsFutile, IsQuiet, HoldsLine, IsLackedIn}
-use Rattle.pattern_needs.specs.LineNeeds.{LacksNeed}
+use Rattle.item_pick.proofs.Common.{arith, ℕ, ◌≤◌, Bool, false, length, Sets, PatternTree, Looked, ItemId, Place, Text, line_at, Rules, item_of, no_externals, place_at, context_of, IsFutile, IsQuiet, HoldsLine, IsLackedIn, LacksNeed, attempt_by}
 use Rattle.pattern_needs.proofs.NeedsLaws.{needs-law}
-use Rattle.paint_rules.specs.Syntax.{attempt_by}
 use Rattle.item_pick.proofs.FutileLaws.{futile_in}
 use Rattle.item_pick.proofs.ScreenLaws.{futile_idle}
 

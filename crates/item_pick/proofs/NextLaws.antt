@@ -1,9 +1,8 @@
 -- Which items the nextgroup of a waiting item has.
-use Rattle.item_pick.proofs.Common.{◌≡◌, ◌<◌, length, refl, sym, ◌∙◌, ap, Option, None, Some, slice_get, slice_get-get_or, get_or, ItemId, AddedItem, Rules, no_added}
+use Rattle.item_pick.proofs.Common.{◌≡◌, ◌<◌, length, refl, sym, ◌∙◌, ap, Option, None, Some, slice_get, slice_get-get_or, get_or, ItemId, AddedItem, Rules, no_added, is_in_list, is_next}
 use Rattle.syntax_set.specs.declared.item.GroupList.{GroupList}
 use Rattle.syntax_set.specs.Allowed.{follows, passes}
 use Rattle.syntax_set.specs.Membership.{is_member_of_option}
-use Rattle.paint_rules.specs.Lists.{is_in_list, is_next}
 
 -- an item is a member of a list that may be absent
 in_list : (r : Rules) (list : Option GroupList) (i : ItemId) → passes (is_member_of_option r.lists list 0) (slice_get r.items i.0) ≡ is_in_list r list i

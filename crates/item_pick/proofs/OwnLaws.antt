@@ -1,5 +1,5 @@
 -- What the matcher answers of the patterns of items.
-use Rattle.item_pick.proofs.Common.{◌≡◌, refl, sym, subst, arith, ℕ, ◌+◌, ◌<◌, List, length, get_or, true, Option, Some, Result, Ok, Err, IfOk, slice_get, All, get_or_from_slice_get, slice_get-get_or, slice_get_within, ItemId, Place, PatternTree, Text, AddedItem, ItemKind, Keyword, Match, Region, Pattern, item_of, no_added, IsPatternOf}
+use Rattle.item_pick.proofs.Common.{◌≡◌, refl, sym, subst, arith, ℕ, ◌+◌, ◌<◌, List, length, get_or, true, Option, Some, Result, Ok, Err, IfOk, slice_get, All, get_or_from_slice_get, slice_get-get_or, slice_get_within, ItemId, Place, PatternTree, Text, AddedItem, ItemKind, Keyword, Match, Region, Pattern, item_of, no_added, IsPatternOf, EndsBelow, IsThere, no_pattern, starts_of, is_region}
 use Rattle.syn_base.specs.declared.want_of_memory.Memory.{Memory}
 use Rattle.pattern_match.specs.OnText.{IsToldOn}
 use Rattle.pattern_match.specs.declared.answer.Attempt.{Attempt}
@@ -7,9 +7,6 @@ use Rattle.pattern_match.specs.declared.answer.Attempt.TheVariants.{Found, Absen
 use Rattle.syntax_set.specs.Soundness.{AreKindAdded, AreSound, IsAdded}
 use Rattle.pattern_match.specs.declared.answer.Match.{Match as MatchOf}
 use Rattle.paint_rules.specs.declared.RegionEnd.{RegionEnd}
-use Rattle.paint_rules.specs.Close.{is_region}
-use Rattle.item_pick.specs.Attempts.{EndsBelow}
-use Rattle.item_pick.specs.Started.{IsThere, no_pattern, starts_of}
 use Rattle.item_pick.specs.declared.starting.Starting.TheVariants as begun
 
 at_of_all : {A : Type 0} (P : A → Type 0) (xs : List A) (n : ℕ) (x : A) → All P xs → Some x ≡ slice_get xs n → P x

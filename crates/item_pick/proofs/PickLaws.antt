@@ -1,12 +1,7 @@
 -- What is picked, by what its steps told.
-use Rattle.item_pick.proofs.Common.{◌≡◌, ◌∙◌, refl, sym, ap, ℕ, Bool, true, false, List, [], ◌∷◌, length, Option, Some, None, Looked, Place, Text, Frame, ItemId, Painted, Done, looked_first, done, ◌>>=◌, first_found, Rules, Cause, item_of, Starting, Picked, is_allowed, items_below, keyword_at, or_nothing, picked, start_by, Choice, goes_on, admits, here_at, is_free, standing_at, start_if_free}
-use Rattle.std.specs.Prelude.{cond}
+use Rattle.item_pick.proofs.Common.{◌≡◌, ◌∙◌, refl, sym, ap, ℕ, Bool, true, false, List, [], ◌∷◌, length, Option, Some, None, Looked, Place, Text, Frame, ItemId, Painted, Done, looked_first, done, ◌>>=◌, first_found, Rules, Cause, item_of, Starting, Picked, is_allowed, items_below, keyword_at, or_nothing, picked, start_by, Choice, goes_on, admits, here_at, is_free, standing_at, start_if_free, cond, this_line, AWord, WordFound, Start, SkipOn, picked_allowed, start_among, waits_on, first_none, ListOf}
 use Rattle.std.specs.List.{filter}
 use Rattle.paint_rules.specs.declared.Waiting.{Waiting}
-use Rattle.paint_rules.specs.Rules.{this_line}
-use Rattle.paint_rules.specs.Pick.{AWord, WordFound, Start, SkipOn, picked_allowed, start_among, waits_on}
-use Rattle.item_pick.specs.declared.choice.Choice.TheVariants.{ListOf}
-use Rattle.paint_rules.proofs.PaintedLaws.{first_none}
 
 -- the choices that pass a test are tried where it is asked at each one's turn
 module _ {A B : Type 0} (f : A → Painted Cause (Option B)) (p : A → Bool) where

@@ -1,6 +1,5 @@
 -- Items that have no match at a place give nothing there.
-use Rattle.item_pick.proofs.Common.{◌≡◌, ◌∙◌, refl, sym, ap, subst, arith, ℕ, zero, suc, ◌-◌, ◌<◌, ◌≤◌, ◌⊎◌, inl, inr, Bool, true, false, List, [], ◌∷◌, length, Option, Some, None, slice_get, take-length, Looked, Place, Text, line_at, ItemId, ItemKind, Keyword, Match, Region, Pattern, Painted, Done, looked_first, done, Rules, Cause, item_of, match_from, item_match, Starting, start_by, Choice, IsEarlier, IsNextItem, IsQuiet, item_numbered, IsPatternOf, IsIdle, here_at, is_free, start_at, start_if_free, goes_on}
-use Rattle.paint_rules.specs.Pick.{match_start, region_start}
+use Rattle.item_pick.proofs.Common.{◌≡◌, ◌∙◌, refl, sym, ap, subst, arith, ℕ, zero, suc, ◌-◌, ◌<◌, ◌≤◌, ◌⊎◌, inl, inr, Bool, true, false, List, [], ◌∷◌, length, Option, Some, None, slice_get, take-length, Looked, Place, Text, line_at, ItemId, ItemKind, Keyword, Match, Region, Pattern, Painted, Done, looked_first, done, Rules, Cause, item_of, match_from, item_match, Starting, start_by, Choice, IsEarlier, IsNextItem, IsQuiet, item_numbered, IsPatternOf, IsIdle, here_at, is_free, start_at, start_if_free, goes_on, match_start, region_start}
 use Rattle.item_pick.proofs.FoundLaws.{below, below_none, skip_rest}
 
 some_at : {A : Type 0} (xs : List A) (n : ℕ) → n < length xs → (x : A) × (Some x ≡ slice_get xs n)

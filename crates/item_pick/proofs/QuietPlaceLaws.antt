@@ -1,11 +1,7 @@
 -- Places at which nothing starts.
-use Rattle.item_pick.proofs.Common.{◌≡◌, ◌∙◌, refl, ap, arith, ℕ, inl, Bool, false, List, [], ◌∷◌, length, Option, Some, None, option_map, take, ◌-◌, list_any, Place, ItemId, Looked, Text, line_at, begins_word, Frame, Done, looked_first, done, Rules, place_at, same_item, is_allowed, keyword_at, or_nothing, picked, goes_on, Choice, IsNextItem, item_numbered, IsQuietAt, admits, here_at, is_free, start_if_free, IsNextAt}
-use Rattle.std.specs.Prelude.{drop}
-use Rattle.std.specs.List.{find}
+use Rattle.item_pick.proofs.Common.{◌≡◌, ◌∙◌, refl, ap, arith, ℕ, inl, Bool, false, List, [], ◌∷◌, length, Option, Some, None, option_map, take, ◌-◌, list_any, Place, ItemId, Looked, Text, line_at, begins_word, Frame, Done, looked_first, done, Rules, place_at, same_item, is_allowed, keyword_at, or_nothing, picked, goes_on, Choice, IsNextItem, item_numbered, IsQuietAt, admits, here_at, is_free, start_if_free, IsNextAt, drop, find, Nothing, keyword_to, NoItem}
 use Rattle.keyword_table.specs.Candidates.{candidates}
 use Rattle.keyword_table.specs.Words.{word_end}
-use Rattle.paint_rules.specs.Pick.{Nothing, keyword_to}
-use Rattle.item_pick.specs.declared.choice.Choice.TheVariants.{NoItem}
 use Rattle.item_pick.proofs.FoundLaws.{items_skip}
 use Rattle.item_pick.proofs.PickLaws.{allowed_as, among, no_word}
 use Rattle.item_pick.proofs.QuietLaws.{earlier}

@@ -1,8 +1,6 @@
 -- Where the screen fails, an attempt tells nothing that isn't known.
-use Rattle.item_pick.proofs.Common.{◌≡◌, ◌∙◌, refl, sym, ap, subst, arith, ℕ, ◌≤◌, Bool, true, false, length, Some, None, pos, ◌||◌, nat_lt, nat_tests, Looked, Place, hull_of, one_line, Text, line_at, ItemId, Pattern, Painted, Done, Refused, looked_first, Rules, item_of, no_externals, place_at, within_budget, match_from, IsFutile, may_start_at, HoldsLine, HoldsLines, IsIdle}
-use Rattle.std.specs.Prelude.{ℤ}
+use Rattle.item_pick.proofs.Common.{◌≡◌, ◌∙◌, refl, sym, ap, subst, arith, ℕ, ◌≤◌, Bool, true, false, length, Some, None, pos, ◌||◌, nat_lt, nat_tests, Looked, Place, hull_of, one_line, Text, line_at, ItemId, Pattern, Painted, Done, Refused, looked_first, Rules, item_of, no_externals, place_at, within_budget, match_from, IsFutile, may_start_at, HoldsLine, HoldsLines, IsIdle, ℤ, lesser, greater}
 use Rattle.std.proofs.lemmas.Int.{ints}
-use Rattle.syn_base.specs.Looked.{lesser, greater}
 use Rattle.paint_rules.specs.Rules.{Attempt}
 use Rattle.syn_base.proofs.HullLaws.{hull_assoc, hull_comm, hull_self}
 use Rattle.item_pick.proofs.MatchLaws.{match_absent, no_start}

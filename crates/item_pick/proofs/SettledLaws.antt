@@ -1,6 +1,5 @@
 -- Columns at which no item starts, since those that wander are settled and the others are idle.
-use Rattle.item_pick.proofs.Common.{◌≡◌, refl, sym, subst, arith, ℕ, ◌+◌, ◌<◌, ◌≤◌, inl, inr, Bool, true, false, List, [], length, get_or, Looked, ItemId, Text, line_at, Rules, place_at, Choice, Run, IsQuiet, item_numbered, Covers, HoldsLine, item_wanders, admits, HasThose, IsNextAt, IsNumberAt, Lacks, ListStands, RunStands}
-use Rattle.item_pick.specs.Settled.{ArePassed, AreSettled}
+use Rattle.item_pick.proofs.Common.{◌≡◌, refl, sym, subst, arith, ℕ, ◌+◌, ◌<◌, ◌≤◌, inl, inr, Bool, true, false, List, [], length, get_or, Looked, ItemId, Text, line_at, Rules, place_at, Choice, Run, IsQuiet, item_numbered, Covers, HoldsLine, item_wanders, admits, HasThose, IsNextAt, IsNumberAt, Lacks, ListStands, RunStands, ArePassed, AreSettled}
 use Rattle.item_pick.proofs.TableLaws.{covered_quiet, has_or_lacks, IsLaw, no_key, stays_quiet}
 
 -- an item that a run covers has no match up to the end of the run's places

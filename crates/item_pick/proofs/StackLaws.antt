@@ -1,9 +1,6 @@
 -- Walking down a stack, whose top is first.
-use Rattle.item_pick.proofs.Common.{◌≡◌, ◌∙◌, sym, ap, subst, Bool, true, false, List, [], ◌∷◌, length, Option, Some, ◌&&◌, ForSome, ItemId, Frame, Rules, is_allowed_in, is_allowed, IsItem}
-use Rattle.paint_rules.specs.Close.{is_body}
-use Rattle.paint_rules.specs.Pick.{container_of}
+use Rattle.item_pick.proofs.Common.{◌≡◌, ◌∙◌, sym, ap, subst, Bool, true, false, List, [], ◌∷◌, length, Option, Some, ◌&&◌, ForSome, ItemId, Frame, Rules, is_allowed_in, is_allowed, IsItem, container_of, is_clear, is_body}
 use Rattle.paint_rules.specs.States.{Fits}
-use Rattle.item_pick.specs.Standing.{is_clear}
 
 -- what the top frame says of an item
 module _ (r : Rules) (stack : List Frame) (top : Frame) (below : List Frame) (is : stack ≡ top ∷ below) where

@@ -1,18 +1,12 @@
 -- What is kept says of an item, and what that means for picking.
-use Rattle.item_pick.proofs.Common.{◌≡◌, ◌∙◌, refl, sym, ap, subst, arith, ℕ, zero, suc, ◌+◌, ◌-◌, ◌<◌, ◌≤◌, ◌⊎◌, inl, inr, Bool, true, false, List, [], ◌∷◌, length, get_or, IfSome, slice_get, Result, Ok, Err, IfOk, Option, Some, None, not, ◌&&◌, ◌||◌, nat_lt, nat_eq, pos, ◌+ℤ◌, list_any, cases_lt, All-append, All-cons, All-nil, nat_tests, Looked, hull_of, ItemId, Place, PatternTree, Text, line_at, ItemKind, Keyword, Match, Region, Pattern, looked_first, Rules, item_of, no_externals, place_at, same_item, match_from, within_line, Sets, is_cheap_behind, fails, fails_at, fails_after, takes_first, key_numbered, key_of, Choice, Reach, Run, IsFutile, may_start_at, IsEarlier, IsNextItem, IsPassed, IsQuiet, item_numbered, Covers, HoldsLine, HoldsLines, IsIdle, IsLater, IsSettled, IsVainFrom, has_one_start, IsFirst, IsPatternOf, admits, is_free, idles_before, IsToldOfFirst, sits_by, some_idle, IsCheapWithin, IsMissed, IsReachOf, IsNextAt, IsNextIn, IsNumberAt, Lacks, LineStands, ListStands, RisesTo, RunStands, StaysOut, one_line}
-use Rattle.std.proofs.Common.{◌++◌}
-use Rattle.std.specs.Prelude.{IsTrue, slice_index, is_none}
-use Rattle.std.proofs.lemmas.List.Sorted.{IsNonDecreasingBy-push}
+use Rattle.item_pick.proofs.Common.{◌≡◌, ◌∙◌, refl, sym, ap, subst, arith, ℕ, zero, suc, ◌+◌, ◌-◌, ◌<◌, ◌≤◌, ◌⊎◌, inl, inr, Bool, true, false, List, [], ◌∷◌, length, get_or, IfSome, slice_get, Result, Ok, Err, IfOk, Option, Some, None, not, ◌&&◌, ◌||◌, nat_lt, nat_eq, pos, ◌+ℤ◌, list_any, cases_lt, All-append, All-cons, All-nil, nat_tests, Looked, hull_of, ItemId, Place, PatternTree, Text, line_at, ItemKind, Keyword, Match, Region, Pattern, looked_first, Rules, item_of, no_externals, place_at, same_item, match_from, within_line, Sets, is_cheap_behind, fails, fails_at, fails_after, takes_first, key_numbered, key_of, Choice, Reach, Run, IsFutile, may_start_at, IsEarlier, IsNextItem, IsPassed, IsQuiet, item_numbered, Covers, HoldsLine, HoldsLines, IsIdle, IsLater, IsSettled, IsVainFrom, has_one_start, IsFirst, IsPatternOf, admits, is_free, idles_before, IsToldOfFirst, sits_by, some_idle, IsCheapWithin, IsMissed, IsReachOf, IsNextAt, IsNextIn, IsNumberAt, Lacks, LineStands, ListStands, RisesTo, RunStands, StaysOut, one_line, ◌++◌, IsTrue, slice_index, is_none, is_first, last_of, TellsOf, first_pattern, IsAnchored, IsNonDecreasingBy-push}
 use Rattle.syn_base.specs.declared.want_of_memory.Memory.{Memory}
 use Rattle.syntax_set.specs.declared.item.Offset.{Offset}
 use Rattle.match_rules.specs.Atoms.{has_keyword}
-use Rattle.pattern_screens.specs.Keys.{is_first, last_of}
 use Rattle.pattern_screens.specs.declared.key.Key.{Key}
 use Rattle.std.proofs.lemmas.Bool.{and_parts as both_true}
 use Rattle.item_pick.specs.declared.line_known.LineKnown.{LineKnown}
-use Rattle.item_pick.specs.Runs.{TellsOf}
-use Rattle.item_pick.specs.Standing.{first_pattern}
-use Rattle.item_pick.specs.Tables.{IsAnchored, IsEnough, passes}
+use Rattle.item_pick.specs.Tables.{IsEnough, passes}
 use Rattle.item_pick.proofs.BehindLaws.{futile_vain}
 use Rattle.item_pick.proofs.MatchLaws.{no_start}
 use Rattle.item_pick.proofs.QuietLaws.{earlier}
@@ -239,12 +233,11 @@ covered_quiet r t l at floor k end i run held stands covers is pattern its c fro
     (stands.settled pattern e.0 c (omega (arith, e.1 floor covers.enough.2, from)) (omega (arith, within, covers.to, is)) within at covers.above covers.below k held covers.held)
 
 -- missed by what stands one column behind
-pub missed_after : (r : Rules) (line : LineKnown) (i : ItemId) (pattern : Pattern) → IsFirst r i pattern → (col number : ℕ) → takes_first (nat_lt 0 col) pattern.tree.node ≡ true →
-    ((t : Text) (l : ℕ) → LineStands r t l line → IsNumberAt r (line_at t l) (col + 1) number) → (result : Result Bool Memory) →
-    IfOk result (λ vain. IsTrue vain → IsToldOfFirst fails_after r number i) →
-    IfOk result (λ missed. IsTrue missed → (t : Text) (l : ℕ) → LineStands r t l line → IsMissed r (line_at t l) i pattern col)
-missed_after r line i pattern first col number takes key (Ok vain) h = λ e t l stands. inr (takes, (number, (key t l stands, h e pattern first)))
-missed_after r line i pattern first col number takes key (Err m) h = tt
+pub missed_after : (r : Rules) (i : ItemId) (pattern : Pattern) → IsFirst r i pattern → (col number : ℕ) → takes_first (nat_lt 0 col) pattern.tree.node ≡ true → (behind : Option ℕ) → behind ≡ Some number →
+    (result : Result Bool Memory) → IfOk result (λ vain. IsTrue vain → IsToldOfFirst fails_after r number i) →
+    IfOk result (λ missed. IsTrue missed → (line : List ℕ) → IfSome behind (IsNumberAt r line (col + 1)) → IsMissed r line i pattern col)
+missed_after r i pattern first col number takes behind is (Ok vain) h = λ e line key. inr (takes, (number, (subst (λ (o : Option ℕ). IfSome o (IsNumberAt r line (col + 1))) is key, h e pattern first)))
+missed_after r i pattern first col number takes behind is (Err m) h = tt
 
 -- ---- lists
 

@@ -1,9 +1,7 @@
 -- What a step tells, where steps follow each other and where one stops.
-use Rattle.item_pick.proofs.Common.{◌≡◌, ◌∙◌, sym, subst, Some, Result, Ok, Err, Looked, Painted, Done, Refused, looked_first, ◌>>=◌, Cause, goes_on, Stop, IsStop}
+use Rattle.item_pick.proofs.Common.{◌≡◌, ◌∙◌, sym, subst, Some, Result, Ok, Err, Looked, Painted, Done, Refused, looked_first, ◌>>=◌, Cause, goes_on, Stop, IsStop, first_bind, IsTold, IsToldAs}
 use Rattle.std.specs.Result.{IsErrAnd}
-use Rattle.paint_rules.proofs.PaintedLaws.{first_bind}
 use Rattle.item_pick.specs.declared.stop.Stop.TheVariants.{TooCostly, Memory}
-use Rattle.item_pick.specs.Told.{IsTold, IsToldAs}
 
 -- a step that stopped stops what would follow
 stops_by : {A B : Type 0} (stop : Stop) (m : Painted Cause A) (f : A → Painted Cause B) → IsStop stop m → IsStop stop (m >>= f)

@@ -1,7 +1,6 @@
 -- The items that words start are there.
-use Rattle.item_pick.proofs.Common.{◌≡◌, sym, subst, ℕ, ◌<◌, Bool, List, [], ◌∷◌, Result, Ok, Err, reverse, IfOk, All, reverse-append, All-append, All-cons, All-nil, ItemId}
+use Rattle.item_pick.proofs.Common.{◌≡◌, sym, subst, ℕ, ◌<◌, Bool, List, [], ◌∷◌, Result, Ok, Err, reverse, IfOk, All, reverse-append, All-append, All-cons, All-nil, ItemId, All-filter, All-head, All-map, All-tail}
 use Rattle.std.specs.Prelude.{filter}
-use Rattle.std.proofs.lemmas.List.Elements.{All-filter, All-head, All-map, All-tail}
 use Rattle.syn_base.specs.declared.want_of_memory.Memory.{Memory}
 use Rattle.keyword_table.specs.Candidates.{candidates, folded, has_fold, has_word, last_first}
 use Rattle.keyword_table.specs.ItemNumbers.{AreItemsBelow}

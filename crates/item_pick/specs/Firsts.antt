@@ -1,12 +1,21 @@
 -- What is known of attempts by the first start pattern of an item, at columns with a key.
-use Rattle.std.specs.Prelude.{◌≡◌, ◌&&◌, ℕ, Bool, true, not, is_none, Option, Some, None}
+use Rattle.std.specs.Prelude.{◌≡◌, ◌<◌, ◌&&◌, ℕ, Bool, true, false, not, is_none, IfSome, Option, Some, None}
 use Rattle.char_class.specs.declared.sets.Sets.{Sets}
 use Rattle.syn_base.specs.declared.places.ItemId.{ItemId}
 use Rattle.vim_pattern.specs.Tree.{PatternTree}
 use Rattle.syntax_set.specs.declared.item.Pattern.{Pattern}
 use Rattle.paint_rules.specs.Rules.{Rules, item_of}
+use Rattle.pattern_screens.specs.Behind.{is_cheap_behind}
+use Rattle.pattern_screens.specs.Failing.{fails_at}
 use Rattle.pattern_screens.specs.Following.{fails_after, takes_first}
+use Rattle.pattern_screens.specs.Keys.{is_first, key_numbered}
 use Rattle.pattern_screens.specs.Rest.{rest_fails}
+use Rattle.region_ends.specs.KeyAnswers.{AnswersStand}
+use Rattle.slots.specs.Entries.{IsAt}
+use Rattle.item_pick.specs.declared.firsts.Firsts.{Firsts}
+use Rattle.item_pick.specs.declared.firsts.Question.{Question}
+use Rattle.item_pick.specs.declared.firsts.Question.TheVariants.{Here, Before, Behind}
+use Rattle.item_pick.specs.declared.firsts.Reach.{Reach}
 use Rattle.item_pick.specs.Quiet.{item_numbered}
 use Rattle.item_pick.specs.Standing.{first_pattern, has_one_start, IsFirst}
 
@@ -52,3 +61,35 @@ idles_before r number item =
     has_one_start (item_of r.items (item_numbered item)).kind
     && some_idle r.sets r.budget (item_of r.items (item_numbered item)).ignore number
     (first_pattern (item_of r.items (item_numbered item)).kind)
+
+-- what is asked of a first pattern by each of the questions
+abbrev pub is_asked : Question → Asks
+is_asked Here = fails_at
+is_asked Before = fails_after
+is_asked Behind = rest_asked
+
+-- attempts by the first pattern of an item fail at each column that has one before it, whatever stands
+-- there
+abbrev pub IsAnchored : Rules → ItemId → Type 0
+IsAnchored r i =
+    (number : ℕ) → number < 777 → is_first (key_numbered number).last ≡ false →
+    IsToldOfFirst fails_at r number i
+
+-- where a line and the one before have so many characters together, attempts by the first pattern of an
+-- item are within the budget where what follows the look behind fails with which it begins
+abbrev pub IsCheapWithin : Rules → ItemId → ℕ → Type 0
+IsCheapWithin r i most =
+    (pattern : Pattern) → IsFirst r i pattern → is_cheap_behind r.budget most pattern.tree ≡ true
+
+-- how far attempts by the first pattern of an item lead
+pub record IsReachOf (r : Rules) (i : ItemId) (reach : Reach) : Type 0 where
+  pub anchored : reach.anchored ≡ true → IsAnchored r i
+  pub longest : IfSome reach.longest (IsCheapWithin r i)
+
+-- what is kept of first patterns is true of these rules
+pub record AreFirstsOf (r : Rules) (firsts : Firsts) : Type 0 where
+  pub here : AnswersStand (first_asked fails_at r) firsts.here
+  pub before : AnswersStand (first_asked fails_after r) firsts.before
+  pub behind : AnswersStand (first_asked rest_asked r) firsts.behind
+  pub idle : AnswersStand (idles_before r) firsts.idle
+  pub reaches : (item : ℕ) (reach : Reach) → IsAt firsts.reaches item reach → IsReachOf r (item_numbered item) reach

@@ -19,3 +19,4 @@ pub mod Runs
 pub mod Settled
 pub mod QuietPlaces
 pub mod Valid
+pub mod Common

@@ -25,6 +25,8 @@ use Rattle.item_pick.specs.declared.choice.Choice.{Choice}
 use Rattle.item_pick.specs.declared.choice.Choice.TheVariants.{ListOf, Within, NoItem}
 use Rattle.item_pick.specs.declared.starting.Starting.{Starting}
 use Rattle.item_pick.specs.declared.starting.Starting.TheVariants.{Word, Matched, Empty, Region}
+use Rattle.item_pick.specs.declared.picking.Picking.{Picking}
+use Rattle.item_pick.specs.PartsSeen.{rules_by}
 use Rattle.item_pick.specs.Starts.{IsStarting}
 
 abbrev pub no_pattern : Pattern
@@ -84,6 +86,10 @@ IsOutcomeThere items _ = Unit {0}
 
 abbrev pub here_at : Rules → Text → Place → Here
 here_at r t p = record { rules = r; text = t; line = p.line }
+
+-- and of a pick
+abbrev pub here_of : {L : Type 0} → (L → Text) → Picking L → Here
+here_of lines p = here_at (rules_by p.asked.now) (lines p.lines.now) p.at
 
 -- the items that a choice has
 abbrev pub admits : Rules → Choice → ItemId → Bool

@@ -7,7 +7,7 @@ use Rattle.vim_pattern.specs.Tree.{PatternTree}
 use Rattle.syn_base.specs.declared.looked.Looked.{Looked}
 use Rattle.syn_base.specs.declared.places.ItemId.{ItemId}
 use Rattle.syn_base.specs.declared.places.Place.{Place}
-use Rattle.slots.specs.Entries.{Has, IsAt}
+use Rattle.slots.specs.Entries.{Has}
 use Rattle.match_rules.specs.Ways.{Text, line_at}
 use Rattle.syntax_set.specs.declared.item.ItemKind.{ItemKind}
 use Rattle.syntax_set.specs.declared.item.ItemKind.TheVariants.{Keyword, Match, Region}
@@ -15,22 +15,20 @@ use Rattle.syntax_set.specs.declared.item.Pattern.{Pattern}
 use Rattle.paint_rules.specs.Rules.{Rules, item_of, place_at}
 use Rattle.pattern_needs.specs.LineNeeds.{AreHeld, IsLineNeedOf, LacksNeed}
 use Rattle.pattern_needs.specs.declared.line_need.LineNeed.{LineNeed}
-use Rattle.pattern_screens.specs.Behind.{is_cheap_behind}
-use Rattle.pattern_screens.specs.Failing.{fails, fails_at}
+use Rattle.pattern_screens.specs.Failing.{fails}
 use Rattle.pattern_screens.specs.Following.{fails_after, takes_first}
-use Rattle.pattern_screens.specs.Keys.{AreNumbers, is_first, key_numbered, key_of}
+use Rattle.pattern_screens.specs.Keys.{AreNumbers, key_numbered, key_of}
 use Rattle.region_ends.specs.EndMemo.{EndMemoStands}
 use Rattle.region_ends.specs.KeyAnswers.{AnswersStand}
 use Rattle.region_ends.specs.Passing.{is_shut_at}
 use Rattle.item_pick.specs.declared.choice.Choice.{Choice}
-use Rattle.item_pick.specs.declared.firsts.Reach.{Reach}
 use Rattle.item_pick.specs.declared.line_known.LineKnown.{LineKnown}
 use Rattle.item_pick.specs.declared.memory.PickMemory.{PickMemory}
 use Rattle.item_pick.specs.declared.needs.Wanted.{Wanted}
 use Rattle.item_pick.specs.declared.runs.Run.{Run}
 use Rattle.item_pick.specs.declared.rows.Row.{Row}
 use Rattle.item_pick.specs.declared.tables.Tables.{Tables}
-use Rattle.item_pick.specs.Firsts.{first_asked, idles_before, IsToldOfFirst, rest_asked}
+use Rattle.item_pick.specs.Firsts.{AreFirstsOf}
 use Rattle.item_pick.specs.Quiet.{item_numbered, IsPassed, IsQuiet}
 use Rattle.item_pick.specs.Screens.{HoldsLine, IsSettled}
 use Rattle.item_pick.specs.Settled.{item_wanders}
@@ -106,24 +104,6 @@ pub record RowStands (r : Rules) (row : Row) : Type 0 where
   pub resting : HasThose r false row.items.items row.resting.items
   pub wandering : IfSome row.wandering (λ those. HasThose r true row.items.items those.items)
 
--- attempts by the first pattern of an item fail at each column that has one before it, whatever stands
--- there
-abbrev pub IsAnchored : Rules → ItemId → Type 0
-IsAnchored r i =
-    (number : ℕ) → number < 777 → is_first (key_numbered number).last ≡ false →
-    IsToldOfFirst fails_at r number i
-
--- where a line and the one before have so many characters together, attempts by the first pattern of an
--- item are within the budget where what follows the look behind fails with which it begins
-abbrev pub IsCheapWithin : Rules → ItemId → ℕ → Type 0
-IsCheapWithin r i most =
-    (pattern : Pattern) → IsFirst r i pattern → is_cheap_behind r.budget most pattern.tree ≡ true
-
--- how far attempts by the first pattern of an item lead
-pub record IsReachOf (r : Rules) (i : ItemId) (reach : Reach) : Type 0 where
-  pub anchored : reach.anchored ≡ true → IsAnchored r i
-  pub longest : IfSome reach.longest (IsCheapWithin r i)
-
 -- each pattern by which an item starts needs what this says
 abbrev pub IsNeededBy : Rules → ItemId → LineNeed → Type 0
 IsNeededBy r i need =
@@ -157,12 +137,8 @@ IsMissed r line i pattern c =
 pub record AreTablesOf (r : Rules) (tables : Tables) : Type 0 where
   pub rows : All (RowStands r) tables.rows.items
   pub outs : AnswersStand (stays_out r) tables.outs
-  pub vains : AnswersStand (first_asked fails_at r) tables.vains
-  pub behinds : AnswersStand (first_asked rest_asked r) tables.behinds
-  pub afters : AnswersStand (first_asked fails_after r) tables.afters
-  pub idles : AnswersStand (idles_before r) tables.idles
+  pub firsts : AreFirstsOf r tables.firsts
   pub shut : AnswersStand (is_shut_at r.items r.sets r.budget) tables.shut
-  pub reaches : (item : ℕ) (reach : Reach) → IsAt tables.reaches item reach → IsReachOf r (item_numbered item) reach
   pub wanted : All (IsWanted r) tables.wanted.items
 
 abbrev pub TablesStand : Rules → PickMemory → Type 0

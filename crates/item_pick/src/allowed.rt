@@ -1,12 +1,6 @@
 //! Which items are allowed on a stack.
-ghost use Rattle.std.specs.Prelude.{◌≡◌, ◌<◌, length, reverse};
-ghost use Rattle.paint_rules.specs.Close.{is_body};
-ghost use Rattle.paint_rules.specs.Pick.{container_of, is_allowed};
-ghost use Rattle.paint_rules.specs.States.{Fits};
-ghost use Rattle.item_pick.specs.Started.{admits};
-ghost use Rattle.item_pick.specs.Standing.{ChoiceFits, is_clear, IsItem};
-ghost use Rattle.syn_base.specs.declared.places.ItemId.{ItemId};
-ghost use Rattle.item_pick.specs.PartsSeen.{rules_by};
+ghost use Rattle.std.specs.Prelude.{◌≡◌, length, reverse};
+ghost use Rattle.item_pick.specs.Common.{is_body, container_of, is_allowed, Fits, admits, ChoiceFits, is_clear, IsItem, ItemId, rules_by};
 
 use crate::choice::Choice;
 use crate::picking::Picking;

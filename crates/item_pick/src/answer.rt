@@ -1,19 +1,11 @@
 //! What starts at a place, or how the wait goes on.
-ghost use Rattle.std.specs.Prelude.{◌≡◌, length, reverse, Some, None, IfOk, []};
-ghost use Rattle.match_rules.specs.Ways.{line_at};
-ghost use Rattle.paint_rules.specs.Pick.{start_among, picked, waits_on, picked_allowed};
-ghost use Rattle.paint_rules.specs.States.{Fits, WaitFits};
-ghost use Rattle.item_pick.specs.Told.{IsToldAs};
-ghost use Rattle.item_pick.specs.Started.{admits, here_at, IsOutcomeThere, IsStartThere, seen_pick, seen_start, standing_at};
-ghost use Rattle.item_pick.specs.Screens.{HoldsLine};
-ghost use Rattle.item_pick.specs.Standing.{ChoiceFits, IsItem, IsPlace};
-ghost use Rattle.item_pick.specs.PartsSeen.{rules_by};
-ghost use Rattle.item_pick.specs.Valid.{MayAsk};
+ghost use Rattle.std.specs.Prelude.{◌≡◌, length, reverse, None, IfOk, []};
+ghost use Rattle.item_pick.specs.Common.{line_at, start_among, picked, waits_on, picked_allowed, Fits, WaitFits, IsToldAs, admits, IsOutcomeThere, IsStartThere, seen_pick, seen_start, standing_at, ChoiceFits, IsItem, IsPlace, rules_by, MayAsk, MayPick, here_of};
 
 use crate::choice::Choice;
 use crate::memory::PickMemory;
 use crate::picking::Picking;
-use crate::starting::{Outcome, Starting};
+use crate::starting::{Found, Outcome};
 use crate::stop::Stop;
 use paint_rules::Waiting;
 use state_stack::Stack;
@@ -21,19 +13,12 @@ use syn_base::{Lines, Looked};
 
 impl<T: Lines> Picking<'_, T> {
     /// A keyword of a choice whose word begins here, or else the first match or region.
-    fn start_among(
-        &self,
-        choice: Choice,
-        looked: &mut Looked,
-        memory: &mut PickMemory,
-    ) -> Result<Option<Starting>, Stop>
+    fn start_among(&self, choice: Choice, looked: &mut Looked, memory: &mut PickMemory) -> Found
         requires choice { ChoiceFits (rules_by self.now.asked.now) choice }
-        requires may { MayAsk T.lines self.now memory.old }
-        requires held { HoldsLine looked.old self.now.at.line }
+        requires may { MayPick T.lines self.now looked.old memory.old }
         ensures told { IsToldAs (seen_start (rules_by self.now.asked.now).items) looked.old result
-            looked.new (start_among
-            (here_at (rules_by self.now.asked.now) (T.lines self.now.lines.now) self.now.at)
-            self.now.at.col (standing_at [] None self.now.floor (reverse self.now.tried.now))
+            looked.new (start_among (here_of T.lines self.now) self.now.at.col
+            (standing_at [] None self.now.floor (reverse self.now.tried.now))
             (admits (rules_by self.now.asked.now) choice)) }
         ensures there { IfOk result (IsStartThere (rules_by self.now.asked.now).items) }
         ensures may { MayAsk T.lines self.now memory.new }
@@ -68,12 +53,9 @@ impl<T: Lines> Picking<'_, T> {
         memory: &mut PickMemory,
     ) -> Result<Outcome, Stop>
         requires frames { Fits (length (rules_by self.now.asked.now).items) (reverse stack.now) }
-        requires may { MayAsk T.lines self.now memory.old }
-        requires held { HoldsLine looked.old self.now.at.line }
+        requires may { MayPick T.lines self.now looked.old memory.old }
         ensures told { IsToldAs (seen_pick (rules_by self.now.asked.now).items) looked.old result
-            looked.new (picked_allowed
-            (here_at (rules_by self.now.asked.now) (T.lines self.now.lines.now) self.now.at)
-            self.now.at.col
+            looked.new (picked_allowed (here_of T.lines self.now) self.now.at.col
             (standing_at (reverse stack.now) None self.now.floor (reverse self.now.tried.now))) }
         ensures there { IfOk result (IsOutcomeThere (rules_by self.now.asked.now).items) }
         ensures may { MayAsk T.lines self.now memory.new }
@@ -94,13 +76,10 @@ impl<T: Lines> Picking<'_, T> {
         memory: &mut PickMemory,
     ) -> Result<Outcome, Stop>
         requires frames { Fits (length (rules_by self.now.asked.now).items) (reverse stack.now) }
+        requires may { MayPick T.lines self.now looked.old memory.old }
         requires waiting { WaitFits (length (rules_by self.now.asked.now).items) waiting }
-        requires may { MayAsk T.lines self.now memory.old }
-        requires held { HoldsLine looked.old self.now.at.line }
         ensures told { IsToldAs (seen_pick (rules_by self.now.asked.now).items) looked.old result
-            looked.new (picked
-            (here_at (rules_by self.now.asked.now) (T.lines self.now.lines.now) self.now.at)
-            self.now.at.col
+            looked.new (picked (here_of T.lines self.now) self.now.at.col
             (standing_at (reverse stack.now) waiting self.now.floor (reverse self.now.tried.now))) }
         ensures there { IfOk result (IsOutcomeThere (rules_by self.now.asked.now).items) }
         ensures may { MayAsk T.lines self.now memory.new }

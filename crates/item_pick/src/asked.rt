@@ -1,19 +1,13 @@
 //! The parts of a syntax, asked within a budget.
 ghost use Rattle.std.specs.Prelude.{◌≡◌, ◌<◌, ◌≤◌, ◌+◌, length, IfOk};
-ghost use Rattle.match_rules.specs.Ways.{line_at};
-ghost use Rattle.paint_rules.specs.Rules.{item_of, no_externals};
-ghost use Rattle.region_ends.specs.Attempts.{IsAttempted};
-ghost use Rattle.item_pick.specs.Attempts.{EndsBelow};
-ghost use Rattle.item_pick.specs.PartsSeen.{rules_by};
-ghost use Rattle.item_pick.specs.Standing.{IsOwn};
-ghost use Rattle.item_pick.specs.Valid.{IsSound};
+ghost use Rattle.item_pick.specs.Common.{line_at, item_of, no_externals, IsAttempted, EndsBelow, rules_by, IsOwn, IsSound};
 
 use crate::parts::Parts;
+use crate::picking::StartBy;
 use pattern_match::Attempt;
 use region_ends::{Matcher, Searching, item_of};
 use std::alloc::Global;
 use syn_base::{Externals, ItemId, Lines, Memory, Place};
-use syntax_set::Pattern;
 
 /// The parts of a syntax, asked within a budget.
 #[derive(Clone, Copy)]
@@ -45,22 +39,21 @@ impl Asked<'_> {
     pub(crate) fn attempt<T: Lines>(
         &self,
         lines: &T,
-        id: ItemId,
-        pattern: &Pattern,
+        by: &StartBy<'_>,
         start: Place,
     ) -> Result<Attempt, Memory>
         requires valid { IsSound self.now }
-        requires own { IsOwn (rules_by self.now) id pattern.now }
+        requires own { IsOwn (rules_by self.now) by.now.item by.now.pattern.now }
         requires present { start.line < length (T.lines lines.now) }
         requires column { start.col ≤ length (line_at (T.lines lines.now) start.line) }
         ensures answer { IfOk result (λ a. IsAttempted a self.now.budget
-            ((rules_by self.now).attempt (T.lines lines.now) (pattern.now).tree
-            (item_of (rules_by self.now).items id).ignore no_externals start)) }
+            ((rules_by self.now).attempt (T.lines lines.now) (by.now.pattern.now).tree
+            (item_of (rules_by self.now).items by.now.item).ignore no_externals start)) }
         ensures on_text { IfOk result (λ a. EndsBelow a (length (T.lines lines.now) + 1)) }
     {
-        let ignore = item_of(self.parts.items, id).ignore;
+        let ignore = item_of(self.parts.items, by.item).ignore;
         self.matcher()
-            .attempt(lines, pattern, ignore, self.no_externals, start)
+            .attempt(lines, by.pattern, ignore, self.no_externals, start)
     }
 
     /// The search for the end of a region from a place on.

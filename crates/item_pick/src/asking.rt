@@ -1,32 +1,15 @@
 //! What starts at a place, asked of the parts of a syntax.
 ghost use Rattle.std.specs.Prelude.{◌≡◌, ◌<◌, ◌≤◌, ◌^◌, Bool, length, reverse, Some, IfOk, pos, List};
-ghost use Rattle.syn_base.specs.Looked.{one_line};
-ghost use Rattle.match_rules.specs.Ways.{line_at};
-ghost use Rattle.paint_rules.specs.Painted.{Painted, looked_first};
-ghost use Rattle.paint_rules.specs.Rules.{Cause};
+ghost use Rattle.item_pick.specs.Common.{one_line, line_at, Painted, looked_first, Cause, picked, AreItemsBelow, AreSound, AddedItem, StateFits, top_first, rules_by, rules_in, here_at, IsOutcomeThere, seen_pick, IsPicked, MemoryStands, IsToldAs, MayBeAsked};
 ghost use Rattle.paint_rules.specs.Pick as rule;
-ghost use Rattle.paint_rules.specs.Pick.{picked};
-ghost use Rattle.keyword_table.specs.ItemNumbers.{AreItemsBelow};
 ghost use Rattle.syn_base.specs.declared.looked.Looked.{Looked as LookedOf};
-ghost use Rattle.syntax_set.specs.Soundness.{AreSound};
-ghost use Rattle.syntax_set.specs.declared.added_item.AddedItem.{AddedItem};
-ghost use Rattle.paint_rules.specs.States.{StateFits};
-ghost use Rattle.state_stack.specs.TopFirst.{top_first};
-ghost use Rattle.item_pick.specs.PartsSeen.{rules_by, rules_in};
-ghost use Rattle.item_pick.specs.Started.{here_at, IsOutcomeThere, seen_pick};
-ghost use Rattle.item_pick.specs.Picks.{IsPicked};
-ghost use Rattle.item_pick.specs.Screens.{HoldsLine};
-ghost use Rattle.item_pick.specs.Tables.{MemoryStands};
-ghost use Rattle.item_pick.specs.Told.{IsToldAs};
-ghost use Rattle.item_pick.specs.Valid.{IsSound};
 
 use crate::asked::Asked;
 use crate::memory::PickMemory;
 use crate::parts::Parts;
-use crate::picking::{Picking, SoFar};
+use crate::picking::Query;
 use crate::starting::{Outcome, Picked};
 use crate::stop::Stop;
-use crate::tried::Tried;
 use state_stack::State;
 use std::alloc::Global;
 use syn_base::{Externals, ItemId, Lines, List, Looked, Memory, Place};
@@ -75,13 +58,15 @@ pub fn pick<T: Lines>(
     let _count = lines.len();
     let mut memory = PickMemory::new(alloc);
     memory.enter_line(parts, lines.line(at.line))?;
-    let so_far = SoFar {
+    memory.pick(&Query {
+        asked: &asked,
+        lines,
+        at,
         state,
         floor,
         tried,
         looked: alone(at.line),
-    };
-    memory.pick(&asked, lines, at, &so_far)
+    })
 }
 
 /// A line alone.
@@ -96,42 +81,27 @@ impl PickMemory {
     /// The same as `pick`, by what is kept of the syntax and the budget. The line has to be entered
     /// (`enter_line`). An attempt that is known to tell nothing but by the lines looked at so far, which
     /// are in the answer, isn't made again.
-    pub fn pick<T: Lines>(
-        &mut self,
-        asked: &Asked,
-        lines: &T,
-        at: Place,
-        so_far: &SoFar,
-    ) -> Result<Picked, Memory>
-        requires valid { IsSound asked.now }
-        requires present { at.line < length (T.lines lines.now) }
-        requires within { at.col ≤ length (line_at (T.lines lines.now) at.line) }
-        requires fits { StateFits (length asked.now.parts.now.items.now)
-            (top_first so_far.now.state.now) }
-        requires held { HoldsLine so_far.now.looked at.line }
-        requires memory { MemoryStands (rules_by asked.now) (T.lines lines.now) at.line self.old }
-        ensures picked { IfOk result (λ p. (over : Bool) → IsPicked asked.now.parts.now.items.now p
-            (looked_first (Some so_far.now.looked)
-            (picked (here_at (rules_by asked.now) (T.lines lines.now) at) at.col (record {
-              stack = reverse so_far.now.state.now.stack;
-              waiting = so_far.now.state.now.waiting;
-              floor = so_far.now.floor;
-              tried = reverse so_far.now.tried.now;
+    pub fn pick<T: Lines>(&mut self, query: &Query<'_, T>) -> Result<Picked, Memory>
+        requires may { MayBeAsked T.lines query.now self.old }
+        ensures picked { IfOk result (λ p. (over : Bool) →
+            IsPicked query.now.asked.now.parts.now.items.now p
+            (looked_first (Some query.now.looked) (picked (here_at (rules_by query.now.asked.now)
+            (T.lines query.now.lines.now) query.now.at) query.now.at.col (record {
+              stack = reverse query.now.state.now.stack;
+              waiting = query.now.state.now.waiting;
+              floor = query.now.floor;
+              tried = reverse query.now.tried.now;
               is_over = over;
             })))) }
-        ensures memory { MemoryStands (rules_by asked.now) (T.lines lines.now) at.line self.new }
+        ensures memory { MemoryStands (rules_by query.now.asked.now) (T.lines query.now.lines.now)
+            query.now.at.line self.new }
     {
-        let _count = lines.len();
-        let tried = Tried::new(asked.alloc, so_far.tried, asked.parts.items.added())?;
-        let picking = Picking {
-            asked,
-            lines,
-            at,
-            floor: so_far.floor,
-            tried: &tried,
-        };
-        let mut looked = so_far.looked;
-        let outcome = picking.pick(&so_far.state.stack, so_far.state.waiting, &mut looked, self);
+        let _count = query.lines.len();
+        let tried = query.tried_items()?;
+        let mut looked = query.looked;
+        let state = query.state;
+        let picking = query.picking(&tried);
+        let outcome = picking.pick(&state.stack, state.waiting, &mut looked, self);
         picked_of(outcome, looked)
     }
 }

@@ -1,9 +1,6 @@
 //! Among which items one may start.
 ghost use Rattle.std.specs.Prelude.{◌≡◌, reverse};
-ghost use Rattle.paint_rules.specs.Rules.{item_of};
-ghost use Rattle.item_pick.specs.Started.{admits, is_free};
-ghost use Rattle.item_pick.specs.Standing.{ChoiceFits, IsItem};
-ghost use Rattle.item_pick.specs.PartsSeen.{rules_by};
+ghost use Rattle.item_pick.specs.Common.{item_of, admits, is_free, ChoiceFits, IsItem, rules_by};
 
 use crate::asked::Asked;
 use crate::picking::Picking;

@@ -1,7 +1,6 @@
 //! Where a match may begin that has its item start at a column of the line.
 ghost use Rattle.std.specs.Prelude.{◌≡◌, ◌<◌, ◌≤◌, ◌^◌, ℕ, pos, true, ◌+ℤ◌};
-ghost use Rattle.paint_rules.specs.Offsets.{within_line};
-ghost use Rattle.item_pick.specs.Columns.{may_start_at, Holds};
+ghost use Rattle.item_pick.specs.Common.{within_line, may_start_at, Holds};
 
 use region_ends::moved_column;
 use syntax_set::Pattern;

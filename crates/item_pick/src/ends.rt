@@ -1,13 +1,6 @@
 //! Where regions end, by what is known of the line.
 ghost use Rattle.std.specs.Prelude.{◌≡◌, ◌<◌, length, true, IfOk};
-ghost use Rattle.paint_rules.specs.Rules.{item_of};
-ghost use Rattle.paint_rules.specs.Close.{is_region};
-ghost use Rattle.paint_rules.specs.EndInLine.{end_in_line};
-ghost use Rattle.region_ends.specs.Searches.{search_of, IsEnd};
-ghost use Rattle.item_pick.specs.PartsSeen.{rules_by};
-ghost use Rattle.item_pick.specs.Standing.{IsItem};
-ghost use Rattle.item_pick.specs.Tables.{MemoryStands};
-ghost use Rattle.item_pick.specs.Valid.{IsSound, MayAsk};
+ghost use Rattle.item_pick.specs.Common.{item_of, is_region, end_in_line, search_of, IsEnd, rules_by, IsItem, MemoryStands, IsSound, MayAsk};
 
 use crate::asked::Asked;
 use crate::memory::PickMemory;

@@ -1,18 +1,25 @@
-//! What is kept of the first start patterns of items.
-ghost use Rattle.std.specs.Prelude.{IfOk, IsTrue};
-ghost use Rattle.pattern_screens.specs.Failing.{fails_at};
-ghost use Rattle.pattern_screens.specs.Following.{fails_after};
-ghost use Rattle.item_pick.specs.Firsts.{IsToldOfFirst, rest_asked};
-ghost use Rattle.item_pick.specs.Standing.{IsFirstOf};
-ghost use Rattle.item_pick.specs.Tables.{AreTablesOf, IsReachOf};
-ghost use Rattle.item_pick.specs.PartsSeen.{rules_by};
+//! What is known of attempts by the first start patterns of items.
+ghost use Rattle.std.specs.Prelude.{◌≡◌, Some, true, IfOk, IsTrue};
+ghost use Rattle.item_pick.specs.Common.{Rules, first_asked, idles_before, is_asked, IsToldOfFirst, IsFirstOf, AreFirstsOf, IsReachOf, rules_by};
 
 use crate::asked::Asked;
 use crate::picking::StartBy;
-use crate::tables::Tables;
 use pattern_screens::{fails_after, fails_at, fails_past_first, longest_behind, rest_fails};
-use region_ends::item_of;
-use syn_base::Memory;
+use region_ends::{KeyAnswers, item_of};
+use slots::Table;
+use std::alloc::Global;
+use syn_base::{ItemId, Memory};
+
+/// What is asked of attempts by the first start pattern of an item, at the columns with a key.
+#[derive(Clone, Copy)]
+pub(crate) enum Question {
+    /// Whether they are in vain there.
+    Here,
+    /// Whether they are in vain one column before.
+    Before,
+    /// Whether what follows the first piece of the pattern is in vain there.
+    Behind,
+}
 
 /// How far attempts by the first start pattern of an item may lead, whatever stands there.
 #[derive(Clone, Copy)]
@@ -24,87 +31,113 @@ pub(crate) struct Reach {
     pub(crate) longest: Option<u64>,
 }
 
-impl Tables {
-    /// Whether attempts by the first start pattern of an item are in vain at a column whose key has a
-    /// number. The answer is kept.
-    pub(crate) fn is_vain(
-        &mut self,
-        asked: &Asked,
-        by: &StartBy<'_>,
-        number: u16,
-    ) -> Result<bool, Memory>
-        requires first { IsFirstOf (rules_by asked.now) by.now }
-        requires stands { AreTablesOf (rules_by asked.now) self.old }
-        ensures stands { AreTablesOf (rules_by asked.now) self.new }
-        ensures vain { IfOk result (λ vain. IsTrue vain →
-            IsToldOfFirst fails_at (rules_by asked.now) number by.now.item) }
+/// What is known of attempts by the first start patterns of items. It is made as it is asked.
+#[derive(Drop)]
+pub(crate) struct Firsts {
+    here: KeyAnswers,
+    before: KeyAnswers,
+    behind: KeyAnswers,
+    /// Whether an item can't start one column before.
+    idle: KeyAnswers,
+    /// By the number of the item.
+    reaches: Table<Reach>,
+}
+
+impl Firsts {
+    /// Nothing is known. It takes no memory.
+    pub(crate) fn new(alloc: Global) -> Firsts
+        ensures { (r : Rules) → AreFirstsOf r result }
     {
-        match self.vains.known(number, by.item) {
-            Some(vain) => return Ok(vain),
-            None => {}
+        Firsts {
+            here: KeyAnswers::new(alloc),
+            before: KeyAnswers::new(alloc),
+            behind: KeyAnswers::new(alloc),
+            idle: KeyAnswers::new(alloc),
+            reaches: Table::new(alloc),
         }
-        let ignore = item_of(asked.parts.items, by.item).ignore;
-        let sets = asked.parts.sets;
-        let is = fails_at(&by.pattern.tree, sets, ignore, number, asked.budget);
-        self.vains.keep(number, by.item, is)?;
-        Ok(is)
     }
 
-    /// Whether they are one column before one whose key has a number. The answer is kept.
-    pub(crate) fn is_vain_before(
-        &mut self,
-        asked: &Asked,
-        by: &StartBy<'_>,
-        number: u16,
-    ) -> Result<bool, Memory>
-        requires first { IsFirstOf (rules_by asked.now) by.now }
-        requires stands { AreTablesOf (rules_by asked.now) self.old }
-        ensures stands { AreTablesOf (rules_by asked.now) self.new }
-        ensures vain { IfOk result (λ vain. IsTrue vain →
-            IsToldOfFirst fails_after (rules_by asked.now) number by.now.item) }
+    /// What was answered of an item.
+    #[inline(always)]
+    fn known(&self, question: Question, number: u16, item: ItemId) -> Option<bool>
+        ensures { (r : Rules) → AreFirstsOf r self.now → result ≡ Some true →
+            first_asked (is_asked question) r number item.0 ≡ true }
     {
-        match self.afters.known(number, by.item) {
-            Some(vain) => return Ok(vain),
-            None => {}
+        match question {
+            Question::Here => self.here.known(number, item),
+            Question::Before => self.before.known(number, item),
+            Question::Behind => self.behind.known(number, item),
         }
-        let ignore = item_of(asked.parts.items, by.item).ignore;
-        let sets = asked.parts.sets;
-        let is = fails_after(&by.pattern.tree, sets, ignore, number, asked.budget);
-        self.afters.keep(number, by.item, is)?;
-        let sits = asked.sits(by.item, by.pattern);
-        self.idles.keep(number, by.item, is && sits)?;
-        Ok(is)
     }
 
-    /// Whether what follows the first piece of the pattern is in vain at a column whose key has a number.
-    /// The answer is kept.
-    pub(crate) fn is_vain_behind(
+    /// Whether an item is known not to start one column before one whose key has a number.
+    #[inline(always)]
+    pub(crate) fn is_idle(&self, id: u32, number: u16) -> bool
+        ensures { IsTrue result → (r : Rules) → AreFirstsOf r self.now →
+            idles_before r number id ≡ true }
+    {
+        match self.idle.known(number, ItemId(id)) {
+            Some(idle) => idle,
+            None => false,
+        }
+    }
+
+    /// Keeps an answer of an item, and what it tells of its start.
+    #[inline(never)]
+    fn keep(
         &mut self,
         asked: &Asked,
         by: &StartBy<'_>,
+        question: Question,
+        number: u16,
+        yes: bool,
+    ) -> Result<(), Memory>
+        requires first { IsFirstOf (rules_by asked.now) by.now }
+        requires stands { AreFirstsOf (rules_by asked.now) self.old }
+        requires told { yes ≡ true →
+            first_asked (is_asked question) (rules_by asked.now) number by.now.item.0 ≡ true }
+        ensures { AreFirstsOf (rules_by asked.now) self.new }
+    {
+        match question {
+            Question::Here => self.here.keep(number, by.item, yes),
+            Question::Before => {
+                self.before.keep(number, by.item, yes)?;
+                let sits = asked.sits(by.item, by.pattern);
+                self.idle.keep(number, by.item, yes && sits)
+            }
+            Question::Behind => self.behind.keep(number, by.item, yes),
+        }
+    }
+
+    /// What is asked of an item at the columns whose key has a number. The answer is kept.
+    #[inline(always)]
+    pub(crate) fn ask(
+        &mut self,
+        asked: &Asked,
+        by: &StartBy<'_>,
+        question: Question,
         number: u16,
     ) -> Result<bool, Memory>
         requires first { IsFirstOf (rules_by asked.now) by.now }
-        requires stands { AreTablesOf (rules_by asked.now) self.old }
-        ensures stands { AreTablesOf (rules_by asked.now) self.new }
-        ensures vain { IfOk result (λ vain. IsTrue vain →
-            IsToldOfFirst rest_asked (rules_by asked.now) number by.now.item) }
+        requires stands { AreFirstsOf (rules_by asked.now) self.old }
+        ensures stands { AreFirstsOf (rules_by asked.now) self.new }
+        ensures told { IfOk result (λ yes. IsTrue yes →
+            IsToldOfFirst (is_asked question) (rules_by asked.now) number by.now.item) }
     {
-        match self.behinds.known(number, by.item) {
-            Some(vain) => return Ok(vain),
+        match self.known(question, number, by.item) {
+            Some(yes) => return Ok(yes),
             None => {}
         }
-        let ignore = item_of(asked.parts.items, by.item).ignore;
-        let is = rest_fails(&by.pattern.tree, asked.parts.sets, ignore, number);
-        self.behinds.keep(number, by.item, is)?;
-        Ok(is)
+        let yes = asked.asks(by, question, number);
+        self.keep(asked, by, question, number, yes)?;
+        Ok(yes)
     }
 
     /// How far attempts by the first start pattern of an item may lead. The answer is kept.
     pub(crate) fn reach(&mut self, asked: &Asked, by: &StartBy<'_>) -> Result<Reach, Memory>
         requires first { IsFirstOf (rules_by asked.now) by.now }
-        requires stands { AreTablesOf (rules_by asked.now) self.old }
-        ensures stands { AreTablesOf (rules_by asked.now) self.new }
+        requires stands { AreFirstsOf (rules_by asked.now) self.old }
+        ensures stands { AreFirstsOf (rules_by asked.now) self.new }
         ensures reach { IfOk result (IsReachOf (rules_by asked.now) by.now.item) }
     {
         match self.reaches.get(by.item.0 as usize) {
@@ -119,5 +152,24 @@ impl Tables {
         };
         self.reaches.put(by.item.0 as usize, reach)?;
         Ok(reach)
+    }
+}
+
+impl Asked<'_> {
+    /// What is asked of the first start pattern of an item.
+    #[inline(never)]
+    fn asks(&self, by: &StartBy<'_>, question: Question, number: u16) -> bool
+        requires { IsFirstOf (rules_by self.now) by.now }
+        ensures { IsTrue result →
+            first_asked (is_asked question) (rules_by self.now) number by.now.item.0 ≡ true }
+    {
+        let tree = &by.pattern.tree;
+        let sets = self.parts.sets;
+        let ignore = item_of(self.parts.items, by.item).ignore;
+        match question {
+            Question::Here => fails_at(tree, sets, ignore, number, self.budget),
+            Question::Before => fails_after(tree, sets, ignore, number, self.budget),
+            Question::Behind => rest_fails(tree, sets, ignore, number),
+        }
     }
 }

@@ -36,5 +36,5 @@ pub use asked::Asked;
 pub use asking::pick;
 pub use memory::PickMemory;
 pub use parts::Parts;
-pub use picking::SoFar;
+pub use picking::Query;
 pub use starting::{Picked, Starting};

@@ -1,14 +1,8 @@
 //! What is known of the line that is painted: where items don't start, and where regions end.
 ghost use Rattle.std.specs.Prelude.{◌≡◌, ◌<◌, ◌≤◌, ◌+◌, ◌^◌, ℕ, IfOk, IfSome, IsTrue};
 ghost use Rattle.std.specs.List.{All};
-ghost use Rattle.match_rules.specs.Ways.{Text, line_at};
-ghost use Rattle.paint_rules.specs.Rules.{Rules, place_at};
-ghost use Rattle.item_pick.specs.PartsSeen.{rules_in};
+ghost use Rattle.item_pick.specs.Common.{Text, line_at, Rules, place_at, rules_in, IsQuiet, item_numbered, TellsOf, HoldsLine, IsBarren, IsNumberAt, IsWanted, LineStands, RunStands};
 ghost use Rattle.item_pick.specs.declared.parts.Parts.{Parts as PartsOf};
-ghost use Rattle.item_pick.specs.Quiet.{IsQuiet, item_numbered};
-ghost use Rattle.item_pick.specs.Runs.{TellsOf};
-ghost use Rattle.item_pick.specs.Screens.{HoldsLine};
-ghost use Rattle.item_pick.specs.Tables.{IsBarren, IsNumberAt, IsWanted, LineStands, RunStands};
 
 use crate::needs::Wanted;
 use crate::runs::{Run, Search};
@@ -99,7 +93,15 @@ impl LineKnown {
         self.numbers.get(col).copied()
     }
 
-    /// The number of the key one column behind one that isn't the line's first.
+    /// The number of the key one column behind one.
+    pub(crate) fn number_after(&self, col: usize) -> Option<u16>
+        ensures { (r : Rules) (t : Text) (l : ℕ) → LineStands r t l self.now →
+            IfSome result (IsNumberAt r (line_at t l) (col + 1)) }
+    {
+        self.number_at(col.checked_add(1)?)
+    }
+
+    /// The same of one that isn't the line's first.
     pub(crate) fn number_behind(&self, col: usize) -> Option<u16>
         ensures { (r : Rules) (t : Text) (l : ℕ) → LineStands r t l self.now →
             IfSome result (λ number. (0 < col) × IsNumberAt r (line_at t l) (col + 1) number) }
@@ -107,10 +109,11 @@ impl LineKnown {
         if col == 0 {
             return None;
         }
-        self.number_at(col.checked_add(1)?)
+        self.number_after(col)
     }
 
     /// Whether an item is known to start nowhere in the line.
+    #[inline(always)]
     pub(crate) fn is_barren(&self, id: u32) -> bool
         ensures { IsTrue result → (r : Rules) (t : Text) (l : ℕ) → LineStands r t l self.now →
             IsBarren r t l (item_numbered id) }
@@ -136,26 +139,16 @@ impl LineKnown {
         }
     }
 
-    /// The first column from that of a search on at which an item isn't known to have no match, at most
-    /// the line's end and one.
+    /// The first column from that of a search on at which no run tells that an item has no match.
     #[inline(always)]
-    pub(crate) fn settled_to(&self, id: u32, search: &Search<'_>) -> usize
+    pub(crate) fn told_to(&self, id: u32, search: &Search<'_>) -> usize
         ensures { (r : Rules) (t : Text) (l : ℕ) → LineStands r t l self.now →
             HoldsLine search.now.looked l → (c : ℕ) → search.now.at ≤ c → c < result →
             IsQuiet r t (place_at l c) search.now.floor search.now.looked (item_numbered id) }
     {
-        if self.is_barren(id) {
-            return self.numbers.len();
-        }
         match self.runs.get(id as usize) {
-            Some(run) => {
-                if run.covers(ItemId(id), search, self.numbers.len()) {
-                    run.places.end
-                } else {
-                    search.at
-                }
-            }
-            None => search.at,
+            Some(run) if run.covers(ItemId(id), search, self.numbers.len()) => run.places.end,
+            _ => search.at,
         }
     }
 

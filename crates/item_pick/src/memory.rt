@@ -1,19 +1,11 @@
 //! What is kept of a syntax, and what is known of the line that is painted.
-ghost use Rattle.std.specs.Prelude.{◌≡◌, ◌<◌, ◌≤◌, ◌+◌, ◌^◌, ℕ, length, reverse, IfOk, IfSome, true, pos};
-ghost use Rattle.syn_base.specs.Looked.{one_line};
-ghost use Rattle.match_rules.specs.Ways.{Text, line_at};
-ghost use Rattle.paint_rules.specs.Rules.{Rules};
-ghost use Rattle.item_pick.specs.PartsSeen.{rules_by, rules_in};
-ghost use Rattle.item_pick.specs.Runs.{TellsOf};
-ghost use Rattle.item_pick.specs.Quiet.{IsEarlier};
-ghost use Rattle.item_pick.specs.Screens.{HoldsLine, IsLater, IsSettled, IsVainFrom};
-ghost use Rattle.item_pick.specs.Standing.{ChoiceFits, IsFirstOf, IsStartOf};
-ghost use Rattle.item_pick.specs.Valid.{MayAsk};
-ghost use Rattle.item_pick.specs.Tables.{LineStands, MemoryStands, RunStands, TablesStand};
+ghost use Rattle.std.specs.Prelude.{◌≡◌, ◌<◌, ◌≤◌, ◌^◌, ℕ, length, reverse, IfOk, IfSome, true, pos};
+ghost use Rattle.item_pick.specs.Common.{one_line, Text, line_at, Rules, rules_by, rules_in, TellsOf, IsEarlier, IsLater, IsSettled, IsVainFrom, ChoiceFits, IsFirstOf, IsStartOf, MayAsk, LineStands, MemoryStands, RunStands, TablesStand, MayPick};
 
 use crate::asked::Asked;
 use crate::choice::Choice;
 use crate::columns::{Columns, may_start};
+use crate::firsts::Question;
 use crate::line_known::LineKnown;
 use crate::parts::Parts;
 use crate::picking::{Picking, StartBy};
@@ -85,8 +77,7 @@ impl PickMemory {
         looked: Looked,
     ) -> Result<usize, Memory>
         requires start { IsStartOf (rules_by picking.now.asked.now) by.now }
-        requires may { MayAsk T.lines picking.now self.old }
-        requires held { HoldsLine looked picking.now.at.line }
+        requires may { MayPick T.lines picking.now looked self.old }
         ensures next { IfOk result (IsLater (rules_by picking.now.asked.now)
             (T.lines picking.now.lines.now) by.now.item by.now.pattern.now picking.now.at looked col) }
         ensures may { MayAsk T.lines picking.now self.new }
@@ -103,7 +94,10 @@ impl PickMemory {
         if !holds(looked, run.looked) {
             return Ok(col);
         }
-        let to = self.tables.first_open(&self.line, asked, by, run.to)?;
+        let to = self
+            .tables
+            .firsts
+            .first_open(&self.line, asked, by, run.to)?;
         self.line.keep(Run { to, ..run }, picking.at.line)?;
         Ok(to)
     }
@@ -134,10 +128,11 @@ impl PickMemory {
             return Ok(None);
         }
         if !begins_behind(&by.pattern.tree) {
-            let missed = self.tables.is_missed_after(&self.line, asked, by, col)?;
+            let behind = self.line.number_after(col);
+            let missed = self.tables.firsts.is_missed_by(asked, by, col, behind)?;
             return Ok(own_line_if(missed, line));
         }
-        let Some(most) = self.tables.reach(asked, by)?.longest else {
+        let Some(most) = self.tables.firsts.reach(asked, by)?.longest else {
             return Ok(None);
         };
         if !are_within(picking.lines, line, most) {
@@ -146,7 +141,7 @@ impl PickMemory {
         let Some(number) = self.line.number_at(col) else {
             return Ok(None);
         };
-        if self.tables.is_vain_behind(asked, by, number)? {
+        if self.tables.firsts.ask(asked, by, Question::Behind, number)? {
             Ok(Some(two_lines(line)))
         } else {
             Ok(None)
@@ -157,8 +152,8 @@ impl PickMemory {
     /// which lines tell so.
     pub(crate) fn note<T: Lines>(
         &mut self,
-        picking: &Picking<'_, T>,
         by: &StartBy<'_>,
+        picking: &Picking<'_, T>,
         col: usize,
         places: Columns,
         lines: Looked,
@@ -200,8 +195,7 @@ impl PickMemory {
     ) -> Result<usize, Memory>
         requires choice { ChoiceFits (rules_by picking.now.asked.now) choice }
         requires items { left ≤ length (rules_by picking.now.asked.now).items }
-        requires may { MayAsk T.lines picking.now self.old }
-        requires held { HoldsLine looked picking.now.at.line }
+        requires may { MayPick T.lines picking.now looked self.old }
         ensures next { IfOk result (IsEarlier (rules_by picking.now.asked.now)
             (T.lines picking.now.lines.now) picking.now.at picking.now.floor
             (reverse picking.now.tried.now) choice looked left) }

@@ -1,72 +1,42 @@
 //! Columns from which an item isn't matched by its first start pattern, by what stands there.
-ghost use Rattle.std.specs.Prelude.{◌<◌, ◌≤◌, ℕ, IfOk, IsTrue};
-ghost use Rattle.match_rules.specs.Ways.{Text, line_at};
-ghost use Rattle.item_pick.specs.Standing.{IsFirstOf};
-ghost use Rattle.item_pick.specs.Tables.{AreTablesOf, IsMissed, LineStands};
-ghost use Rattle.item_pick.specs.PartsSeen.{rules_by};
+ghost use Rattle.std.specs.Prelude.{◌<◌, ◌≤◌, ◌+◌, ℕ, List, IfOk, IfSome, IsTrue};
+ghost use Rattle.item_pick.specs.Common.{Text, line_at, IsFirstOf, AreFirstsOf, IsMissed, IsNumberAt, LineStands, rules_by};
 
 use crate::asked::Asked;
+use crate::firsts::{Firsts, Question};
 use crate::line_known::LineKnown;
 use crate::picking::StartBy;
-use crate::tables::Tables;
 use pattern_screens::takes_first;
 use syn_base::Memory;
 
-impl Tables {
-    /// Whether an item is known, by what stands one column behind, not to match by its first start
-    /// pattern from a column.
-    pub(crate) fn is_missed_after(
+impl Firsts {
+    /// Whether an item is known not to match by its first start pattern from a column, by the number of
+    /// the key one column behind.
+    #[inline(always)]
+    pub(crate) fn is_missed_by(
         &mut self,
-        line: &LineKnown,
         asked: &Asked,
         by: &StartBy<'_>,
         col: usize,
+        behind: Option<u16>,
     ) -> Result<bool, Memory>
         requires first { IsFirstOf (rules_by asked.now) by.now }
-        requires stands { AreTablesOf (rules_by asked.now) self.old }
-        ensures stands { AreTablesOf (rules_by asked.now) self.new }
-        ensures missed { IfOk result (λ missed. IsTrue missed → (t : Text) (l : ℕ) →
-            LineStands (rules_by asked.now) t l line.now →
-            IsMissed (rules_by asked.now) (line_at t l) by.now.item by.now.pattern.now col) }
+        requires stands { AreFirstsOf (rules_by asked.now) self.old }
+        ensures stands { AreFirstsOf (rules_by asked.now) self.new }
+        ensures missed { IfOk result (λ missed. IsTrue missed → (line : List ℕ) →
+            IfSome behind (IsNumberAt (rules_by asked.now) line (col + 1)) →
+            IsMissed (rules_by asked.now) line by.now.item by.now.pattern.now col) }
     {
-        if !takes_first(&by.pattern.tree, col > 0) {
-            return Ok(false);
-        }
-        let Some(after) = col.checked_add(1) else {
-            return Ok(false);
-        };
-        match line.number_at(after) {
-            Some(number) => self.is_vain_before(asked, by, number),
-            None => Ok(false),
+        match behind {
+            Some(number) if takes_first(&by.pattern.tree, col > 0) => {
+                self.ask(asked, by, Question::Before, number)
+            }
+            _ => Ok(false),
         }
     }
 
-    /// The same, or by what stands there.
-    fn is_missed(
-        &mut self,
-        line: &LineKnown,
-        asked: &Asked,
-        by: &StartBy<'_>,
-        col: usize,
-    ) -> Result<bool, Memory>
-        requires first { IsFirstOf (rules_by asked.now) by.now }
-        requires stands { AreTablesOf (rules_by asked.now) self.old }
-        ensures stands { AreTablesOf (rules_by asked.now) self.new }
-        ensures missed { IfOk result (λ missed. IsTrue missed → (t : Text) (l : ℕ) →
-            LineStands (rules_by asked.now) t l line.now →
-            IsMissed (rules_by asked.now) (line_at t l) by.now.item by.now.pattern.now col) }
-    {
-        let Some(number) = line.number_at(col) else {
-            return Ok(false);
-        };
-        let vain = self.is_vain(asked, by, number)?;
-        if vain {
-            return Ok(true);
-        }
-        self.is_missed_after(line, asked, by, col)
-    }
-
-    /// The first column from one on from which an item may match by its first start pattern.
+    /// The first column from one on from which an item may match by its first start pattern, by what
+    /// stands there or one column behind.
     pub(crate) fn first_open(
         &mut self,
         line: &LineKnown,
@@ -75,8 +45,8 @@ impl Tables {
         from: usize,
     ) -> Result<usize, Memory>
         requires first { IsFirstOf (rules_by asked.now) by.now }
-        requires stands { AreTablesOf (rules_by asked.now) self.old }
-        ensures stands { AreTablesOf (rules_by asked.now) self.new }
+        requires stands { AreFirstsOf (rules_by asked.now) self.old }
+        ensures stands { AreFirstsOf (rules_by asked.now) self.new }
         ensures from { IfOk result (λ to. from ≤ to) }
         ensures missed { IfOk result (λ to. (t : Text) (l : ℕ) →
             LineStands (rules_by asked.now) t l line.now →
@@ -89,8 +59,13 @@ impl Tables {
             return Ok(from.max(end));
         }
         for col in from..end {
-            let missed = self.is_missed(line, asked, by, col)?;
-            if !missed {
+            let Some(number) = line.number_at(col) else {
+                return Ok(col);
+            };
+            if self.ask(asked, by, Question::Here, number)? {
+                continue;
+            }
+            if !self.is_missed_by(asked, by, col, line.number_after(col))? {
                 return Ok(col);
             }
         }

@@ -1,12 +1,7 @@
 //! What a line must hold so that an item has a match in it.
 ghost use Rattle.std.specs.Prelude.{◌≡◌, ℕ, slice_get, Some, IfOk, IfSome, IsTrue};
-ghost use Rattle.match_rules.specs.Ways.{Text};
+ghost use Rattle.item_pick.specs.Common.{Text, Rules, IsLineNeedOf, IsItem, AreTablesOf, IsBarren, IsNeededBy, IsWanted, MemoryStands, rules_by};
 ghost use Rattle.syntax_set.specs.declared.item.Pattern.{Pattern as PatternOf};
-ghost use Rattle.paint_rules.specs.Rules.{Rules};
-ghost use Rattle.pattern_needs.specs.LineNeeds.{IsLineNeedOf};
-ghost use Rattle.item_pick.specs.Standing.{IsItem};
-ghost use Rattle.item_pick.specs.Tables.{AreTablesOf, IsBarren, IsNeededBy, IsWanted, MemoryStands};
-ghost use Rattle.item_pick.specs.PartsSeen.{rules_by};
 
 use crate::asked::Asked;
 use crate::memory::PickMemory;
@@ -58,11 +53,7 @@ impl Asked<'_> {
         match &item.kind {
             ItemKind::Keyword => None,
             ItemKind::Match(pattern) => self.need_by(item.ignore, pattern),
-            ItemKind::Region {
-                starts,
-                skip: _,
-                ends: _,
-            } => self.need_of_any(item.ignore, starts.as_slice()),
+            ItemKind::Region { starts, .. } => self.need_of_any(item.ignore, starts.as_slice()),
         }
     }
 }

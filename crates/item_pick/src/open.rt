@@ -1,13 +1,7 @@
 //! Items that may start at a column.
 ghost use Rattle.std.specs.Prelude.{◌≡◌, ◌<◌, ◌≤◌, ℕ, get_or, length, nat_lt, reverse, IfOk, IfSome, IsTrue};
 ghost use Rattle.std.specs.List.Sorted.{IsNonDecreasing};
-ghost use Rattle.match_rules.specs.Ways.{Text, line_at};
-ghost use Rattle.paint_rules.specs.Rules.{place_at};
-ghost use Rattle.item_pick.specs.Quiet.{IsPassed, item_numbered};
-ghost use Rattle.item_pick.specs.Screens.{HoldsLine};
-ghost use Rattle.item_pick.specs.Standing.{ChoiceFits};
-ghost use Rattle.item_pick.specs.Tables.{AreKnown, AreTablesOf, IsNextAt, IsNextIn, IsNumberAt, LineStands};
-ghost use Rattle.item_pick.specs.PartsSeen.{rules_by};
+ghost use Rattle.item_pick.specs.Common.{Text, line_at, place_at, IsPassed, item_numbered, HoldsLine, ChoiceFits, AreKnown, AreTablesOf, IsNextAt, IsNextIn, IsNumberAt, LineStands, rules_by};
 
 use crate::asked::Asked;
 use crate::choice::Choice;
@@ -30,7 +24,7 @@ impl Tables {
             return true;
         }
         match search.line.number_behind(search.at) {
-            Some(number) => self.is_idle(id, number),
+            Some(number) => self.firsts.is_idle(id, number),
             None => false,
         }
     }

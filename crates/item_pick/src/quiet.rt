@@ -1,25 +1,12 @@
 //! Columns at which nothing starts, by what stands there.
-ghost use Rattle.std.specs.Prelude.{◌≡◌, ◌<◌, ◌≤◌, ℕ, [], length, reverse, IfOk, IsTrue, true, false};
-ghost use Rattle.match_rules.specs.Ways.{Text, line_at};
-ghost use Rattle.keyword_table.specs.Words.{begins_word};
-ghost use Rattle.paint_rules.specs.Rules.{Rules, place_at};
-ghost use Rattle.paint_rules.specs.States.{Fits, StateFits};
-ghost use Rattle.state_stack.specs.TopFirst.{top_first};
-ghost use Rattle.item_pick.specs.QuietPlaces.{IsQuietAt};
-ghost use Rattle.item_pick.specs.QuietUntil.{IsQuietUntil};
-ghost use Rattle.item_pick.specs.Screens.{HoldsLine};
-ghost use Rattle.item_pick.specs.Settled.{ArePassed, AreSettled};
-ghost use Rattle.item_pick.specs.Standing.{ChoiceFits};
-ghost use Rattle.item_pick.specs.Tables.{MemoryStands};
-ghost use Rattle.item_pick.specs.Valid.{IsSound, MayAsk};
-ghost use Rattle.item_pick.specs.PartsSeen.{rules_by};
+ghost use Rattle.std.specs.Prelude.{◌≡◌, ◌<◌, ℕ, [], length, reverse, IfOk, IsTrue, true};
+ghost use Rattle.item_pick.specs.Common.{Text, line_at, begins_word, Rules, place_at, Fits, IsQuietAt, IsQuietUntil, HoldsLine, ArePassed, AreSettled, ChoiceFits, MemoryStands, MayAsk, rules_by, MayBeAsked, MayPick};
 
 use crate::asked::Asked;
 use crate::choice::Choice;
 use crate::memory::PickMemory;
-use crate::picking::{Picking, SoFar};
+use crate::picking::{Picking, Query};
 use crate::runs::Search;
-use crate::tried::Tried;
 use char_class::CharSet;
 use state_stack::Stack;
 use syn_base::{Lines, Looked, Memory, Place};
@@ -28,35 +15,20 @@ impl PickMemory {
     /// The first column from a place of a present line on at which something may start, at most the
     /// line's length, where no item has started there: it stops where a word begins, and where what
     /// stands there may begin an item. The line has to be entered (`enter_line`).
-    pub fn quiet_until<T: Lines>(
-        &mut self,
-        asked: &Asked,
-        lines: &T,
-        at: Place,
-        so_far: &SoFar,
-    ) -> Result<usize, Memory>
-        requires valid { IsSound asked.now }
-        requires present { at.line < length (T.lines lines.now) }
-        requires within { at.col ≤ length (line_at (T.lines lines.now) at.line) }
-        requires fits { StateFits (length asked.now.parts.now.items.now)
-            (top_first so_far.now.state.now) }
-        requires none_tried { so_far.now.tried.now ≡ [] }
-        requires held { HoldsLine so_far.now.looked at.line }
-        requires memory { MemoryStands (rules_by asked.now) (T.lines lines.now) at.line self.old }
-        ensures quiet { IfOk result (IsQuietUntil (rules_by asked.now) (T.lines lines.now) at
-            (reverse so_far.now.state.now.stack) so_far.now.floor so_far.now.looked) }
-        ensures memory { MemoryStands (rules_by asked.now) (T.lines lines.now) at.line self.new }
+    pub fn quiet_until<T: Lines>(&mut self, query: &Query<'_, T>) -> Result<usize, Memory>
+        requires may { MayBeAsked T.lines query.now self.old }
+        requires none_tried { query.now.tried.now ≡ [] }
+        ensures quiet { IfOk result (IsQuietUntil (rules_by query.now.asked.now)
+            (T.lines query.now.lines.now) query.now.at (reverse query.now.state.now.stack)
+            query.now.floor query.now.looked) }
+        ensures memory { MemoryStands (rules_by query.now.asked.now) (T.lines query.now.lines.now)
+            query.now.at.line self.new }
     {
-        let _count = lines.len();
-        let tried = Tried::new(asked.alloc, so_far.tried, asked.parts.items.added())?;
-        let picking = Picking {
-            asked,
-            lines,
-            at,
-            floor: so_far.floor,
-            tried: &tried,
-        };
-        picking.quiet_until(&so_far.state.stack, so_far.looked, self)
+        let _count = query.lines.len();
+        let tried = query.tried_items()?;
+        query
+            .picking(&tried)
+            .quiet_until(&query.state.stack, query.looked, self)
     }
 }
 
@@ -73,11 +45,10 @@ impl<T: Lines> Picking<'_, T> {
     ) -> Result<bool, Memory>
         requires column { col < length (line_at (T.lines self.now.lines.now) self.now.at.line) }
         requires none_tried { self.now.tried.now ≡ [] }
-        requires held { HoldsLine looked self.now.at.line }
         requires choice { ChoiceFits (rules_by self.now.asked.now) choice }
         requires settled { col < settled → ArePassed (rules_by self.now.asked.now)
             (T.lines self.now.lines.now) self.now.at.line choice self.now.floor looked true col }
-        requires may { MayAsk T.lines self.now memory.old }
+        requires may { MayPick T.lines self.now looked memory.old }
         ensures quiet { IfOk result (λ quiet. IsTrue quiet → IsQuietAt
             (rules_by self.now.asked.now) (T.lines self.now.lines.now) choice self.now.floor looked
             (place_at self.now.at.line col)) }
@@ -133,12 +104,10 @@ impl<T: Lines> Picking<'_, T> {
         memory: &mut PickMemory,
     ) -> Result<usize, Memory>
         requires none_tried { self.now.tried.now ≡ [] }
-        requires held { HoldsLine looked self.now.at.line }
         requires frames { Fits (length self.now.asked.now.parts.now.items.now)
             (reverse stack.now) }
-        requires may { MayAsk T.lines self.now memory.old }
-        ensures quiet { IfOk result (IsQuietUntil
-            (rules_by self.now.asked.now)
+        requires may { MayPick T.lines self.now looked memory.old }
+        ensures quiet { IfOk result (IsQuietUntil (rules_by self.now.asked.now)
             (T.lines self.now.lines.now) self.now.at (reverse stack.now) self.now.floor looked) }
         ensures may { MayAsk T.lines self.now memory.new }
     {

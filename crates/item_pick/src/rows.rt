@@ -1,14 +1,8 @@
 //! Which items of a choice may start at a column, by the key of the column.
-ghost use Rattle.std.specs.Prelude.{◌≡◌, ◌<◌, ℕ, length, slice_get, Some, IfOk, IsTrue, true};
+ghost use Rattle.std.specs.Prelude.{◌≡◌, ◌<◌, ℕ, length, slice_get, Some, IfOk, IfSome, IsTrue, true};
 ghost use Rattle.std.specs.List.Sorted.{IsNonDecreasing};
+ghost use Rattle.item_pick.specs.Common.{item_numbered, ChoiceFits, IsItem, admits, AnswersStand, HasThose, is_screened, Lacks, ListStands, RisesTo, RowStands, stays_out, StaysOut, rules_by};
 ghost use Rattle.syntax_set.specs.declared.item.Pattern.{Pattern as PatternOf};
-ghost use Rattle.paint_rules.specs.Rules.{item_of};
-ghost use Rattle.item_pick.specs.Quiet.{item_numbered};
-ghost use Rattle.item_pick.specs.Standing.{ChoiceFits, IsItem};
-ghost use Rattle.item_pick.specs.Started.{admits};
-ghost use Rattle.region_ends.specs.KeyAnswers.{AnswersStand};
-ghost use Rattle.item_pick.specs.Tables.{is_screened, Lacks, ListStands, RisesTo, RowStands, stays_out, StaysOut};
-ghost use Rattle.item_pick.specs.PartsSeen.{rules_by};
 
 use crate::asked::Asked;
 use crate::choice::{Choice, admits};
@@ -68,18 +62,17 @@ impl Asked<'_> {
     /// Whether an item can't start at a column whose key has a number.
     fn stays_out(&self, id: ItemId, number: u16) -> bool
         requires { IsItem (rules_by self.now) id }
-        ensures { IsTrue result →
-            StaysOut (rules_by self.now) number id }
+        ensures { IsTrue result → StaysOut (rules_by self.now) number id }
     {
         let item = item_of(self.parts.items, id);
         match &item.kind {
             ItemKind::Keyword => true,
             ItemKind::Match(pattern) => self.is_screened(item.ignore, pattern, number),
-            ItemKind::Region {
-                starts,
-                skip: _,
-                ends: _,
-            } => self.are_screened(item.ignore, starts.as_slice(), number),
+            ItemKind::Region { starts, .. } => self.are_screened(
+                item.ignore,
+                starts.as_slice(),
+                number,
+            ),
         }
     }
 
@@ -109,10 +102,8 @@ impl Asked<'_> {
     /// The same as `stays_out`. The answer is kept.
     fn is_out(&self, id: ItemId, number: u16, outs: &mut KeyAnswers) -> Result<bool, Memory>
         requires item { IsItem (rules_by self.now) id }
-        requires outs { AnswersStand (stays_out (rules_by self.now))
-            outs.old }
-        ensures outs { AnswersStand (stays_out (rules_by self.now))
-            outs.new }
+        requires outs { AnswersStand (stays_out (rules_by self.now)) outs.old }
+        ensures outs { AnswersStand (stays_out (rules_by self.now)) outs.new }
         ensures out { IfOk result (λ out. IsTrue out →
             StaysOut (rules_by self.now) number id) }
     {
@@ -135,10 +126,8 @@ impl Asked<'_> {
         items: &mut Vec<u32>,
     ) -> Result<(), Memory>
         requires count { count ≡ length (rules_by self.now).items }
-        requires outs { AnswersStand (stays_out (rules_by self.now))
-            outs.old }
-        ensures outs { AnswersStand (stays_out (rules_by self.now))
-            outs.new }
+        requires outs { AnswersStand (stays_out (rules_by self.now)) outs.old }
+        ensures outs { AnswersStand (stays_out (rules_by self.now)) outs.new }
         ensures kept { (j : ℕ) → Lacks items.new.items j → Lacks items.old.items j }
         ensures rises { RisesTo id items.old.items → RisesTo id items.new.items }
         ensures here { IfOk result (λ _.
@@ -171,7 +160,7 @@ impl Asked<'_> {
     }
 
     /// Those of all items of a choice that may start at a column whose key has a number.
-    fn narrowed(
+    pub(crate) fn narrowed(
         &self,
         alloc: Global,
         all: &Row,
@@ -180,13 +169,10 @@ impl Asked<'_> {
     ) -> Result<Vec<u32>, Memory>
         requires number { all.now.number ≡ 777 }
         requires stands { RowStands (rules_by self.now) all.now }
-        requires outs { AnswersStand (stays_out (rules_by self.now))
-            outs.old }
-        ensures outs { AnswersStand (stays_out (rules_by self.now))
-            outs.new }
-        ensures lists { IfOk result
-            (λ list. ListStands (rules_by self.now)
-            all.now.choice number list.items) }
+        requires outs { AnswersStand (stays_out (rules_by self.now)) outs.old }
+        ensures outs { AnswersStand (stays_out (rules_by self.now)) outs.new }
+        ensures lists { IfOk result (λ list. ListStands (rules_by self.now) all.now.choice number
+            list.items) }
         ensures rises { IfOk result (λ list. IsNonDecreasing list.items) }
     {
         let count = self.parts.items.added();
@@ -197,47 +183,38 @@ impl Asked<'_> {
         Ok(items)
     }
 
+    /// The row of these items of a choice, with those of them that wander, if they are told.
+    pub(crate) fn row(
+        &self,
+        alloc: Global,
+        choice: Choice,
+        number: u16,
+        items: Vec<u32>,
+        wandering: Option<Vec<u32>>,
+    ) -> Result<Row, Memory>
+        requires lists { ListStands (rules_by self.now) choice number items.items }
+        requires rises { IsNonDecreasing items.items }
+        requires those { IfSome wandering (λ those. HasThose (rules_by self.now) true items.items
+            those.items) }
+        ensures { IfOk result (RowStands (rules_by self.now)) }
+    {
+        let resting = self.those(alloc, items.as_slice(), false)?;
+        Ok(Row {
+            choice,
+            number,
+            items,
+            resting,
+            wandering,
+        })
+    }
+
     /// The row of all items of a choice that start by a pattern.
     pub(crate) fn whole_row(&self, alloc: Global, choice: Choice) -> Result<Row, Memory>
         requires { ChoiceFits (rules_by self.now) choice }
         ensures { IfOk result (RowStands (rules_by self.now)) }
     {
         let items = self.listed(alloc, choice, ANY)?;
-        let resting = self.those(alloc, items.as_slice(), false)?;
         let wandering = self.those(alloc, items.as_slice(), true)?;
-        Ok(Row {
-            choice,
-            number: ANY,
-            items,
-            resting,
-            wandering: Some(wandering),
-        })
-    }
-
-    /// The row of a key, from that of all items of its choice.
-    pub(crate) fn row_of(
-        &self,
-        alloc: Global,
-        all: &Row,
-        number: u16,
-        outs: &mut KeyAnswers,
-    ) -> Result<Row, Memory>
-        requires number { all.now.number ≡ 777 }
-        requires stands { RowStands (rules_by self.now) all.now }
-        requires outs { AnswersStand (stays_out (rules_by self.now))
-            outs.old }
-        ensures outs { AnswersStand (stays_out (rules_by self.now))
-            outs.new }
-        ensures row { IfOk result (RowStands (rules_by self.now)) }
-    {
-        let items = self.narrowed(alloc, all, number, outs)?;
-        let resting = self.those(alloc, items.as_slice(), false)?;
-        Ok(Row {
-            choice: all.choice,
-            number,
-            items,
-            resting,
-            wandering: None,
-        })
+        self.row(alloc, choice, ANY, items, Some(wandering))
     }
 }

@@ -1,13 +1,6 @@
 //! From which columns of a line an item isn't matched.
 ghost use Rattle.std.specs.Prelude.{◌≡◌, ◌<◌, ◌≤◌, ◌-◌, ◌^◌, ℕ, length, reverse, IfSome, IsTrue};
-ghost use Rattle.match_rules.specs.Ways.{Text, line_at};
-ghost use Rattle.paint_rules.specs.Rules.{Rules, item_of, place_at};
-ghost use Rattle.item_pick.specs.Standing.{has_one_start, IsFirstOf, IsItem};
-ghost use Rattle.item_pick.specs.Tables.{IsEnough, LineStands, RunStands};
-ghost use Rattle.item_pick.specs.Runs.{Covers, IsWhole, TellsOf};
-ghost use Rattle.item_pick.specs.Quiet.{IsPassed, item_numbered};
-ghost use Rattle.item_pick.specs.Screens.{HoldsLine, HoldsLines};
-ghost use Rattle.item_pick.specs.PartsSeen.{rules_by};
+ghost use Rattle.item_pick.specs.Common.{Text, line_at, Rules, item_of, place_at, has_one_start, IsFirstOf, IsItem, IsEnough, LineStands, RunStands, Covers, IsWhole, TellsOf, IsPassed, item_numbered, HoldsLine, HoldsLines, rules_by};
 
 use crate::asked::Asked;
 use crate::columns::Columns;
@@ -50,6 +43,7 @@ pub(crate) struct Search<'a> {
 
 impl Search<'_> {
     /// Whether an item has started at the column, or is known to have no match there.
+    #[inline(always)]
     pub(crate) fn is_passed(&self, id: u32) -> bool
         ensures { IsTrue result → (r : Rules) (t : Text) (l : ℕ) →
             LineStands r t l self.now.line.now → self.now.at ≤ length (line_at t l) →
@@ -57,7 +51,9 @@ impl Search<'_> {
             IsPassed r t (place_at l self.now.at) self.now.floor self.now.looked
             (reverse self.now.tried.now) (item_numbered id) }
     {
-        self.line.settled_to(id, self) > self.at || self.tried.has(ItemId(id))
+        self.line.is_barren(id)
+            || self.line.told_to(id, self) > self.at
+            || self.tried.has(ItemId(id))
     }
 }
 
@@ -71,6 +67,7 @@ pub(crate) fn holds(looked: Looked, lines: Looked) -> bool
 impl Run {
     /// Whether an item isn't matched where it is sought from any column before an end, and the lines
     /// that tell so were looked at.
+    #[inline(always)]
     pub(crate) fn covers(&self, item: ItemId, search: &Search<'_>, end: usize) -> bool
         ensures { IsTrue result → Covers self.now item search.now.at search.now.floor
             search.now.looked end }
@@ -111,11 +108,7 @@ impl Asked<'_> {
         match &item_of(self.parts.items, id).kind {
             ItemKind::Keyword => true,
             ItemKind::Match(_) => true,
-            ItemKind::Region {
-                starts,
-                skip: _,
-                ends: _,
-            } => starts.len() == 1,
+            ItemKind::Region { starts, .. } => starts.len() == 1,
         }
     }
 

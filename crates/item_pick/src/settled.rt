@@ -1,14 +1,7 @@
 //! Columns at which no item starts, since those that wander are known not to and the others are idle.
 ghost use Rattle.std.specs.Prelude.{◌≡◌, ◌<◌, ◌≤◌, ℕ, length, get_or, IsTrue, true, false};
+ghost use Rattle.item_pick.specs.Common.{Text, line_at, Rules, place_at, idles_before, IsQuiet, item_numbered, HoldsLine, ArePassed, AreSettled, AreKnown, AreTablesOf, IsNumberAt, LineStands, rules_by};
 ghost use Rattle.syn_base.specs.declared.looked.Looked.{Looked as LookedOf};
-ghost use Rattle.match_rules.specs.Ways.{Text, line_at};
-ghost use Rattle.paint_rules.specs.Rules.{Rules, place_at};
-ghost use Rattle.item_pick.specs.Firsts.{idles_before};
-ghost use Rattle.item_pick.specs.Quiet.{IsQuiet, item_numbered};
-ghost use Rattle.item_pick.specs.Screens.{HoldsLine};
-ghost use Rattle.item_pick.specs.Settled.{ArePassed, AreSettled};
-ghost use Rattle.item_pick.specs.Tables.{AreKnown, AreTablesOf, IsNumberAt, LineStands};
-ghost use Rattle.item_pick.specs.PartsSeen.{rules_by};
 
 use crate::asked::Asked;
 use crate::choice::Choice;
@@ -16,7 +9,6 @@ use crate::line_known::LineKnown;
 use crate::rows::ANY;
 use crate::runs::Search;
 use crate::tables::Tables;
-use syn_base::ItemId;
 
 impl Search<'_> {
     /// The first column from its own on at which it isn't known of all items of a list that they have no
@@ -30,7 +22,10 @@ impl Search<'_> {
     {
         let mut end = self.line.numbers.len();
         for id in list {
-            let to = self.line.settled_to(*id, self);
+            if self.line.is_barren(*id) {
+                continue;
+            }
+            let to = self.line.told_to(*id, self);
             if to <= self.at {
                 return self.at;
             }
@@ -63,22 +58,11 @@ impl Tables {
             k < length list.now → idles_before r number (get_or list.now k 0) ≡ true }
     {
         for id in list {
-            if !self.is_idle(*id, number) {
+            if !self.firsts.is_idle(*id, number) {
                 return false;
             }
         }
         true
-    }
-
-    /// Whether one item is.
-    pub(crate) fn is_idle(&self, id: u32, number: u16) -> bool
-        ensures { IsTrue result → (r : Rules) → AreTablesOf r self.now →
-            idles_before r number id ≡ true }
-    {
-        match self.idles.known(number, ItemId(id)) {
-            Some(idle) => idle,
-            None => false,
-        }
     }
 
     /// Whether those items of a choice that don't wander are known not to start at a column whose key

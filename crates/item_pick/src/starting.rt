@@ -1,4 +1,5 @@
 //! What starts.
+use crate::stop::Stop;
 use paint_rules::RegionEnd;
 use pattern_match::Match;
 use syn_base::{ItemId, Looked};
@@ -48,3 +49,6 @@ pub(crate) enum Outcome {
     SkipOn,
     Nothing,
 }
+
+/// What starts, if anything, or why picking stops.
+pub(crate) type Found = Result<Option<Starting>, Stop>;

@@ -1,23 +1,12 @@
 //! The start of a match or a region.
 ghost use Rattle.std.specs.Prelude.{◌≡◌, ◌<◌, ◌^◌, length, IfOk, Some, reverse, true};
-ghost use Rattle.match_rules.specs.Ways.{is_after};
-ghost use Rattle.paint_rules.specs.Painted.{first_found};
-ghost use Rattle.paint_rules.specs.Rules.{item_of};
-ghost use Rattle.paint_rules.specs.Close.{is_region};
-ghost use Rattle.paint_rules.specs.EndInLine.{end_in_line, for_ends};
-ghost use Rattle.paint_rules.specs.Pick.{match_start, region_start, start_by, items_below};
+ghost use Rattle.item_pick.specs.Common.{is_after, first_found, item_of, is_region, end_in_line, for_ends, match_start, region_start, start_by, items_below, IsToldAfter, IsToldAs, IsStartThere, seen_start, start_at, start_if_free, start_pattern, starts_of, ChoiceFits, IsItem, IsOwn, rules_by, MayAsk, MayPick, here_of};
 ghost use Rattle.syntax_set.specs.declared.item.ItemKind.TheVariants as kind;
-ghost use Rattle.item_pick.specs.Told.{IsToldAfter, IsToldAs};
-ghost use Rattle.item_pick.specs.Started.{here_at, IsStartThere, seen_start, start_at, start_if_free, start_pattern, starts_of};
-ghost use Rattle.item_pick.specs.Screens.{HoldsLine};
-ghost use Rattle.item_pick.specs.Standing.{ChoiceFits, IsItem, IsOwn};
-ghost use Rattle.item_pick.specs.PartsSeen.{rules_by};
-ghost use Rattle.item_pick.specs.Valid.{MayAsk};
 
 use crate::choice::Choice;
 use crate::memory::PickMemory;
 use crate::picking::{Picking, StartBy};
-use crate::starting::Starting;
+use crate::starting::{Found, Starting};
 use crate::stop::Stop;
 use crate::tries::look_at;
 use paint_rules::{RegionEnd, Which};
@@ -39,9 +28,7 @@ impl<T: Lines> Picking<'_, T> {
         requires item { IsItem (rules_by self.now.asked.now) id }
         requires kind { (item_of (rules_by self.now.asked.now).items id).kind
             ≡ kind.Match pattern.now }
-        ensures seen { seen_start (rules_by self.now.asked.now).items result ≡ match_start
-            (here_at (rules_by self.now.asked.now) (T.lines self.now.lines.now) self.now.at)
-            self.now.at.col id pattern.now (Some m) }
+        ensures seen { seen_start (rules_by self.now.asked.now).items result ≡ match_start (here_of T.lines self.now) self.now.at.col id pattern.now (Some m) }
         ensures there { IsStartThere (rules_by self.now.asked.now).items result }
     {
         let end = offset_place(self.lines, &m, pattern, Which::Me);
@@ -101,7 +88,7 @@ impl<T: Lines> Picking<'_, T> {
         m: Match,
         looked: &mut Looked,
         memory: &mut PickMemory,
-    ) -> Result<Option<Starting>, Stop>
+    ) -> Found
         requires item { IsItem (rules_by self.now.asked.now) id }
         requires region { is_region (item_of (rules_by self.now.asked.now).items id).kind ≡ true }
         requires start { start
@@ -109,8 +96,7 @@ impl<T: Lines> Picking<'_, T> {
         requires ends { m.to.line < 2 ^ 33 }
         requires may { MayAsk T.lines self.now memory.old }
         ensures told { IsToldAs (seen_start (rules_by self.now.asked.now).items) looked.old result
-            looked.new (region_start
-            (here_at (rules_by self.now.asked.now) (T.lines self.now.lines.now) self.now.at) id
+            looked.new (region_start (here_of T.lines self.now) id
             (start_pattern (rules_by self.now.asked.now).items id start) (Some m)) }
         ensures there { IfOk result (IsStartThere (rules_by self.now.asked.now).items) }
         ensures may { MayAsk T.lines self.now memory.new }
@@ -144,15 +130,14 @@ impl<T: Lines> Picking<'_, T> {
         pattern: &Pattern,
         looked: &mut Looked,
         memory: &mut PickMemory,
-    ) -> Result<Option<Starting>, Stop>
+    ) -> Found
         requires own { IsOwn (rules_by self.now.asked.now) id pattern.now }
         requires region { is_region (item_of (rules_by self.now.asked.now).items id).kind ≡ true }
         requires start { start
             < length (starts_of (item_of (rules_by self.now.asked.now).items id).kind) }
         requires pattern { pattern.now
             ≡ start_pattern (rules_by self.now.asked.now).items id start }
-        requires may { MayAsk T.lines self.now memory.old }
-        requires held { HoldsLine looked.old self.now.at.line }
+        requires may { MayPick T.lines self.now looked.old memory.old }
         ensures told { IsToldAs (seen_start (rules_by self.now.asked.now).items) looked.old result
             looked.new (start_at (rules_by self.now.asked.now) (T.lines self.now.lines.now)
             self.now.at self.now.floor id pattern.now) }
@@ -177,13 +162,12 @@ impl<T: Lines> Picking<'_, T> {
         starts: &List<Pattern>,
         looked: &mut Looked,
         memory: &mut PickMemory,
-    ) -> Result<Option<Starting>, Stop>
+    ) -> Found
         requires item { IsItem (rules_by self.now.asked.now) id }
         requires region { is_region (item_of (rules_by self.now.asked.now).items id).kind ≡ true }
         requires starts { starts.now
             ≡ starts_of (item_of (rules_by self.now.asked.now).items id).kind }
-        requires may { MayAsk T.lines self.now memory.old }
-        requires held { HoldsLine looked.old self.now.at.line }
+        requires may { MayPick T.lines self.now looked.old memory.old }
         ensures told { IsToldAs (seen_start (rules_by self.now.asked.now).items) looked.old result
             looked.new (first_found (start_at (rules_by self.now.asked.now)
             (T.lines self.now.lines.now) self.now.at self.now.floor id) (reverse starts.now)) }
@@ -203,19 +187,11 @@ impl<T: Lines> Picking<'_, T> {
     }
 
     /// What an item starts by a match at the place.
-    fn start_by(
-        &self,
-        id: ItemId,
-        looked: &mut Looked,
-        memory: &mut PickMemory,
-    ) -> Result<Option<Starting>, Stop>
+    fn start_by(&self, id: ItemId, looked: &mut Looked, memory: &mut PickMemory) -> Found
         requires item { IsItem (rules_by self.now.asked.now) id }
-        requires may { MayAsk T.lines self.now memory.old }
-        requires held { HoldsLine looked.old self.now.at.line }
+        requires may { MayPick T.lines self.now looked.old memory.old }
         ensures told { IsToldAs (seen_start (rules_by self.now.asked.now).items) looked.old result
-            looked.new (start_by
-            (here_at (rules_by self.now.asked.now) (T.lines self.now.lines.now) self.now.at)
-            self.now.at.col self.now.floor id
+            looked.new (start_by (here_of T.lines self.now) self.now.at.col self.now.floor id
             (item_of (rules_by self.now.asked.now).items id).kind) }
         ensures there { IfOk result (IsStartThere (rules_by self.now.asked.now).items) }
         ensures may { MayAsk T.lines self.now memory.new }
@@ -233,11 +209,7 @@ impl<T: Lines> Picking<'_, T> {
                     None => Ok(None),
                 }
             }
-            ItemKind::Region {
-                starts,
-                skip: _,
-                ends: _,
-            } => self.start_of_region(id, starts, looked, memory),
+            ItemKind::Region { starts, .. } => self.start_of_region(id, starts, looked, memory),
         }
     }
 
@@ -248,11 +220,10 @@ impl<T: Lines> Picking<'_, T> {
         id: ItemId,
         looked: &mut Looked,
         memory: &mut PickMemory,
-    ) -> Result<Option<Starting>, Stop>
+    ) -> Found
         requires item { IsItem (rules_by self.now.asked.now) id }
         requires choice { ChoiceFits (rules_by self.now.asked.now) choice }
-        requires may { MayAsk T.lines self.now memory.old }
-        requires held { HoldsLine looked.old self.now.at.line }
+        requires may { MayPick T.lines self.now looked.old memory.old }
         ensures told { IsToldAs (seen_start (rules_by self.now.asked.now).items) looked.old result
             looked.new (start_if_free (rules_by self.now.asked.now) (T.lines self.now.lines.now)
             self.now.at self.now.floor (reverse self.now.tried.now) choice id) }
@@ -272,10 +243,9 @@ impl<T: Lines> Picking<'_, T> {
         choice: Choice,
         looked: &mut Looked,
         memory: &mut PickMemory,
-    ) -> Result<Option<Starting>, Stop>
+    ) -> Found
         requires choice { ChoiceFits (rules_by self.now.asked.now) choice }
-        requires may { MayAsk T.lines self.now memory.old }
-        requires held { HoldsLine looked.old self.now.at.line }
+        requires may { MayPick T.lines self.now looked.old memory.old }
         ensures told { IsToldAs (seen_start (rules_by self.now.asked.now).items) looked.old result
             looked.new (first_found (start_if_free (rules_by self.now.asked.now)
             (T.lines self.now.lines.now) self.now.at self.now.floor (reverse self.now.tried.now)

@@ -1,14 +1,11 @@
 //! What is kept of a syntax: which items may start by what stands at a column.
 ghost use Rattle.std.specs.Prelude.{◌≡◌, IfSome};
 ghost use Rattle.std.specs.List.{All};
-ghost use Rattle.paint_rules.specs.Rules.{Rules};
-ghost use Rattle.item_pick.specs.Standing.{ChoiceFits};
-ghost use Rattle.item_pick.specs.Tables.{AreTablesOf, RowStands};
-ghost use Rattle.item_pick.specs.PartsSeen.{rules_by};
+ghost use Rattle.item_pick.specs.Common.{Rules, ChoiceFits, AreTablesOf, RowStands, rules_by};
 
 use crate::asked::Asked;
 use crate::choice::Choice;
-use crate::firsts::Reach;
+use crate::firsts::Firsts;
 use crate::needs::Wanted;
 use crate::rows::{ANY, Row};
 use region_ends::KeyAnswers;
@@ -28,18 +25,10 @@ pub(crate) struct Tables {
     places: Grid<u32>,
     /// Whether an item can't start.
     outs: KeyAnswers,
-    /// Whether attempts by the first start pattern of an item are in vain.
-    pub(crate) vains: KeyAnswers,
-    /// Whether what follows the first piece of that pattern is in vain.
-    pub(crate) behinds: KeyAnswers,
-    /// Whether they are in vain one column before.
-    pub(crate) afters: KeyAnswers,
-    /// Whether an item can't start one column before.
-    pub(crate) idles: KeyAnswers,
     /// Whether no skip or end of a region fits.
     pub(crate) shut: KeyAnswers,
-    /// How far attempts by that pattern may lead, by the number of the item.
-    pub(crate) reaches: Table<Reach>,
+    /// What is known of attempts by first start patterns.
+    pub(crate) firsts: Firsts,
     /// What lines must hold so that some items have a match in them.
     pub(crate) wanted: Vec<Wanted>,
     /// How many times it was asked for, by the number of the item.
@@ -56,12 +45,8 @@ impl Tables {
             rows: Vec::new(alloc),
             places: Grid::new(alloc),
             outs: KeyAnswers::new(alloc),
-            vains: KeyAnswers::new(alloc),
-            behinds: KeyAnswers::new(alloc),
-            afters: KeyAnswers::new(alloc),
-            idles: KeyAnswers::new(alloc),
             shut: KeyAnswers::new(alloc),
-            reaches: Table::new(alloc),
+            firsts: Firsts::new(alloc),
             wanted: Vec::new(alloc),
             times: Table::new(alloc),
         }
@@ -74,6 +59,7 @@ impl Tables {
     }
 
     /// A row, if it was made.
+    #[inline(always)]
     pub(crate) fn row(&self, choice: Choice, number: u16) -> Option<&Row>
         ensures choice { IfSome result (λ row. row.now.choice ≡ choice) }
         ensures number { IfSome result (λ row. row.now.number ≡ number) }
@@ -120,10 +106,11 @@ impl Tables {
         let Some(place) = self.place(choice, ANY) else {
             return Ok(());
         };
-        let row = match row_at(self.rows.as_slice(), place, choice, ANY) {
-            Some(all) => asked.row_of(self.alloc, all, number, &mut self.outs)?,
+        let items = match row_at(self.rows.as_slice(), place, choice, ANY) {
+            Some(all) => asked.narrowed(self.alloc, all, number, &mut self.outs)?,
             None => return Ok(()),
         };
+        let row = asked.row(self.alloc, choice, number, items, None)?;
         self.keep(row)
     }
 }

@@ -1,9 +1,8 @@
 //! The items that have started at a place.
 ghost use Rattle.std.specs.Prelude.{◌≡◌, ◌∷◌, List, reverse, IfOk};
 ghost use Rattle.std.specs.List.{list_any};
+ghost use Rattle.item_pick.specs.Common.{same_item, AreMarks};
 ghost use Rattle.syn_base.specs.declared.places.ItemId.{ItemId as ItemIdOf};
-ghost use Rattle.paint_rules.specs.Rules.{same_item};
-ghost use Rattle.item_pick.specs.Marks.{AreMarks};
 
 use std::alloc::Global;
 use std::marker::Model;

@@ -1,15 +1,6 @@
 //! The match of an item at a place.
-ghost use Rattle.std.specs.Prelude.{◌≡◌, ◌<◌, ◌≤◌, ◌+◌, ◌^◌, length, IfOk, Some, pos};
-ghost use Rattle.syn_base.specs.Looked.{hull_of, one_line};
-ghost use Rattle.match_rules.specs.Ways.{line_at};
-ghost use Rattle.paint_rules.specs.Rules.{attempted, no_externals, place_at};
-ghost use Rattle.paint_rules.specs.ItemMatch.{item_match, match_from, starts_at};
-ghost use Rattle.item_pick.specs.Told.{IsToldAfter, IsToldAs, EndsBefore};
-ghost use Rattle.item_pick.specs.Tries.{HasNoStart, IsNotFrom, IsSeen, IsBeside, match_in};
-ghost use Rattle.item_pick.specs.Screens.{HoldsLine};
-ghost use Rattle.item_pick.specs.Standing.{IsOwn, IsPlace, IsStartOf};
-ghost use Rattle.item_pick.specs.PartsSeen.{rules_by};
-ghost use Rattle.item_pick.specs.Valid.{IsSound, MayAsk};
+ghost use Rattle.std.specs.Prelude.{◌≡◌, ◌<◌, ◌≤◌, ◌^◌, length, IfOk, Some, pos};
+ghost use Rattle.item_pick.specs.Common.{hull_of, one_line, line_at, attempted, no_externals, place_at, item_match, match_from, starts_at, IsToldAfter, IsToldAs, EndsBefore, HasNoStart, IsNotFrom, IsSeen, IsBeside, match_in, IsOwn, IsPlace, IsStartOf, rules_by, IsSound, MayAsk, MayPick};
 
 use crate::columns::{Columns, columns_of, may_start};
 use crate::memory::PickMemory;
@@ -18,7 +9,7 @@ use crate::stop::Stop;
 use paint_rules::Which;
 use pattern_match::{Attempt, Match};
 use region_ends::offset_place;
-use syn_base::{ItemId, Lines, Looked, Place};
+use syn_base::{Lines, Looked, Place};
 use syntax_set::Pattern;
 
 /// What an attempt gave, and the lines that it looked at.
@@ -68,13 +59,13 @@ impl<T: Lines> Picking<'_, T> {
     }
 
     /// One attempt of an item's pattern, from a column of the line.
-    fn attempted(&self, id: ItemId, pattern: &Pattern, col: usize) -> Result<Seen, Stop>
+    fn attempted(&self, by: &StartBy<'_>, col: usize) -> Result<Seen, Stop>
         requires valid { IsSound self.now.asked.now }
-        requires own { IsOwn (rules_by self.now.asked.now) id pattern.now }
+        requires own { IsOwn (rules_by self.now.asked.now) by.now.item by.now.pattern.now }
         requires place { IsPlace (T.lines self.now.lines.now) self.now.at }
         requires column { col ≤ length (line_at (T.lines self.now.lines.now) self.now.at.line) }
         ensures told { IsSeen result (attempted (rules_by self.now.asked.now)
-            (T.lines self.now.lines.now) id no_externals pattern.now
+            (T.lines self.now.lines.now) by.now.item no_externals by.now.pattern.now
             (place_at self.now.at.line col)) }
         ensures ends { IfOk result (λ seen. EndsBefore (2 ^ 33) seen.found) }
     {
@@ -82,7 +73,7 @@ impl<T: Lines> Picking<'_, T> {
             line: self.at.line,
             col,
         };
-        let told = self.asked.attempt(self.lines, id, pattern, start)?;
+        let told = self.asked.attempt(self.lines, by, start)?;
         match told {
             Attempt::Found(m, looked) => Ok(Seen {
                 found: Some(m),
@@ -92,7 +83,7 @@ impl<T: Lines> Picking<'_, T> {
                 found: None,
                 looked,
             }),
-            Attempt::TooCostly => Err(Stop::TooCostly(id)),
+            Attempt::TooCostly => Err(Stop::TooCostly(by.item)),
         }
     }
 
@@ -143,36 +134,30 @@ impl<T: Lines> Picking<'_, T> {
 
     #[tactic(auto, using(crate::proofs::MatchLaws::match_here))]
     /// The match from a column, if its item start is the place.
-    fn match_from(
-        &self,
-        id: ItemId,
-        pattern: &Pattern,
-        col: usize,
-        looked: &mut Looked,
-    ) -> Result<Tried, Stop>
+    fn match_from(&self, by: &StartBy<'_>, col: usize, looked: &mut Looked) -> Result<Tried, Stop>
         requires valid { IsSound self.now.asked.now }
-        requires own { IsOwn (rules_by self.now.asked.now) id pattern.now }
+        requires own { IsOwn (rules_by self.now.asked.now) by.now.item by.now.pattern.now }
         requires place { IsPlace (T.lines self.now.lines.now) self.now.at }
         requires column { col ≤ length (line_at (T.lines self.now.lines.now) self.now.at.line) }
         ensures told { IsToldAs match_in looked.old result looked.new (match_from
-            (rules_by self.now.asked.now) (T.lines self.now.lines.now) id pattern.now self.now.at
-            col) }
+            (rules_by self.now.asked.now) (T.lines self.now.lines.now) by.now.item
+            by.now.pattern.now self.now.at col) }
         ensures ends { IfOk result (λ tried. EndsBefore (2 ^ 33) (match_in tried)) }
         ensures settled { IfOk result (IsNotFrom (rules_by self.now.asked.now)
-            (T.lines self.now.lines.now) self.now.at.line id pattern.now col) }
+            (T.lines self.now.lines.now) self.now.at.line by.now.item by.now.pattern.now col) }
     {
-        if !may_start(pattern, col, self.at.col, self.last()) {
+        if !may_start(by.pattern, col, self.at.col, self.last()) {
             return Ok(Tried::Not(NO_COLUMNS, *looked));
         }
         let Seen {
             found,
             looked: lines,
-        } = self.attempted(id, pattern, col)?;
+        } = self.attempted(by, col)?;
         *looked = looked.join(lines);
-        let places = self.without(pattern, &found);
+        let places = self.without(by.pattern, &found);
         match found {
             Some(m) => {
-                if self.starts_here(pattern, &m) {
+                if self.starts_here(by.pattern, &m) {
                     look_at(looked, m.to.line);
                     Ok(Tried::Here(m))
                 } else {
@@ -207,7 +192,7 @@ impl<T: Lines> Picking<'_, T> {
                 *looked = looked.join(lines);
                 Ok(Tried::Not(NO_COLUMNS, lines))
             }
-            None => self.match_from(by.item, by.pattern, col, looked),
+            None => self.match_from(by, col, looked),
         }
     }
 
@@ -220,8 +205,7 @@ impl<T: Lines> Picking<'_, T> {
         memory: &mut PickMemory,
     ) -> Result<Option<Match>, Stop>
         requires start { IsStartOf (rules_by self.now.asked.now) by.now }
-        requires may { MayAsk T.lines self.now memory.old }
-        requires held { HoldsLine looked.old self.now.at.line }
+        requires may { MayPick T.lines self.now looked.old memory.old }
         ensures told { IsToldAfter looked.old result looked.new (item_match
             (rules_by self.now.asked.now) (T.lines self.now.lines.now) by.now.item by.now.pattern.now self.now.at
             self.now.floor) }
@@ -239,7 +223,7 @@ impl<T: Lines> Picking<'_, T> {
             match tried {
                 Tried::Here(m) => return Ok(Some(m)),
                 Tried::Not(places, lines) => {
-                    memory.note(self, by, col, places, lines)?;
+                    memory.note(by, self, col, places, lines)?;
                     col = memory.next_column(self, by, col + 1, *looked)?;
                 }
             }

@@ -1,11 +1,6 @@
 //! Items whose start says nothing of where their match begins.
 ghost use Rattle.std.specs.Prelude.{◌≡◌, ◌&&◌, ◌<◌, ℕ, length, true, IfOk, IsTrue};
-ghost use Rattle.paint_rules.specs.Rules.{item_of};
-ghost use Rattle.item_pick.specs.Firsts.{sits_by};
-ghost use Rattle.item_pick.specs.Settled.{item_wanders, wanders};
-ghost use Rattle.item_pick.specs.Standing.{has_one_start, IsItem};
-ghost use Rattle.item_pick.specs.Tables.{HasThose, Lacks};
-ghost use Rattle.item_pick.specs.PartsSeen.{rules_by};
+ghost use Rattle.item_pick.specs.Common.{item_of, sits_by, item_wanders, wanders, has_one_start, IsItem, HasThose, Lacks, rules_by};
 
 use crate::asked::Asked;
 use pattern_screens::takes_first;
@@ -45,11 +40,7 @@ impl Asked<'_> {
         match &item_of(self.parts.items, id).kind {
             ItemKind::Keyword => false,
             ItemKind::Match(pattern) => wanders(pattern),
-            ItemKind::Region {
-                starts,
-                skip: _,
-                ends: _,
-            } => match starts.as_slice().get(0) {
+            ItemKind::Region { starts, .. } => match starts.as_slice().get(0) {
                 Some(pattern) => wanders(pattern),
                 None => false,
             },

@@ -1,13 +1,7 @@
 //! Keywords.
 ghost use Rattle.std.specs.Prelude.{◌≡◌, reverse, IfOk, IfSome};
 ghost use Rattle.std.specs.List.{find, All};
-ghost use Rattle.keyword_table.specs.Candidates.{candidates};
-ghost use Rattle.match_rules.specs.Ways.{line_at};
-ghost use Rattle.paint_rules.specs.Pick.{keyword_at};
-ghost use Rattle.item_pick.specs.Started.{is_free, IsStartThere};
-ghost use Rattle.item_pick.specs.Standing.{ChoiceFits, IsItem, IsKeyword, IsPlace};
-ghost use Rattle.item_pick.specs.PartsSeen.{rules_by};
-ghost use Rattle.item_pick.specs.Valid.{IsSound};
+ghost use Rattle.item_pick.specs.Common.{candidates, line_at, keyword_at, is_free, IsStartThere, ChoiceFits, IsItem, IsKeyword, IsPlace, rules_by, IsSound};
 
 use crate::choice::Choice;
 use crate::picking::Picking;

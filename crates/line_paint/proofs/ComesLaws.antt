@@ -1,9 +1,6 @@
 -- What was looked at before comes first, and a call's answer goes on as what follows says.
-use Rattle.line_paint.proofs.Common.{◌≡◌, sym, ap, ◌∙◌, Result, Ok, Some, Looked, Painted, Done, looked_first, ◌>>=◌, refusal_of, goes_on, refusal_bind, Cause, Stop, Stops}
-use Rattle.std.specs.Prelude.{Err}
-use Rattle.paint_rules.proofs.PaintedLaws.{refusal_first, refusal_then}
+use Rattle.line_paint.proofs.Common.{◌≡◌, sym, ap, ◌∙◌, Result, Ok, Some, Looked, Painted, Done, looked_first, ◌>>=◌, refusal_of, goes_on, refusal_bind, Cause, Stop, Stops, Err, refusal_first, refusal_then, Comes, ComesOf}
 use Rattle.line_paint.specs.declared.answers.Stop.TheVariants as stop
-use Rattle.line_paint.specs.Answers.{Comes, ComesOf}
 
 -- a refusal of what is left is one of the whole
 pub refused_same : {E A : Type 0} (c : E) (j k : Looked) (p : Painted E A) (q : Painted E A) →

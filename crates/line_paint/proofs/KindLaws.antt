@@ -1,5 +1,5 @@
 -- What is true of the kinds of frames is true of the frames.
-use Rattle.line_paint.proofs.Common.{◌≡◌, Bool, true, false, List, [], ◌∷◌, reverse, refl, ap, sym, ◌∙◌, ℕ, ◌&&◌, ◌||◌, not, nat_eq, Option, Some, None, GroupId, Frame, Painted, done, ◌>>=◌, Here, Rules, Cause, item_of, has_extend, has_keepend, at_line_start, below_at_line_start, searched_anew, anew_over_keepend, untouched, shown, anew_if, below_if}
+use Rattle.line_paint.proofs.Common.{◌≡◌, Bool, true, false, List, [], ◌∷◌, reverse, refl, ap, sym, ◌∙◌, ℕ, ◌&&◌, ◌||◌, not, nat_eq, Option, Some, None, GroupId, Frame, Painted, done, ◌>>=◌, Here, Rules, Cause, item_of, has_extend, has_keepend, at_line_start, below_at_line_start, searched_anew, anew_over_keepend, untouched, shown, anew_if, below_if, is_clear, holds}
 use Rattle.std.specs.List.{list_all, list_any}
 use Rattle.std.proofs.lemmas.Bool.{and_from, and_parts, eqb-true, not-true, or_from}
 use Rattle.std.proofs.lemmas.List.{reverse-append}
@@ -8,7 +8,6 @@ use Rattle.syntax_set.specs.declared.added_item.AddedItem.{AddedItem}
 use Rattle.paint_rules.specs.declared.Part.{Part}
 use Rattle.paint_rules.specs.declared.Part.TheVariants.{Body, StartArea, EndArea, Keyword}
 use Rattle.paint_rules.specs.declared.Spot.{Spot}
-use Rattle.paint_rules.specs.Line.{is_clear, holds}
 use Rattle.state_stack.specs.declared.kinds.Kind.{Kind}
 use Rattle.state_stack.specs.Kinds.{has, have_kinds, is_area, is_of, kind_of, same_kind, same_truth}
 use Rattle.line_paint.specs.Kinds.{is_so, none_keeps, all_clear}

@@ -1,11 +1,9 @@
 -- The columns of a line: what is left of it, where some spans stand to the left.
-use Rattle.line_paint.proofs.Common.{◌≡◌, ℕ, zero, suc, ◌≤◌, List, [], ◌∷◌, length, drop, refl, sym, ap, ◌∙◌, arith, Some, None, Looked, Span, At, Painted, Done, Refused, looked_first, done, ◌>>=◌, Here, Cause, Refusal, PaintedLine, at_col, column, shown, joined, painted_from, state_of, Stop, Spans, refusal_of, Stops, painted_rest, chained, goes_on, bind_assoc, refusal_bind}
-use Rattle.paint_rules.specs.Painted.{looked_both}
+use Rattle.line_paint.proofs.Common.{◌≡◌, ℕ, zero, suc, ◌≤◌, List, [], ◌∷◌, length, drop, refl, sym, ap, ◌∙◌, arith, Some, None, Looked, Span, At, Painted, Done, Refused, looked_first, done, ◌>>=◌, Here, Cause, Refusal, PaintedLine, at_col, column, shown, joined, painted_from, state_of, Stop, Spans, refusal_of, Stops, painted_rest, chained, goes_on, bind_assoc, refusal_bind, looked_both, at_of, FailsAs}
 use Rattle.paint_rules.specs.States.{Standing}
 use Rattle.line_paint.specs.declared.answers.Stop.TheVariants as stop
 use Rattle.line_paint.specs.declared.paint.PaintError.{PaintError}
 use Rattle.line_paint.specs.declared.paint.PaintError.TheVariants as error
-use Rattle.line_paint.specs.Line.{at_of, FailsAs}
 use Rattle.line_paint.proofs.ComesLaws.{refused_same}
 
 pub bind_done : {E A : Type 0} (p : Painted E A) → p >>= (λ a. done a) ≡ p

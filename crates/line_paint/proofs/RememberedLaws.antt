@@ -1,6 +1,5 @@
 -- What is kept of the syntax tells of quiet columns, and stands in the line that is entered.
-use Rattle.line_paint.proofs.Common.{◌≡◌, ◌<◌, ◌≤◌, ℕ, [], sym, subst, None, Some, Looked, Place, Rules, Done, done, looked_first, Nothing, picked, close_once, IsQuietUntil, IsQuiet}
-use Rattle.match_rules.specs.Ways.{Text}
+use Rattle.line_paint.proofs.Common.{◌≡◌, ◌<◌, ◌≤◌, ℕ, [], sym, subst, None, Some, Looked, Place, Rules, Done, done, looked_first, Nothing, picked, close_once, IsQuietUntil, IsQuiet, Text}
 use Rattle.paint_rules.specs.States.{Standing}
 use Rattle.item_pick.specs.Started.{here_at}
 

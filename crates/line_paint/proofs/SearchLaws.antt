@@ -1,16 +1,20 @@
 -- Frames that search: what the code calls is what the rules say.
-use Rattle.line_paint.proofs.Common.{◌≡◌, ◌<◌, ℕ, Bool, true, false, List, [], ◌∷◌, refl, sym, ap, ◌∙◌, subst, ◌||◌, not, Option, None, Some, Result, Ok, Looked, Frame, Painted, Done, looked_first, done, ◌>>=◌, Here, Cause, item_of, has_extend, has_keepend, anew_over_keepend, at_line_start, below_at_line_start, line_start, searched_anew, untouched, Fits, bind_assoc, goes_on, ItemId, Stop, anew_if, below_if, top_searched, frames_or, items_of}
+use Rattle.line_paint.proofs.Common.{◌≡◌, ◌<◌, ℕ, Bool, true, false, List, [], ◌∷◌, refl, sym, ap, ◌∙◌, subst, ◌||◌, ◌&&◌, not, Option, None, Some, Result, Ok, Looked, Frame, Painted, Done, looked_first, done, ◌>>=◌, Here, Cause, item_of, has_extend, has_keepend, anew_over_keepend, at_line_start, below_at_line_start, searched_anew, untouched, Fits, bind_assoc, goes_on, ItemId, Stop, anew_or, anew_if, below_if, top_searched, frames_or, items_of, is_none, AnewComes, from_if, line_start_of, search_column, searched_from, searched_on, FramesCome}
 use Rattle.syntax_set.specs.declared.item.Item.{Item}
-use Rattle.paint_rules.specs.Close.{Anew, exposed_anew, frames_after, is_open, is_region_body, search_col, searched_if}
-use Rattle.line_paint.specs.Closing.{AnewComes}
-use Rattle.line_paint.specs.Frames.{line_start_from, search_from, searched_from}
-use Rattle.line_paint.specs.Standing.{FramesCome}
+use Rattle.paint_rules.specs.Close.{Anew, body_after_area, col_here, exposed_anew, frames_after, is_open, is_region_body, search_col, searched_if}
+use Rattle.line_paint.specs.declared.closing.Anew.{Anew as AnewCode}
+use Rattle.line_paint.specs.declared.ends.Occasion.{Occasion}
+use Rattle.line_paint.specs.declared.ends.Occasion.TheVariants.{LineStart, UnderArea, OverKeepend, Exposed}
 use Rattle.line_paint.proofs.ComesLaws.{comes_of_then}
 
 turned : {A : Type 0} (b : Bool) (x y : A) →
     elim b as (λ _. A) [ true ↦ x | false ↦ y ] ≡ elim (not b) as (λ _. A) [ true ↦ y | false ↦ x ]
 turned true x y = refl
 turned false x y = refl
+
+neither : (a b : Bool) → (a || b) ≡ false → a ≡ false
+neither true b e = e
+neither false b e = refl
 
 unchanged : (b : Bool) (f : Frame) →
     done f ≡ elim b as (λ _. Painted Cause Frame) [ true ↦ done f | false ↦ done f ]
@@ -20,138 +24,180 @@ unchanged false f = refl
 module _ (h : Here) (f : Frame) where
   by_region : (from : Option ℕ) →
       searched_from h f from
-      ≡ elim (is_region_body h.rules f) as (λ _. Painted Cause Frame) [
-        | true ↦ searched_if h f from
-        | false ↦ done f
-      ]
+      ≡ elim (is_region_body h.rules f) as (λ _. Painted Cause Frame) [ true ↦ searched_if h f from | false ↦ done f ]
   by_region None = unchanged (is_region_body h.rules f) f
   by_region (Some c) = refl
 
   -- a search that may be left out
   from_either : (b : Bool) (c : ℕ) →
-      searched_from h f (search_from b c f)
+      searched_from h f (from_if b (search_col c f.search))
       ≡ elim b as (λ _. Painted Cause Frame) [ true ↦ searched_anew h c f | false ↦ done f ]
   from_either true c = by_region (search_col c f.search)
   from_either false c = refl
 
   start_either : (b : Bool) →
-      searched_from h f (line_start_from b f)
+      searched_from h f (from_if (b && is_open f.known_end) (search_col 0 f.search))
       ≡ elim b as (λ _. Painted Cause Frame) [ true ↦ at_line_start h f | false ↦ done f ]
   start_either true = from_either (is_open f.known_end) 0
   start_either false = refl
 
--- the rules of frames, the top one of this item, as the code goes on from those below it
-module _ (h : Here) (fs : List Frame) (top : Frame) (below : List Frame)
-    (split : fs ≡ top ∷ below) where
-  abbrev lower : Bool → List Frame → Painted Cause (List Frame)
-  lower keep rest = top_searched h top (line_start_from keep top) rest
+  area_either : (b wanted : Bool) (from : Option ℕ) →
+      elim b as (λ _. Painted Cause Frame) [ true ↦ searched_if h f (from_if wanted from) | false ↦ done f ]
+      ≡ elim (b && wanted) as (λ _. Painted Cause Frame) [ true ↦ searched_if h f from | false ↦ done f ]
+  area_either true true from = refl
+  area_either true false from = refl
+  area_either false wanted from = refl
 
-  abbrev anew : ℕ → Anew → Painted Cause Anew
-  anew c rest =
+  -- what the code calls on each occasion
+  pub searched_is : (on : Occasion) → searched_from h f (search_column h on f) ≡ searched_on h on f
+  searched_is (LineStart is_top) = start_either (is_top || has_keepend h.rules.items f)
+  searched_is UnderArea =
+      by_region (from_if (is_none f.known_end) (col_here f.search))
+      ∙ area_either (is_region_body h.rules f) (is_none f.known_end) (col_here f.search)
+  searched_is (OverKeepend c) = by_region (search_col c f.search)
+  searched_is (Exposed c) =
+      from_either (not (has_keepend h.rules.items f)) c
+      ∙ sym (turned (has_keepend h.rules.items f) (done f) (searched_anew h c f))
+
+pub under_area : (h : Here) (fs : List Frame) →
+    top_searched h UnderArea fs None ≡ body_after_area h fs
+under_area h [] = refl
+under_area h (f ∷ below) = refl
+
+-- the frames under one that was popped, where the top has searched and where it has not
+pub exposed_stays : (h : Here) (c : ℕ) (fs : List Frame) → exposed_anew h c true fs ≡ done fs
+exposed_stays h c [] = refl
+exposed_stays h c (f ∷ below) = refl
+
+pub exposed_searches : (h : Here) (c : ℕ) (fs : List Frame) →
+    top_searched h (Exposed c) fs None ≡ exposed_anew h c false fs
+exposed_searches h c [] = refl
+exposed_searches h c (f ∷ below) = refl
+
+module _ (h : Here) (c : ℕ) (popped : Frame) (below : List Frame) (item : Item) (wanted : Bool) (j k : Looked)
+    (anew : AnewCode) (same : item ≡ item_of h.rules.items popped.item)
+    (may : anew_if h c wanted below ≡ anew_if h c item.extend below)
+    (before : AnewComes below (Ok anew) j k (anew_if h c wanted below)) where
+  after : (r : Result (Option (List Frame)) Stop) (l : Looked) →
+      FramesCome below r k l (exposed_anew h c anew.over (frames_or below anew.frames)) →
+      FramesCome below r j l (frames_after h c popped below)
+  after r l a =
+      let follow = λ (a : Anew). exposed_anew h c a.over a.frames in
+      subst (λ (m : Painted Cause Anew). FramesCome below r j l (m >>= follow))
+      (may ∙ ap (λ (x : Item). anew_if h c x.extend below) same)
+      (comes_of_then (frames_or below) items_of (items_of below) r j k l
+      (anew_if h c wanted below) (anew_or below anew) follow before.0 a)
+
+  pub after_over : anew.over ≡ true → FramesCome below (Ok anew.frames) j k (frames_after h c popped below)
+  after_over is =
+      let fs = frames_or below anew.frames in
+      after (Ok anew.frames) k (
+        ap (λ (o : Bool). looked_first (Some k) (exposed_anew h c o fs)) is
+            ∙ ap (looked_first (Some k)) (exposed_stays h c fs),
+        before.1,
+      )
+
+  pub after_exposed : (r : Result (Option (List Frame)) Stop) (l : Looked) → anew.over ≡ false → anew.frames ≡ None →
+      FramesCome below r k l (top_searched h (Exposed c) below None) → FramesCome below r j l (frames_after h c popped below)
+  after_exposed r l is none a =
+      let P : Painted Cause (List Frame) → Type 0 = λ p. FramesCome below r k l p in
+      after r l (subst (λ (o : Bool). P (exposed_anew h c o (frames_or below anew.frames))) (sym is)
+      (subst (λ (frames : Option (List Frame)). P (exposed_anew h c false (frames_or below frames))) (sym none)
+      (subst P (exposed_searches h c below) a)))
+
+-- the rules of frames under a top of this item, as the code goes on from those below it
+module _ (h : Here) (top : Frame) (below : List Frame) (item : Item)
+    (same : item ≡ item_of h.rules.items top.item) where
+  abbrev over_rest : Bool → List Frame → Painted Cause (List Frame)
+  over_rest is_top rest = searched_on h (LineStart is_top) top >>= (λ g. done (g ∷ rest))
+
+  below_by : below_if h (not item.extend) below
+      ≡ elim (has_extend h.rules.items top) as (λ _. Painted Cause (List Frame)) [ true ↦ done below | false ↦ below_at_line_start h below ]
+  below_by =
+      ap (λ (x : Item). below_if h (not x.extend) below) same
+      ∙ sym (turned (has_extend h.rules.items top) (done below) (below_at_line_start h below))
+
+  start_is : (is_top : Bool) → below_if h (not item.extend) below >>= over_rest is_top
+      ≡ line_start_of h is_top (top ∷ below)
+  start_is true = ap (λ (m : Painted Cause (List Frame)). m >>= over_rest true) below_by
+  start_is false = ap (λ (m : Painted Cause (List Frame)). m >>= over_rest false) below_by
+
+  pub start_then : (is_top wanted : Bool) (fs : List Frame) (rest : Option (List Frame))
+      (r : Result (Option (List Frame)) Stop) (j k l : Looked) → fs ≡ top ∷ below →
+      below_if h wanted below ≡ below_if h (not item.extend) below →
+      looked_first (Some j) (below_if h wanted below) ≡ Done (frames_or below rest) (Some k) →
+      FramesCome fs r k l (top_searched h (LineStart is_top) fs rest) →
+      FramesCome fs r j l (line_start_of h is_top fs)
+  start_then is_top wanted fs rest r j k l split may before =
+      let P : List Frame → Type 0 = λ fs. FramesCome fs r k l
+      (top_searched h (LineStart is_top) fs rest)
+      → FramesCome fs r j l (line_start_of h is_top fs) in
+      let Q : Painted Cause (List Frame) → Type 0 = λ p. FramesCome (top ∷ below) r j l p in
+      subst P (sym split) (λ a. subst Q
+      (ap (λ (m : Painted Cause (List Frame)). m >>= over_rest is_top) may ∙ start_is is_top)
+      (comes_of_then (frames_or (top ∷ below)) items_of (items_of (top ∷ below)) r j k l
+      (below_if h wanted below) (frames_or below rest) (over_rest is_top) before a))
+
+  abbrev searched_if_over : ℕ → Bool → Painted Cause Frame
+  searched_if_over c over = elim over as (λ _. Painted Cause Frame) [ true ↦ searched_anew h c top | false ↦ done top ]
+
+  abbrev over_anew : ℕ → Anew → Painted Cause Anew
+  over_anew c rest =
       let over = rest.over || has_keepend h.rules.items top in
-      top_searched h top (search_from over c top) rest.frames
-      >>= (λ frames. done (record { frames = frames; over = over }))
+      searched_if_over c over >>= (λ g. done (record { frames = g ∷ rest.frames; over = over }))
 
-  one_anew : (c : ℕ) (rest : Anew) →
-      elim (rest.over || has_keepend h.rules.items top) as (λ _. Painted Cause Frame) [
-        | true ↦ searched_anew h c top
-        | false ↦ done top
-      ]
-      >>= (λ g. done (record {
-        frames = g ∷ rest.frames;
-        over = rest.over || has_keepend h.rules.items top;
-      }))
-      ≡ anew c rest
-  one_anew c rest =
-      let over = rest.over || has_keepend h.rules.items top in
-      (λ i. sym (from_either h top over c) i
-      >>= (λ g. done (record { frames = g ∷ rest.frames; over = over })))
-      ∙ sym (bind_assoc (searched_from h top (search_from over c top))
-      (λ g. done (g ∷ rest.frames))
-      (λ frames. done (record { frames = frames; over = over })))
+  anew_is : (c : ℕ) → anew_over_keepend h c (top ∷ below)
+      ≡ anew_if h c (not item.extend) below >>= over_anew c
+  anew_is c =
+      ap (λ (m : Painted Cause Anew). m >>= over_anew c)
+      (turned (has_extend h.rules.items top) (done (untouched below)) (anew_over_keepend h c below))
+      ∙ ap (λ (x : Item). anew_if h c (not x.extend) below >>= over_anew c) (sym same)
 
-  module _ (item : Item) (same : item ≡ item_of h.rules.items top.item) where
-    pub below_is : below_at_line_start h fs
-        ≡ below_if h (not item.extend) below >>= lower item.keepend
-    below_is =
-        ap (below_at_line_start h) split
-        ∙ ((λ i. turned (has_extend h.rules.items top) (done below) (below_at_line_start h below) i
-        >>= (λ rest. sym (start_either h top (has_keepend h.rules.items top)) i
-        >>= (λ g. done (g ∷ rest))))
-        ∙ ap (λ (x : Item). below_if h (not x.extend) below >>= lower x.keepend) (sym same))
+  module _ (c : ℕ) (fs : List Frame) (rest : AnewCode) (wanted over : Bool) (j k : Looked) (split : fs ≡ top ∷ below)
+      (is_wanted : wanted ≡ true) (is_over : over ≡ (rest.over || has_keepend h.rules.items top))
+      (before : looked_first (Some j) (anew_if h c (not item.extend) below) ≡ Done (anew_or below rest) (Some k)) where
+    abbrev came : Bool → Painted Cause Anew
+    came o = searched_if_over c o >>= (λ g. done (record { frames = g ∷ frames_or below rest.frames; over = o }))
 
-    pub start_is : (wanted : Bool) → below_if h wanted below ≡ below_if h (not item.extend) below →
-        line_start h fs ≡ below_if h wanted below >>= lower true
-    start_is wanted may =
-        ap (line_start h) split
-        ∙ ((λ i. turned (has_extend h.rules.items top) (done below) (below_at_line_start h below) i
-        >>= (λ rest. sym (start_either h top true) i >>= (λ g. done (g ∷ rest))))
-        ∙ ap (λ (m : Painted Cause (List Frame)). m >>= lower true)
-        (ap (λ (x : Item). below_if h (not x.extend) below) (sym same) ∙ sym may))
+    comes_to : (o : Bool) → over ≡ o →
+        looked_first (Some j) (anew_over_keepend h c (top ∷ below)) ≡ looked_first (Some k) (came o)
+    comes_to o is =
+        ap (looked_first (Some j)) (anew_is c)
+        ∙ (goes_on j k (anew_if h c (not item.extend) below) (anew_or below rest) (over_anew c) before
+        ∙ ap (λ (o : Bool). looked_first (Some k) (came o)) (sym is_over ∙ is))
 
-    pub anew_is : (c : ℕ) → anew_over_keepend h c fs
-        ≡ anew_if h c (not item.extend) below >>= anew c
-    anew_is c =
-        ap (anew_over_keepend h c) split
-        ∙ ((λ i. turned (has_extend h.rules.items top) (done (untouched below))
-        (anew_over_keepend h c below) i >>= (λ rest. one_anew c rest i))
-        ∙ ap (λ (x : Item). anew_if h c (not x.extend) below >>= anew c) (sym same))
+    lifted : (r : Result AnewCode Stop) (l : Looked) →
+        AnewComes (top ∷ below) r j l (anew_over_keepend h c (top ∷ below)) → AnewComes fs r j l (anew_if h c wanted fs)
+    lifted r l a =
+        subst (λ (b : Bool). AnewComes fs r j l (anew_if h c b fs)) (sym is_wanted)
+        (subst (λ (fs : List Frame). AnewComes fs r j l (anew_over_keepend h c fs)) (sym split) a)
 
-    pub anew_step : (c : ℕ) (wanted over : Bool) (j k l : Looked) (rest : Anew) (from : Option ℕ)
-        (frames : Option (List Frame)) →
-        wanted ≡ true → over ≡ (rest.over || has_keepend h.rules.items top) →
-        from ≡ search_from over c top →
-        looked_first (Some j) (anew_if h c (not item.extend) below) ≡ Done rest (Some k) →
-        FramesCome (top ∷ below) (Ok frames) k l (top_searched h top from rest.frames) →
-        AnewComes fs (Ok (record { frames = frames; over = over })) j l (anew_if h c wanted fs)
-    anew_step c wanted over j k l rest from frames is_wanted is_over is_from before a =
-        let keep = rest.over || has_keepend h.rules.items top in
-        let made = frames_or (top ∷ below) frames in
-        let P : Option ℕ → Type 0 = λ from. looked_first (Some k) (top_searched h top from rest.frames)
-        ≡ Done made (Some l) in
-        let last : looked_first (Some k) (anew c rest)
-        ≡ Done (record { frames = made; over = over }) (Some l) =
-        goes_on k l (top_searched h top (search_from keep c top) rest.frames) made
-        (λ frames. done (record { frames = frames; over = keep }))
-        (subst P (is_from ∙ ap (λ o. search_from o c top) is_over) a.0)
-        ∙ ap (λ (o : Bool). Done (record { frames = made; over = o }) (Some l)) (sym is_over) in (
-          ap (λ b. looked_first (Some j) (anew_if h c b fs)) is_wanted
-              ∙ (ap (looked_first (Some j)) (anew_is c)
-              ∙ (goes_on j k (anew_if h c (not item.extend) below) rest (anew c) before
-              ∙ (last ∙ ap (λ (gs : List Frame). Done
-              (record { frames = frames_or gs frames; over = over }) (Some l)) (sym split)))),
-          ap (λ (gs : List Frame). items_of (frames_or gs frames)) split
-              ∙ (a.1 ∙ ap (λ (gs : List Frame). items_of gs) (sym split)),
+    pub anew_stays : over ≡ false → (rest.over ≡ false → rest.frames ≡ None) →
+        AnewComes fs (Ok (record { frames = None; over = false })) j k (anew_if h c wanted fs)
+    anew_stays is none =
+        lifted (Ok (record { frames = None; over = false })) k (
+          comes_to false is
+              ∙ ap (λ (fs : Option (List Frame)). Done (record { frames = top ∷ frames_or below fs; over = false }) (Some k))
+              (none (neither rest.over (has_keepend h.rules.items top) (sym is_over ∙ is))),
+          refl,
         )
 
-pub after_step : (h : Here) (c : ℕ) (popped : Frame) (below : List Frame) (item : Item)
-    (wanted : Bool) (j k l : Looked) (anew : Anew) (frames : List Frame)
-    (exposed : Option (List Frame)) →
-    item ≡ item_of h.rules.items popped.item →
-    anew_if h c wanted below ≡ anew_if h c item.extend below →
-    looked_first (Some j) (anew_if h c wanted below) ≡ Done anew (Some k) →
-    frames ≡ anew.frames → FramesCome frames (Ok exposed) k l (exposed_anew h c anew.over frames) →
-    looked_first (Some j) (frames_after h c popped below) ≡ Done (frames_or frames exposed) (Some l)
-after_step h c popped below item wanted j k l anew frames exposed same may before made a =
-    let follow = λ (a : Anew). exposed_anew h c a.over a.frames in
-    ap (λ (m : Painted Cause Anew). looked_first (Some j) (m >>= follow))
-    (ap (λ (x : Item). anew_if h c x.extend below) (sym same) ∙ sym may)
-    ∙ (goes_on j k (anew_if h c wanted below) anew follow before
-    ∙ (ap (λ (fs : List Frame). looked_first (Some k) (exposed_anew h c anew.over fs)) (sym made)
-    ∙ a.0))
-
--- what comes of the same frames by the same rule, once the frames below have come
-pub frames_then : (fs gs : List Frame) (r : Result (Option (List Frame)) Stop) (j k l : Looked)
-    (p q m : Painted Cause (List Frame)) (f : List Frame → Painted Cause (List Frame))
-    (rest : List Frame) → fs ≡ gs → p ≡ m >>= f → f rest ≡ q →
-    looked_first (Some j) m ≡ Done rest (Some k) → FramesCome gs r k l q → FramesCome fs r j l p
-frames_then fs gs r j k l p q m f rest split is last before a =
-    let P : List Frame → Type 0 = λ gs. FramesCome gs r j l p in
-    let Q : Painted Cause (List Frame) → Type 0 = λ p. FramesCome gs r j l p in
-    let R : Painted Cause (List Frame) → Type 0 = λ q. FramesCome gs r k l q in
-    subst P (sym split) (subst Q (sym is)
-    (comes_of_then (frames_or gs) items_of (items_of gs) r j k l m rest f before
-    (subst R (sym last) a)))
+    pub anew_over : (l : Looked) (frames : Option (List Frame)) → over ≡ true →
+        FramesCome fs (Ok frames) k l (top_searched h (OverKeepend c) fs rest.frames) →
+        AnewComes fs (Ok (record { frames = frames; over = over })) j l (anew_if h c wanted fs)
+    anew_over l frames is comes =
+        let onto : Frame → Painted Cause (List Frame) = λ g. done (g ∷ frames_or below rest.frames) in
+        let whole : List Frame → Painted Cause Anew = λ frames. done (record { frames = frames; over = true }) in
+        let made = frames_or (top ∷ below) frames in
+        let P : List Frame → Type 0 = λ fs. FramesCome fs (Ok frames) k l (top_searched h (OverKeepend c) fs rest.frames) in
+        let a : P (top ∷ below) = subst P split comes in
+        lifted (Ok (record { frames = frames; over = over })) l (
+          comes_to true is
+              ∙ (ap (looked_first (Some k)) (sym (bind_assoc (searched_anew h c top) onto whole))
+              ∙ (goes_on k l (searched_anew h c top >>= onto) made whole a.0
+              ∙ ap (λ (o : Bool). Done (record { frames = made; over = o }) (Some l)) (sym is))),
+          a.1,
+        )
 
 -- frames of the same items fit as before
 pub fits_same : (n : ℕ) (fs gs : List Frame) → items_of gs ≡ items_of fs → Fits n fs → Fits n gs

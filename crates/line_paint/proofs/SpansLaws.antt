@@ -1,8 +1,6 @@
 -- The spans of a painted line are in order, apart from each other and within the line.
-use Rattle.line_paint.proofs.Common.{◌≡◌, ◌+◌, ◌<◌, ℕ, suc, Bool, true, false, List, [], ◌∷◌, length, arith, Option, Some, None, nat_eq, ◌&&◌, pos, Looked, GroupId, Span, one_line, IsFromColumn, At, Painted, Done, Refused, looked_first, done, ◌>>=◌, Here, this_line, line_start, PaintedLine, at_col, at_line_begin, column, shown, joined, state_of, painted_from, painted_after_look}
-use Rattle.paint_rules.specs.Rules.{same_group}
+use Rattle.line_paint.proofs.Common.{◌≡◌, ◌+◌, ◌<◌, ℕ, suc, Bool, true, false, List, [], ◌∷◌, length, arith, Option, Some, None, nat_eq, ◌&&◌, pos, Looked, GroupId, Span, one_line, IsFromColumn, At, Painted, Done, Refused, looked_first, done, ◌>>=◌, Here, this_line, line_start, PaintedLine, at_col, at_line_begin, column, shown, joined, state_of, painted_from, painted_after_look, same_group, painted_line}
 use Rattle.paint_rules.specs.States.{State, Standing}
-use Rattle.paint_rules.specs.Line.{painted_line}
 
 -- a fact of the value, if there is one
 abbrev pub OfValue : {E A : Type 0} → (A → Type 0) → Painted E A → Type 0

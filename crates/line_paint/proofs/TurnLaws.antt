@@ -1,13 +1,10 @@
 -- Turns at a column: close, and then start what a pick finds.
-use Rattle.line_paint.proofs.Common.{◌≡◌, ◌<◌, ◌≤◌, ℕ, suc, ◌-◌, [], length, refl, sym, ap, ◌∙◌, subst, arith, Some, None, pos, Looked, one_line, Painted, Done, Refused, looked_first, done, ◌>>=◌, Here, Cause, this_line, closed, Nothing, picked, turns, Stop, Stops, IsAt, Stands, More, Last, next_start, turn, bind_assoc, goes_on}
-use Rattle.syn_base.specs.Looked.{hull_of}
+use Rattle.line_paint.proofs.Common.{◌≡◌, ◌<◌, ◌≤◌, ℕ, suc, ◌-◌, [], length, refl, sym, ap, ◌∙◌, subst, arith, Some, None, pos, Looked, one_line, Painted, Done, Refused, looked_first, done, ◌>>=◌, Here, Cause, this_line, closed, Nothing, picked, turns, Stop, Stops, IsAt, Stands, More, Last, next_start, turn, bind_assoc, goes_on, hull_of, Next, after_pick, first_none}
 use Rattle.syn_base.proofs.HullLaws.{hull_assoc, hull_comm}
 use Rattle.paint_rules.specs.States.{Standing}
 use Rattle.paint_rules.specs.Pick.{Starting, Picked, Start, SkipOn, started}
 use Rattle.line_paint.specs.declared.standing.Standing.{Standing as StandingCode}
 use Rattle.item_pick.specs.Screens.{HoldsLine}
-use Rattle.line_paint.specs.Turns.{Next, after_pick}
-use Rattle.paint_rules.proofs.PaintedLaws.{first_none}
 use Rattle.line_paint.proofs.ComesLaws.{stops_whole}
 
 held_more : (one j m : Looked) → hull_of j one ≡ j → hull_of (hull_of j m) one ≡ hull_of j m

@@ -14,3 +14,4 @@ pub mod Turns
 pub mod Spans
 pub mod Quiet
 pub mod Stretches
+pub mod Common

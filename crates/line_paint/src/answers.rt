@@ -1,4 +1,6 @@
 //! Why painting stops.
+ghost use Rattle.std.specs.Prelude.{◌≡◌};
+ghost use Rattle.line_paint.specs.declared.answers.Stop.TheVariants as cause;
 
 use syn_base::{ItemId, Memory};
 
@@ -11,9 +13,6 @@ pub(crate) enum Stop {
 }
 
 impl From<Memory> for Stop {
-    ghost use Rattle.std.specs.Prelude.{◌≡◌};
-    ghost use Rattle.line_paint.specs.declared.answers.Stop.TheVariants as cause;
-
     ghost from_gives = { λ _ e. e ≡ cause.Memory };
 
     fn from(_refused: Memory) -> Stop {

@@ -2,17 +2,10 @@
 //! `:syn-excludenl`).
 ghost use Rattle.std.specs.Prelude.{◌≡◌, ◌<◌, ◌∷◌, ◌&&◌, ◌||◌, false, length, reverse, IfOk, None};
 ghost use Rattle.std.specs.List.{list_any};
-ghost use Rattle.paint_rules.specs.Rules.{this_line};
-ghost use Rattle.paint_rules.specs.KeptEnd.{has_keepend};
-ghost use Rattle.paint_rules.specs.Close.{is_region_body, is_reached, goes_beyond, closing_of, end_area_of, waiting_after, body_after_area, exposed_anew, frames_after, line_end_counts, has_line_end, is_region_body_on, container_goes_on};
-ghost use Rattle.line_paint.specs.Answers.{Comes};
-ghost use Rattle.line_paint.specs.Closing.{closing, AnewComes};
-ghost use Rattle.line_paint.specs.Frames.{anew_if, area_from};
-ghost use Rattle.paint_rules.specs.States.{Fits, WaitFits};
-ghost use Rattle.line_paint.specs.Standing.{FramesCome, frames_or, items_of};
+ghost use Rattle.line_paint.specs.Common.{this_line, has_keepend, is_region_body, is_reached, goes_beyond, closing_of, end_area_of, waiting_after, frames_after, line_end_counts, has_line_end, is_region_body_on, container_goes_on, closing, AnewComes, anew_if, Fits, WaitFits, FramesCome, MaySearch};
 
-use crate::ends::{is_region_body, search_from};
-use crate::frames::{stack_or, top_searched};
+use crate::ends::{Occasion, is_region_body};
+use crate::frames::top_searched;
 use crate::kinds::{may_search, none_keeps};
 use crate::spots::{goes_beyond, is_reached};
 use crate::{Site, Stop};
@@ -103,40 +96,8 @@ pub(crate) fn waiting_after<S: Site>(site: &S, c: usize, item: ItemId) -> Option
     }
 }
 
-/// The column where the body under a start area is to search: its search place, if its end isn't known
-/// and it lies in this line.
-fn area_from(body: &Frame) -> Option<usize>
-    ensures { result ≡ area_from body.now }
-{
-    match (body.known_end, body.search) {
-        (None, Spot::At { ahead: 0, col }) => Some(col),
-        _ => None,
-    }
-}
-
-/// What the frames under a start area become that was popped; none where they stay.
-pub(crate) fn body_after_area<S: Site>(
-    site: &S,
-    memory: &mut PickMemory,
-    stack: &Stack,
-    looked: &mut Looked,
-) -> Result<Option<Stack>, Stop>
-    requires memory { S.stands site.now memory.old }
-    requires fits { Fits (length (S.here site.now).rules.items) (reverse stack.now) }
-    ensures comes { FramesCome (reverse stack.now) result looked.old looked.new
-        (body_after_area (S.here site.now) (reverse stack.now)) }
-    ensures memory { S.stands site.now memory.new }
-{
-    match stack.top_and_below() {
-        None => Ok(None),
-        Some((body, below)) => {
-            let from = area_from(body);
-            top_searched(site, memory, (body, below), None, from, looked)
-        }
-    }
-}
-
-/// Frames that searched anew where they are over a `keepend`, and whether the top is.
+/// What frames under one that was popped become, and whether the top is over a `keepend`; where it
+/// isn't, all stay.
 #[derive(Drop)]
 struct Anew {
     frames: Option<Stack>,
@@ -170,10 +131,10 @@ fn anew_over_keepend<S: Site>(
     stack: &Stack,
     looked: &mut Looked,
 ) -> Result<Anew, Stop>
-    requires memory { S.stands site.now memory.old }
-    requires fits { Fits (length (S.here site.now).rules.items) (reverse stack.now) }
+    requires may { MaySearch S.here S.stands site.now memory.old stack.now }
     ensures comes { AnewComes (reverse stack.now) result looked.old looked.new
         (anew_if (S.here site.now) c wanted (reverse stack.now)) }
+    ensures stay { IfOk result (λ a. a.over ≡ false → a.frames ≡ None) }
     ensures memory { S.stands site.now memory.new }
 {
     if !wanted {
@@ -185,39 +146,18 @@ fn anew_over_keepend<S: Site>(
             let wanted = !site.item(top.item).extend;
             let rest = anew_over_keepend(site, memory, c, wanted, below, looked)?;
             let over = keeps_or(site, top, rest.over);
-            let from = search_from(over, c, top);
-            let frames = top_searched(site, memory, (top, below), rest.frames, from, looked)?;
+            if !over {
+                return Ok(untouched());
+            }
+            let on = Occasion::OverKeepend(c);
+            let frames = top_searched(site, memory, on, stack, rest.frames, looked)?;
             Ok(Anew { frames, over })
         }
     }
 }
 
-/// The exposed frame, unless it has searched already, searches anew where it has no `keepend`.
-fn exposed_anew<S: Site>(
-    site: &S,
-    memory: &mut PickMemory,
-    c: usize,
-    has_searched: bool,
-    stack: &Stack,
-    looked: &mut Looked,
-) -> Result<Option<Stack>, Stop>
-    requires memory { S.stands site.now memory.old }
-    requires fits { Fits (length (S.here site.now).rules.items) (reverse stack.now) }
-    ensures comes { FramesCome (reverse stack.now) result looked.old looked.new
-        (exposed_anew (S.here site.now) c has_searched (reverse stack.now)) }
-    ensures memory { S.stands site.now memory.new }
-{
-    match stack.top_and_below() {
-        None => Ok(None),
-        Some((top, below)) => {
-            let stays = keeps_or(site, top, has_searched);
-            let from = search_from(!stays, c, top);
-            top_searched(site, memory, (top, below), None, from, looked)
-        }
-    }
-}
-
-/// What the frames become from which one was popped.
+/// What the frames become from which one was popped: the exposed one searches, unless it has
+/// searched over a `keepend`. None where they stay.
 pub(crate) fn frames_after<S: Site>(
     site: &S,
     memory: &mut PickMemory,
@@ -225,29 +165,19 @@ pub(crate) fn frames_after<S: Site>(
     popped: &Frame,
     below: &Stack,
     looked: &mut Looked,
-) -> Result<Stack, Stop>
-    requires memory { S.stands site.now memory.old }
+) -> Result<Option<Stack>, Stop>
+    requires may { MaySearch S.here S.stands site.now memory.old below.now }
     requires is_item { (popped.now.item).0 < length (S.here site.now).rules.items }
-    requires fits { Fits (length (S.here site.now).rules.items) (reverse below.now) }
-    ensures comes { Comes reverse result looked.old looked.new
+    ensures comes { FramesCome (reverse below.now) result looked.old looked.new
         (frames_after (S.here site.now) c popped.now (reverse below.now)) }
-    ensures items { IfOk result (λ s. items_of (reverse s) ≡ items_of (reverse below.now)) }
     ensures memory { S.stands site.now memory.new }
 {
     let wanted = may_search(site, site.item(popped.item).extend, below);
-    let Anew { frames, over } = anew_over_keepend(site, memory, c, wanted, below, looked)?;
-    let frames = stack_or(below, frames)?;
-    let exposed = exposed_anew(site, memory, c, over, &frames, looked)?;
-    Ok(anew_or(frames, exposed))
-}
-
-fn anew_or(stays: Stack, anew: Option<Stack>) -> Stack
-    ensures { reverse result ≡ frames_or (reverse stays) anew }
-{
-    match anew {
-        None => stays,
-        Some(stack) => stack,
+    let anew = anew_over_keepend(site, memory, c, wanted, below, looked)?;
+    if anew.over {
+        return Ok(anew.frames);
     }
+    top_searched(site, memory, Occasion::Exposed(c), below, None, looked)
 }
 
 fn line_end_counts(pattern: &Pattern) -> bool

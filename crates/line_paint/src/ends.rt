@@ -1,9 +1,6 @@
 //! The searches of frames for their ends.
 ghost use Rattle.std.specs.Prelude.{◌≡◌, ◌<◌, IfOk, IsTrue, None, length};
-ghost use Rattle.paint_rules.specs.Close.{is_region, is_region_body, with_end, search_col, is_open};
-ghost use Rattle.line_paint.specs.Frames.{line_end_if, line_start_from, search_from, searched_from};
-ghost use Rattle.line_paint.specs.Standing.{FrameComes, frame_or};
-ghost use Rattle.paint_rules.specs.States.{spot_of};
+ghost use Rattle.line_paint.specs.Common.{is_region, is_region_body, with_end, search_col, is_open, line_end_if, search_column, searched_from, searched_on, FrameComes, frame_or};
 
 use crate::spots::spot_of;
 use crate::{Site, Stop};
@@ -108,9 +105,64 @@ fn ended_anew<S: Site>(
     }
 }
 
+/// On which occasion a frame may search its end.
+#[derive(Clone, Copy)]
+pub(crate) enum Occasion {
+    /// A line starts: the top searches, and those below it with `keepend`, where the end lies before
+    /// the line or isn't known.
+    LineStart { is_top: bool },
+    /// The start area over a body was popped: it searches from its search place, where its end isn't
+    /// known and that place lies in this line.
+    UnderArea,
+    /// A frame was popped at this column from over one with `keepend`, or from over frames above it.
+    OverKeepend(usize),
+    /// A frame was popped at this column: the exposed one searches where it has no `keepend`.
+    Exposed(usize),
+}
+
+/// The column where a search begins: the frame's search place or this column, whichever is later;
+/// none in a later line.
+fn search_col(c: usize, search: Spot) -> Option<usize>
+    ensures { result ≡ search_col c search }
+{
+    match search {
+        Spot::Past => Some(c),
+        Spot::At { ahead: 0, col } => Some(if c < col { col } else { c }),
+        _ => None,
+    }
+}
+
+/// The column from which a frame is to search on an occasion, if it is to.
+fn search_column<S: Site>(site: &S, on: Occasion, frame: &Frame) -> Option<usize>
+    requires { (frame.now.item).0 < length (S.here site.now).rules.items }
+    ensures { result ≡ search_column (S.here site.now) on frame.now }
+{
+    match on {
+        Occasion::LineStart { is_top } => {
+            if (is_top || site.item(frame.item).keepend) && is_open(frame.known_end) {
+                search_col(0, frame.search)
+            } else {
+                None
+            }
+        }
+        Occasion::UnderArea => match (frame.known_end, frame.search) {
+            (None, Spot::At { ahead: 0, col }) => Some(col),
+            _ => None,
+        },
+        Occasion::OverKeepend(c) => search_col(c, frame.search),
+        Occasion::Exposed(c) => {
+            if site.item(frame.item).keepend {
+                None
+            } else {
+                search_col(c, frame.search)
+            }
+        }
+    }
+}
+
 /// A frame that searches its end in this line from a column, if there is one and it is the body of a
 /// region; none where it stays.
-pub(crate) fn searched_from<S: Site>(
+fn searched_from<S: Site>(
     site: &S,
     memory: &mut PickMemory,
     frame: &Frame,
@@ -125,7 +177,7 @@ pub(crate) fn searched_from<S: Site>(
 {
     match from {
         Some(c) if is_region_body(site, frame) => {
-            match site.find_end(memory, frame.item, &frame.externals, c)? {
+            match site.find_end(memory, frame, c)? {
                 EndAnswer::Ends(end, seen) => {
                     *looked = looked.join(seen);
                     Ok(ended_anew(site, frame, Some(end))?)
@@ -141,34 +193,22 @@ pub(crate) fn searched_from<S: Site>(
     }
 }
 
-/// The column where a search begins: the frame's search place or this column, whichever is later;
-/// none in a later line.
-fn search_col(c: usize, search: Spot) -> Option<usize>
-    ensures { result ≡ search_col c search }
+/// A frame that searches its end on an occasion, if it is to; none where it stays.
+pub(crate) fn searched<S: Site>(
+    site: &S,
+    memory: &mut PickMemory,
+    frame: &Frame,
+    on: Occasion,
+    looked: &mut Looked,
+) -> Result<Option<Frame>, Stop>
+    requires memory { S.stands site.now memory.old }
+    requires is_item { (frame.now.item).0 < length (S.here site.now).rules.items }
+    ensures comes { FrameComes frame.now result looked.old looked.new
+        (searched_on (S.here site.now) on frame.now) }
+    ensures memory { S.stands site.now memory.new }
 {
-    match search {
-        Spot::Past => Some(c),
-        Spot::At { ahead: 0, col } => Some(if c < col { col } else { c }),
-        _ => None,
-    }
-}
-
-/// The column where a frame is to search, from a column on, if it is to.
-pub(crate) fn search_from(wanted: bool, c: usize, frame: &Frame) -> Option<usize>
-    ensures { result ≡ search_from wanted c frame.now }
-{
-    if wanted {
-        search_col(c, frame.search)
-    } else {
-        None
-    }
-}
-
-/// The same at the start of a line: where its end lies before the line or isn't known.
-pub(crate) fn line_start_from(wanted: bool, frame: &Frame) -> Option<usize>
-    ensures { result ≡ line_start_from wanted frame.now }
-{
-    search_from(wanted && is_open(frame.known_end), 0, frame)
+    let from = search_column(site, on, frame);
+    searched_from(site, memory, frame, from, looked)
 }
 
 fn is_open(end: Option<Spot>) -> bool

@@ -1,9 +1,8 @@
 //! Stacks of which some frames were made anew.
-ghost use Rattle.std.specs.Prelude.{◌≡◌, ◌<◌, ◌∷◌, length, reverse, IfOk};
-ghost use Rattle.line_paint.specs.Frames.{top_searched};
-ghost use Rattle.line_paint.specs.Standing.{FramesCome, frame_or, frames_or, items_of};
+ghost use Rattle.std.specs.Prelude.{◌≡◌, ◌<◌, ◌∷◌, length, reverse, IfOk, None};
+ghost use Rattle.line_paint.specs.Common.{top_searched, FramesCome, MaySearch, frame_or, frames_or, rest_or, items_of};
 
-use crate::ends::searched_from;
+use crate::ends::{Occasion, searched};
 use crate::{Site, Stop};
 use item_pick::PickMemory;
 use state_stack::{Frame, Stack};
@@ -49,27 +48,28 @@ fn remade(
     }
 }
 
-/// A stack whose top frame is to search from a column, if there is one, over those below it, of
-/// which some may be made anew; none where all stay.
+/// A stack whose top frame searches its end on an occasion, over the frames below it, of which some
+/// may be made anew; none where all stay.
 pub(crate) fn top_searched<S: Site>(
     site: &S,
     memory: &mut PickMemory,
-    split: (&Frame, &Stack),
+    on: Occasion,
+    stack: &Stack,
     rest: Option<Stack>,
-    from: Option<usize>,
     looked: &mut Looked,
 ) -> Result<Option<Stack>, Stop>
-    requires memory { S.stands site.now memory.old }
-    requires is_item { (split.0.now.item).0 < length (S.here site.now).rules.items }
-    requires room { length split.1.now < 1000 }
-    requires items { items_of (frames_or (reverse split.1.now) rest)
-        ≡ items_of (reverse split.1.now) }
-    ensures comes { FramesCome (split.entry.0.now ∷ reverse split.entry.1.now) result looked.old
-        looked.new (top_searched (S.here site.now) split.entry.0.now from
-        (frames_or (reverse split.entry.1.now) rest)) }
+    requires may { MaySearch S.here S.stands site.now memory.old stack.now }
+    requires items { items_of (rest_or (reverse stack.now) rest)
+        ≡ items_of (rest_or (reverse stack.now) None) }
+    ensures comes { FramesCome (reverse stack.now) result looked.old looked.new
+        (top_searched (S.here site.now) on (reverse stack.now) rest) }
     ensures memory { S.stands site.now memory.new }
 {
-    let (top, below) = split;
-    let frame = searched_from(site, memory, top, from, looked)?;
-    Ok(remade(site.alloc(), top, below, frame, rest)?)
+    match stack.top_and_below() {
+        None => Ok(None),
+        Some((top, below)) => {
+            let frame = searched(site, memory, top, on, looked)?;
+            Ok(remade(site.alloc(), top, below, frame, rest)?)
+        }
+    }
 }

@@ -1,8 +1,7 @@
 //! What is true of each frame of a stack, seen by the frames' kinds.
 ghost use Rattle.std.specs.Prelude.{◌≡◌, reverse, true, ℕ};
 ghost use Rattle.std.specs.List.{list_all};
-ghost use Rattle.line_paint.specs.Frames.{anew_if, below_if};
-ghost use Rattle.line_paint.specs.Kinds.{all_clear, is_so, none_keeps};
+ghost use Rattle.line_paint.specs.Common.{anew_if, below_if, all_clear, is_so, none_keeps};
 
 use crate::Site;
 use state_stack::{Kind, Kinds, Stack};

@@ -23,7 +23,6 @@ mod spots;
 mod standing;
 mod starting;
 mod staying;
-mod turns;
 
 use answers::Stop;
 pub use paint::{LineNote, PaintError};

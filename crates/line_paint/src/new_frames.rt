@@ -1,10 +1,6 @@
 //! The frames that a start pushes.
-ghost use Rattle.std.specs.Prelude.{◌≡◌, ◌<◌, ◌∷◌, length, reverse, IfOk, Some};
-ghost use Rattle.paint_rules.specs.Close.{with_end};
-ghost use Rattle.paint_rules.specs.Pick.{word_frame, between, match_frame, body_from, body_high, body_frame, area_frame, body_with_end, pushed};
-ghost use Rattle.line_paint.specs.Answers.{Gives};
-ghost use Rattle.line_paint.specs.Frames.{plain_frame};
-ghost use Rattle.paint_rules.specs.Rules.{place_at, no_externals};
+ghost use Rattle.std.specs.Prelude.{◌≡◌, ◌<◌, ◌∷◌, length, reverse, IfOk};
+ghost use Rattle.line_paint.specs.Common.{word_frame, between, match_frame, body_from, body_high, body_frame, area_frame, body_with_end, pushed, Gives, plain_frame, place_at, no_externals};
 
 use crate::ends::with_end;
 use crate::spots::spot_of;
@@ -69,6 +65,14 @@ pub(crate) fn word_frame<S: Site>(
     Ok(frame)
 }
 
+/// A pattern of an item that matched.
+#[derive(Clone, Copy)]
+pub(crate) struct Matched<'a> {
+    pub item: ItemId,
+    pub pattern: &'a Pattern,
+    pub m: &'a Match,
+}
+
 /// A place kept within the body.
 fn between(from: Place, to: Place, place: Place) -> Place
     ensures { result ≡ between from to place }
@@ -86,21 +90,16 @@ fn start_place<S: Site>(site: &S, c: usize) -> Place
 }
 
 /// The body of a match.
-pub(crate) fn match_frame<S: Site>(
-    site: &S,
-    c: usize,
-    item: ItemId,
-    pattern: &Pattern,
-    m: &Match,
-) -> Result<Frame, Memory>
-    requires { item.0 < length (S.here site.now).rules.items }
-    ensures { IfOk result (λ f. f ≡ match_frame (S.here site.now) c item pattern.now m.now) }
+pub(crate) fn match_frame<S: Site>(site: &S, c: usize, by: &Matched) -> Result<Frame, Memory>
+    requires { by.now.item.0 < length (S.here site.now).rules.items }
+    ensures { IfOk result
+        (λ f. f ≡ match_frame (S.here site.now) c by.now.item by.now.pattern.now by.now.m.now) }
 {
     let start = start_place(site, c);
-    let me = site.offset_place(m, pattern, Which::Me);
-    let from = between(start, me, site.offset_place(m, pattern, Which::Hs));
-    let to = between(start, me, site.offset_place(m, pattern, Which::He));
-    let mut frame = plain_frame(site, item)?;
+    let me = site.offset_place(by.m, by.pattern, Which::Me);
+    let from = between(start, me, site.offset_place(by.m, by.pattern, Which::Hs));
+    let to = between(start, me, site.offset_place(by.m, by.pattern, Which::He));
+    let mut frame = plain_frame(site, by.item)?;
     frame.known_end = Some(spot_of(site, me));
     frame.high_from = spot_of(site, from);
     frame.high_to = Some(spot_of(site, to));
@@ -109,44 +108,39 @@ pub(crate) fn match_frame<S: Site>(
 }
 
 /// Where a region's body begins.
-fn body_from<S: Site>(site: &S, c: usize, pattern: &Pattern, m: &Match) -> Place
-    ensures { result ≡ body_from (S.here site.now) c pattern.now m.now }
+fn body_from<S: Site>(site: &S, c: usize, by: &Matched) -> Place
+    ensures { result ≡ body_from (S.here site.now) c by.now.pattern.now by.now.m.now }
 {
     later_place(
-        site.offset_place(m, pattern, Which::Rs),
+        site.offset_place(by.m, by.pattern, Which::Rs),
         start_place(site, c),
     )
 }
 
 /// Where the highlight of a region's body begins.
-fn body_high<S: Site>(site: &S, c: usize, pattern: &Pattern, m: &Match) -> Place
-    ensures { result ≡ body_high (S.here site.now) c pattern.now m.now }
+fn body_high<S: Site>(site: &S, c: usize, by: &Matched) -> Place
+    ensures { result ≡ body_high (S.here site.now) c by.now.pattern.now by.now.m.now }
 {
-    match pattern.matchgroup {
-        Some(_) => body_from(site, c, pattern, m),
+    match by.pattern.matchgroup {
+        Some(_) => body_from(site, c, by),
         None => later_place(
-            site.offset_place(m, pattern, Which::Hs),
+            site.offset_place(by.m, by.pattern, Which::Hs),
             start_place(site, c),
         ),
     }
 }
 
 /// The body of a region, before its end is known and its externals are set.
-pub(crate) fn open_body<S: Site>(
-    site: &S,
-    c: usize,
-    item: ItemId,
-    pattern: &Pattern,
-    m: &Match,
-) -> Result<Frame, Memory>
-    requires { item.0 < length (S.here site.now).rules.items }
+pub(crate) fn open_body<S: Site>(site: &S, c: usize, by: &Matched) -> Result<Frame, Memory>
+    requires { by.now.item.0 < length (S.here site.now).rules.items }
     ensures { IfOk result
-        (λ f. f ≡ record (body_frame (S.here site.now) c item pattern.now m.now)
+        (λ f. f ≡ record
+        (body_frame (S.here site.now) c by.now.item by.now.pattern.now by.now.m.now)
         { externals = no_externals }) }
 {
-    let mut frame = plain_frame(site, item)?;
-    frame.high_from = spot_of(site, body_high(site, c, pattern, m));
-    frame.search = spot_of(site, m.to);
+    let mut frame = plain_frame(site, by.item)?;
+    frame.high_from = spot_of(site, body_high(site, c, by));
+    frame.search = spot_of(site, by.m.to);
     Ok(frame)
 }
 
@@ -154,22 +148,21 @@ pub(crate) fn open_body<S: Site>(
 pub(crate) fn open_area<S: Site>(
     site: &S,
     c: usize,
-    item: ItemId,
-    pattern: &Pattern,
-    m: &Match,
+    by: &Matched,
     group: GroupId,
 ) -> Result<Frame, Memory>
-    requires { item.0 < length (S.here site.now).rules.items }
+    requires { by.now.item.0 < length (S.here site.now).rules.items }
     ensures { IfOk result
-        (λ f. f ≡ record (area_frame (S.here site.now) c item pattern.now m.now group)
+        (λ f. f ≡ record
+        (area_frame (S.here site.now) c by.now.item by.now.pattern.now by.now.m.now group)
         { externals = no_externals }) }
 {
-    let mut frame = plain_frame(site, item)?;
+    let mut frame = plain_frame(site, by.item)?;
     frame.part = Part::StartArea;
     frame.shows = group;
-    frame.known_end = Some(spot_of(site, body_from(site, c, pattern, m)));
-    frame.high_from = spot_of(site, site.offset_place(m, pattern, Which::Hs));
-    frame.search = spot_of(site, m.to);
+    frame.known_end = Some(spot_of(site, body_from(site, c, by)));
+    frame.high_from = spot_of(site, site.offset_place(by.m, by.pattern, Which::Hs));
+    frame.search = spot_of(site, by.m.to);
     Ok(frame)
 }
 

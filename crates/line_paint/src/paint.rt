@@ -1,17 +1,7 @@
 //! Painting a line.
 ghost use Rattle.std.specs.Prelude.{◌≡◌, ◌<◌, ◌≤◌, ◌+◌, ℕ, [], length, drop, reverse, pos, IfOk, Some};
-ghost use Rattle.syn_base.specs.Looked.{one_line, moved_by};
-ghost use Rattle.syn_base.specs.SpansFit.{IsFromColumn};
-ghost use Rattle.paint_rules.specs.Rules.{this_line};
-ghost use Rattle.paint_rules.specs.Close.{line_start};
-ghost use Rattle.paint_rules.specs.Line.{at_col, painted_from, painted_line};
-ghost use Rattle.line_paint.specs.Leads.{standing_of, IsAt};
-ghost use Rattle.line_paint.specs.Line.{at_of, ComesAs, Paints, PaintedAs, painted_rest};
-ghost use Rattle.paint_rules.specs.Painted.{looked_first};
-ghost use Rattle.line_paint.specs.Quiet.{IsQuiet};
-ghost use Rattle.line_paint.specs.Stretches.{ShowsOver};
-ghost use Rattle.paint_rules.specs.States.{Fits, StateFits};
-ghost use Rattle.state_stack.specs.TopFirst.{top_first};
+ghost use Rattle.line_paint.specs.Common.{one_line, moved_by, IsFromColumn, this_line, line_start, at_col, painted_from, painted_line, standing_of, IsAt, at_of, ComesAs, Paints, PaintedAs, painted_rest, looked_first, IsQuiet, ShowsOver, Fits, StateFits, top_first};
+ghost use Rattle.line_paint.specs.declared.paint.PaintError.TheVariants as cause;
 
 use crate::frames::stack_or;
 use crate::line_start::line_start;
@@ -36,9 +26,6 @@ pub enum PaintError {
 }
 
 impl From<Memory> for PaintError {
-    ghost use Rattle.std.specs.Prelude.{◌≡◌};
-    ghost use Rattle.line_paint.specs.declared.paint.PaintError.TheVariants as cause;
-
     ghost from_gives = { λ _ e. e ≡ cause.Memory };
 
     fn from(_refused: Memory) -> PaintError {
@@ -157,7 +144,7 @@ fn first_stack<S: Site>(
     ensures fits { IfOk result (λ s. Fits (length (S.here site.now).rules.items) (reverse s)) }
     ensures memory { S.stands site.now memory.new }
 {
-    match line_start(site, memory, stack, looked) {
+    match line_start(site, memory, true, stack, looked) {
         Ok(anew) => Ok(stack_or(stack, anew)?),
         Err(stop) => Err(at(stop, 0)),
     }

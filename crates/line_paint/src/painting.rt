@@ -1,31 +1,20 @@
 //! Painting a line of a text by the parts of a syntax.
 ghost use Rattle.std.specs.Prelude.{◌≡◌, ◌<◌, ◌≤◌, ◌+◌, length, IfOk};
-ghost use Rattle.syn_base.specs.SpansFit.{IsFromColumn};
-ghost use Rattle.match_rules.specs.Ways.{line_at};
-ghost use Rattle.keyword_table.specs.ItemNumbers.{AreItemsBelow};
-ghost use Rattle.syntax_set.specs.Soundness.{AreSound};
-ghost use Rattle.paint_rules.specs.Rules.{no_externals, place_at};
-ghost use Rattle.paint_rules.specs.Line.{painted_line};
-ghost use Rattle.paint_rules.specs.States.{StateFits};
-ghost use Rattle.state_stack.specs.TopFirst.{top_first};
-ghost use Rattle.line_paint.specs.Line.{PaintedAs};
-ghost use Rattle.line_paint.specs.Painting.{here_in};
-ghost use Rattle.item_pick.specs.PartsSeen.{rules_in};
-ghost use Rattle.item_pick.specs.Tables.{TablesStand};
+ghost use Rattle.line_paint.specs.Common.{IsFromColumn, line_at, AreItemsBelow, AreSound, no_externals, place_at, painted_line, StateFits, top_first, PaintedAs, here_in, rules_in, TablesStand};
 
 use crate::at_hand::AtHand;
 use crate::paint::painted_by;
 use crate::site::Site;
 use crate::standing::Standing;
 use crate::{LineNote, PaintError};
-use item_pick::{Asked, Parts, PickMemory, Picked};
+use item_pick::{Asked, Parts, PickMemory, Picked, Query};
 use paint_rules::Which;
 use pattern_match::Match;
 use region_ends::{EndAnswer, offset_place};
-use state_stack::State;
+use state_stack::{Frame, State};
 use std::alloc::Global;
 use std::rc::Rc;
-use syn_base::{Externals, ItemId, Ledger, Lines, Memory, Place, Steps};
+use syn_base::{Externals, Ledger, Lines, Memory, Place, Steps};
 use syntax_set::{ItemSet, Pattern};
 
 /// A line of a text, and the parts of a syntax, asked within a budget.
@@ -47,6 +36,27 @@ impl<T: Lines> Painting<'_, T> {
         Place {
             line: self.line as usize,
             col,
+        }
+    }
+
+    /// What is asked at a column.
+    fn query<'b>(&'b self, c: usize, at: &'b Standing) -> Query<'b, T>
+        ensures asked { result.asked.now ≡ self.now.asked }
+        ensures lines { result.lines.now ≡ self.now.lines.now }
+        ensures at { result.at ≡ place_at self.now.line c }
+        ensures state { result.state.now ≡ at.now.state }
+        ensures floor { result.floor ≡ at.now.floor }
+        ensures tried { result.tried.now ≡ at.now.tried }
+        ensures looked { result.looked ≡ at.now.looked }
+    {
+        Query {
+            asked: &self.asked,
+            lines: self.lines,
+            at: self.place(c),
+            state: &at.state,
+            floor: at.floor,
+            tried: &at.tried,
+            looked: at.looked,
         }
     }
 }
@@ -90,32 +100,32 @@ impl<T: Lines> Site for Painting<'_, T> {
         offset_place(self.lines, m, pattern, which)
     }
 
-    fn pick(
-        &self,
-        memory: &mut PickMemory,
-        c: usize,
-        standing: &Standing,
-    ) -> Result<Picked, Memory> {
-        memory.pick(&self.asked, self.lines, self.place(c), &standing.so_far())
+    fn pick(&self, memory: &mut PickMemory, c: usize, at: &Standing) -> Result<Picked, Memory> {
+        memory.pick(&self.query(c, at))
     }
 
     fn starts_from(
         &self,
         memory: &mut PickMemory,
         c: usize,
-        standing: &Standing,
+        at: &Standing,
     ) -> Result<usize, Memory> {
-        memory.quiet_until(&self.asked, self.lines, self.place(c), &standing.so_far())
+        memory.quiet_until(&self.query(c, at))
     }
 
     fn find_end(
         &self,
         memory: &mut PickMemory,
-        region: ItemId,
-        externals: &Externals,
+        body: &Frame,
         c: usize,
     ) -> Result<EndAnswer, Memory> {
-        memory.find_end(&self.asked, self.lines, region, externals, self.place(c))
+        memory.find_end(
+            &self.asked,
+            self.lines,
+            body.item,
+            &body.externals,
+            self.place(c),
+        )
     }
 }
 
@@ -153,10 +163,10 @@ pub fn paint_line<T: Lines, L: Ledger>(
     paint_line_with(
         alloc,
         parts,
+        budget,
         lines,
         line,
         before,
-        budget,
         &mut memory,
         steps,
     )
@@ -166,26 +176,26 @@ pub fn paint_line<T: Lines, L: Ledger>(
 pub fn paint_line_with<T: Lines, L: Ledger>(
     alloc: Global,
     parts: &Parts,
+    budget: u64,
     lines: &T,
     line: usize,
     before: &State,
-    budget: u64,
     memory: &mut PickMemory,
     steps: &mut Steps<L>,
 ) -> Result<LineNote, PaintError>
     requires patterns { AreSound parts.now.items.now parts.now.programs.now }
     requires words { AreItemsBelow (length parts.now.items.now) parts.now.keywords.now }
+    requires memory { TablesStand (rules_in parts.now budget) memory.old }
     requires present { line < length (T.lines lines.now) }
     requires fits { StateFits (length parts.now.items.now) (top_first before.now) }
     requires budget { 1 ≤ budget }
-    requires memory { TablesStand (rules_in parts.now budget) memory.old }
     ensures painted { PaintedAs result line before.now
         (painted_line (here_in parts.now budget (T.lines lines.now) line) (top_first before.now)) }
+    ensures memory { TablesStand (rules_in parts.now budget) memory.new }
     ensures fits { IfOk result
         (λ note. StateFits (length parts.now.items.now) (top_first note.after)) }
     ensures spans { IfOk result
         (λ note. IsFromColumn 0 (length (line_at (T.lines lines.now) line)) note.spans) }
-    ensures memory { TablesStand (rules_in parts.now budget) memory.new }
     ensures steps { steps.new ≡ steps.old + 1 }
 {
     steps.add_one();

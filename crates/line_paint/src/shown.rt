@@ -1,16 +1,12 @@
 //! The group that a character shows.
 ghost use Rattle.std.specs.Prelude.{◌≡◌, ◌<◌, ◌≤◌, ◌^◌, ◌-◌, ℕ, None, length, reverse};
-ghost use Rattle.paint_rules.specs.declared.Spot.TheVariants.{At};
-ghost use Rattle.paint_rules.specs.Line.{is_clear, holds};
-ghost use Rattle.paint_rules.specs.Close.{is_reached};
-ghost use Rattle.paint_rules.specs.KeptEnd.{is_before};
-ghost use Rattle.paint_rules.specs.States.{Fits};
-ghost use Rattle.line_paint.specs.Stretches.{ShowsOver};
+ghost use Rattle.line_paint.specs.Common.{At, is_clear, holds, is_reached, is_before, Fits, ShowsOver};
 
 use crate::Site;
 use crate::kinds::all_clear;
-use crate::spots::{is_before, is_reached};
+use crate::spots::is_reached;
 use paint_rules::{Part, Spot};
+use region_ends::is_before;
 use state_stack::{Frame, Stack};
 use syn_base::GroupId;
 

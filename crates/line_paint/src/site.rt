@@ -1,22 +1,14 @@
 //! The line that is painted, and what the painter asks about it.
 ghost use Rattle.std.specs.Prelude.{◌≡◌, ◌<◌, ◌^◌, length, ◌≤◌, [], IfOk, true, Some, reverse};
-ghost use Rattle.paint_rules.specs.Rules.{Here, this_line, item_of, no_externals, place_at};
-ghost use Rattle.paint_rules.specs.Offsets.{offset_place};
-ghost use Rattle.paint_rules.specs.Close.{is_region};
-ghost use Rattle.paint_rules.specs.EndInLine.{end_in_line, search_from};
-ghost use Rattle.region_ends.specs.Searches.{IsEnd};
-ghost use Rattle.paint_rules.specs.Painted.{looked_first};
-ghost use Rattle.paint_rules.specs.Pick.{picked};
-ghost use Rattle.item_pick.specs.Picks.{IsPicked};
-ghost use Rattle.item_pick.specs.QuietUntil.{IsQuietUntil};
+ghost use Rattle.line_paint.specs.Common.{Here, this_line, item_of, no_externals, place_at, offset_place, is_region, end_in_line, search_from, IsEnd, looked_first, picked, IsPicked, IsQuietUntil, standing_of, IsAt};
 ghost use Rattle.item_pick.specs.declared.memory.PickMemory.{PickMemory as Kept};
-ghost use Rattle.line_paint.specs.Leads.{standing_of, IsAt};
 
 use crate::standing::Standing;
 use item_pick::{PickMemory, Picked};
 use paint_rules::Which;
 use pattern_match::Match;
 use region_ends::{EndAnswer, item_of};
+use state_stack::Frame;
 use std::alloc::Global;
 use std::rc::Rc;
 use syn_base::{Externals, ItemId, Memory, Place};
@@ -60,44 +52,34 @@ pub(crate) trait Site {
 
     /// What starts at a column. It is handed the lines that were looked at so far, and adds those that
     /// it looks at.
-    fn pick(&self, memory: &mut PickMemory, c: usize, standing: &Standing) -> Result<Picked, Memory>
+    fn pick(&self, memory: &mut PickMemory, c: usize, at: &Standing) -> Result<Picked, Memory>
         requires memory { stands self.now memory.old }
-        requires at { IsAt (here self.now) c standing.now }
+        requires at { IsAt (here self.now) c at.now }
         ensures memory { stands self.now memory.new }
         ensures picked { IfOk result (λ a. IsPicked (here self.now).rules.items a
-            (looked_first (Some standing.now.looked)
-            (picked (here self.now) c (standing_of standing.now)))) };
+            (looked_first (Some at.now.looked)
+            (picked (here self.now) c (standing_of at.now)))) };
 
     /// A column from one on, up to the line's end, before which nothing starts on the stack, where
     /// nothing waits. No other line than those so far is looked at.
-    fn starts_from(
-        &self,
-        memory: &mut PickMemory,
-        c: usize,
-        standing: &Standing,
-    ) -> Result<usize, Memory>
+    fn starts_from(&self, memory: &mut PickMemory, c: usize, at: &Standing) -> Result<usize, Memory>
         requires memory { stands self.now memory.old }
-        requires at { IsAt (here self.now) c standing.now }
-        requires none_tried { standing.now.tried ≡ [] }
+        requires at { IsAt (here self.now) c at.now }
+        requires none_tried { at.now.tried ≡ [] }
         ensures memory { stands self.now memory.new }
         ensures quiet { IfOk result (IsQuietUntil (here self.now).rules (here self.now).text
-            (place_at (here self.now).line c) (reverse standing.now.state.stack) standing.now.floor
-            standing.now.looked) };
+            (place_at (here self.now).line c) (reverse at.now.state.stack) at.now.floor
+            at.now.looked) };
 
-    /// The end of a region in the line, sought from a column on.
-    fn find_end(
-        &self,
-        memory: &mut PickMemory,
-        region: ItemId,
-        externals: &Externals,
-        c: usize,
-    ) -> Result<EndAnswer, Memory>
+    /// The end of a region in the line, sought for its body from a column on.
+    fn find_end(&self, memory: &mut PickMemory, body: &Frame, c: usize) -> Result<EndAnswer, Memory>
         requires memory { stands self.now memory.old }
-        requires is_item { region.0 < length (here self.now).rules.items }
-        requires is_region { is_region (item_of (here self.now).rules.items region).kind ≡ true }
+        requires is_item { (body.now.item).0 < length (here self.now).rules.items }
+        requires is_region { is_region
+            (item_of (here self.now).rules.items body.now.item).kind ≡ true }
         ensures memory { stands self.now memory.new }
         ensures end { IfOk result
-            (λ a. IsEnd a region (end_in_line
-            (search_from (here self.now) region externals.now
+            (λ a. IsEnd a body.now.item (end_in_line
+            (search_from (here self.now) body.now.item body.now.externals
             (place_at (here self.now).line c)))) };
 }

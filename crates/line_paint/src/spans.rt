@@ -1,9 +1,6 @@
 //! The spans of a line, from the left: those that are whole, and the one that may go on.
 ghost use Rattle.std.specs.Prelude.{◌≡◌, ◌&&◌, [], List, suc, nat_eq, IfOk, None};
-ghost use Rattle.syn_base.specs.declared.places.Span.{Span};
-ghost use Rattle.paint_rules.specs.Rules.{same_group};
-ghost use Rattle.paint_rules.specs.Line.{joined};
-ghost use Rattle.line_paint.specs.Spans.{chained, one_char};
+ghost use Rattle.line_paint.specs.Common.{Span, same_group, joined, chained, one_char};
 
 use std::alloc::Global;
 use syn_base::{GroupId, List, Memory, Span};

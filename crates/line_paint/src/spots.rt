@@ -1,11 +1,10 @@
 //! Spots: places counted from the painted line.
-ghost use Rattle.std.specs.Prelude.{◌≡◌, ◌<◌};
-ghost use Rattle.paint_rules.specs.States.{spot_of};
-ghost use Rattle.paint_rules.specs.KeptEnd.{is_before};
-ghost use Rattle.paint_rules.specs.Close.{is_reached, goes_beyond};
+ghost use Rattle.std.specs.Prelude.{◌≡◌};
+ghost use Rattle.line_paint.specs.Common.{spot_of, is_reached, goes_beyond};
 
 use crate::Site;
 use paint_rules::Spot;
+use region_ends::is_before;
 use syn_base::Place;
 
 /// A place of the text, counted from the painted line.
@@ -20,19 +19,6 @@ pub(crate) fn spot_of<S: Site>(site: &S, place: Place) -> Spot
             ahead: place.line - line,
             col: place.col,
         }
-    }
-}
-
-/// Whether a spot is before another one.
-pub(crate) fn is_before(a: Spot, b: Spot) -> bool
-    ensures { result ≡ is_before a b }
-{
-    match b {
-        Spot::Past => false,
-        Spot::At { ahead: k, col: d } => match a {
-            Spot::Past => true,
-            Spot::At { ahead, col } => ahead < k || (ahead == k && col < d),
-        },
     }
 }
 

@@ -1,15 +1,18 @@
-//! What the painting of a line carries along.
-ghost use Rattle.std.specs.Prelude.{◌≡◌, reverse, IfOk};
-ghost use Rattle.paint_rules.specs.Close.{close_once, closed};
-ghost use Rattle.line_paint.specs.Leads.{standing_of, Stands, Leads, LeadsOn};
+//! What the painting of a line carries along, and its turns at a column: close, and then start what a
+//! pick finds, until a pick starts nothing.
+ghost use Rattle.std.specs.Prelude.{◌≡◌, ℕ, length, reverse, IfOk, Some, suc};
+ghost use Rattle.std.specs.Option.{option_map};
+ghost use Rattle.line_paint.specs.Common.{IsPicked, looked_first, picked, stale, WaitFits, at_col, turns, column, close_once, closed, standing_of, Stands, IsAt, Leads, LeadsAt, LeadsOn, LeadsNext, next_start, turn};
 
 use crate::closing::{
-    Closing, area_on, body_after_area, closing_of, container_goes_on, frames_after, waiting_after,
+    Closing, area_on, closing_of, container_goes_on, frames_after, waiting_after,
 };
-use crate::frames::stack_or;
-use crate::{Site, Stop};
-use item_pick::{PickMemory, SoFar};
-use paint_rules::Spot;
+use crate::ends::Occasion;
+use crate::frames::{stack_or, top_searched};
+use crate::paint::at;
+use crate::{PaintError, Site, Stop};
+use item_pick::{PickMemory, Picked};
+use paint_rules::{Spot, Waiting};
 use state_stack::State;
 use syn_base::{ItemId, List, Looked};
 
@@ -26,28 +29,9 @@ pub(crate) struct Standing {
 }
 
 impl Standing {
-    /// What a pick asks of it.
-    pub(crate) fn so_far(&self) -> SoFar<'_>
-        ensures state { result.state.now ≡ self.now.state }
-        ensures floor { result.floor ≡ self.now.floor }
-        ensures tried { result.tried.now ≡ self.now.tried }
-        ensures looked { result.looked ≡ self.now.looked }
-    {
-        SoFar {
-            state: &self.state,
-            floor: self.floor,
-            tried: &self.tried,
-            looked: self.looked,
-        }
-    }
-
     /// One step of closing; false where the top frame stays.
-    fn close_once<S: Site>(
-        &mut self,
-        site: &S,
-        memory: &mut PickMemory,
-        c: usize,
-    ) -> Result<bool, Stop>
+    #[tactic(auto, using(crate::proofs::SearchLaws::under_area))]
+    fn closes<S: Site>(&mut self, site: &S, memory: &mut PickMemory, c: usize) -> Result<bool, Stop>
         requires memory { S.stands site.now memory.old }
         requires stands { Stands (S.here site.now) c self.old }
         ensures leads { LeadsOn result self.old self.new
@@ -70,7 +54,8 @@ impl Standing {
                     Ok(true)
                 }
                 Closing::LeavesArea => {
-                    let anew = body_after_area(site, memory, below, &mut self.looked)?;
+                    let on = Occasion::UnderArea;
+                    let anew = top_searched(site, memory, on, below, None, &mut self.looked)?;
                     let stack = stack_or(below, anew)?;
                     self.state.stack = stack;
                     self.state.waiting = None;
@@ -78,7 +63,8 @@ impl Standing {
                     Ok(true)
                 }
                 Closing::Leaves => {
-                    let stack = frames_after(site, memory, c, top, below, &mut self.looked)?;
+                    let anew = frames_after(site, memory, c, top, below, &mut self.looked)?;
+                    let stack = stack_or(below, anew)?;
                     let waiting = waiting_after(site, c, top.item);
                     let is_over = container_goes_on(site, c, top, below);
                     self.state.stack = stack;
@@ -92,12 +78,7 @@ impl Standing {
     }
 
     /// Closes all that ends at a place.
-    pub(crate) fn close<S: Site>(
-        &mut self,
-        site: &S,
-        memory: &mut PickMemory,
-        c: usize,
-    ) -> Result<(), Stop>
+    fn close<S: Site>(&mut self, site: &S, memory: &mut PickMemory, c: usize) -> Result<(), Stop>
         requires memory { S.stands site.now memory.old }
         requires stands { Stands (S.here site.now) c self.old }
         ensures leads { Leads result self.old self.new
@@ -109,10 +90,109 @@ impl Standing {
         let mut left = len + len;
         'steps: while left > 0 {
             left -= 1;
-            if !self.close_once(site, memory, c)? {
+            if !self.closes(site, memory, c)? {
                 return Ok(());
             }
         }
         Ok(())
+    }
+
+    /// Starts what a pick found; false where it found nothing.
+    fn take_up<S: Site>(&mut self, site: &S, c: usize, found: Picked) -> Result<bool, Stop>
+        requires found { IsPicked (S.here site.now).rules.items found
+            (looked_first (Some self.old.looked)
+            (picked (S.here site.now) c (standing_of self.old))) }
+        requires stands { Stands (S.here site.now) c self.old }
+        ensures leads { LeadsNext result self.old self.new
+            (next_start (S.here site.now) c (standing_of self.old)) }
+        ensures stands { IfOk result (λ _. Stands (S.here site.now) c self.new) }
+    {
+        match found {
+            Picked::Start(starting, looked) => {
+                self.looked = looked;
+                self.start(site, c, starting)?;
+                Ok(true)
+            }
+            Picked::SkipOn(looked) => {
+                self.looked = looked;
+                Ok(false)
+            }
+            Picked::Nothing(looked) => {
+                self.looked = looked;
+                self.state.waiting = None;
+                Ok(false)
+            }
+            Picked::TooCostly { item } => Err(Stop::TooCostly(item)),
+        }
+    }
+
+    /// One turn; false where it was the last.
+    fn turn<S: Site>(&mut self, site: &S, memory: &mut PickMemory, c: usize) -> Result<bool, Stop>
+        requires memory { S.stands site.now memory.old }
+        requires at { IsAt (S.here site.now) c self.old }
+        ensures leads { LeadsNext result self.old self.new
+            (turn (S.here site.now) c (standing_of self.old)) }
+        ensures memory { S.stands site.now memory.new }
+        ensures stands { IfOk result (λ _. Stands (S.here site.now) c self.new) }
+    {
+        self.close(site, memory, c)?;
+        let found = site.pick(memory, c, self)?;
+        self.take_up(site, c, found)
+    }
+
+    /// All turns at a column; at a column an item starts at most once.
+    fn turns<S: Site>(&mut self, site: &S, memory: &mut PickMemory, c: usize) -> Result<(), Stop>
+        requires memory { S.stands site.now memory.old }
+        requires at { IsAt (S.here site.now) c self.old }
+        ensures leads { Leads result self.old self.new
+            (turns (suc (length (S.here site.now).rules.items)) (S.here site.now) c
+            (standing_of self.old)) }
+        ensures memory { S.stands site.now memory.new }
+        ensures stands { IfOk result (λ _. Stands (S.here site.now) c self.new) }
+    {
+        let mut left = site.items().added() + 1;
+        'turns: while left > 0 {
+            left -= 1;
+            if !self.turn(site, memory, c)? {
+                return Ok(());
+            }
+        }
+        Ok(())
+    }
+
+    /// What closes and starts at a column.
+    #[tactic(auto, using(crate::proofs::LineLaws::at_fails, crate::proofs::LineLaws::at_leads))]
+    pub(crate) fn column<S: Site>(
+        &mut self,
+        site: &S,
+        memory: &mut PickMemory,
+        c: usize,
+    ) -> Result<(), PaintError>
+        requires memory { S.stands site.now memory.old }
+        requires at { IsAt (S.here site.now) c self.old }
+        ensures leads { LeadsAt result self.old self.new
+            (at_col c (column (S.here site.now) c (standing_of self.old))) }
+        ensures memory { S.stands site.now memory.new }
+        ensures stands { IfOk result (λ _. Stands (S.here site.now) c self.new) }
+    {
+        self.tried = List::new(site.alloc());
+        self.state.waiting = stale(self.state.waiting);
+        match self.turns(site, memory, c) {
+            Ok(()) => Ok(()),
+            Err(stop) => Err(at(stop, c)),
+        }
+    }
+}
+
+fn stale(waiting: Option<Waiting>) -> Option<Waiting>
+    ensures is { result ≡ option_map stale waiting }
+    ensures fits { (n : ℕ) → WaitFits n waiting → WaitFits n result }
+{
+    match waiting {
+        None => None,
+        Some(w) => Some(Waiting {
+            item: w.item,
+            fresh: false,
+        }),
     }
 }

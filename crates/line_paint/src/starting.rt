@@ -1,16 +1,12 @@
 //! What a pick started.
 ghost use Rattle.std.specs.Prelude.{◌≡◌, ◌<◌, length, reverse, IfOk};
-ghost use Rattle.paint_rules.specs.Rules.{Here};
-ghost use Rattle.paint_rules.specs.Pick.{started, started_at, AWord, AMatch, AnEmpty, ARegion};
+ghost use Rattle.line_paint.specs.Common.{Here, started, started_at, ARegion, IsStarting, standing_of, Stands, Leads, start_one, start_two};
 ghost use Rattle.paint_rules.specs.Pick as rule;
-ghost use Rattle.item_pick.specs.Starts.{IsStarting};
-ghost use Rattle.line_paint.specs.Leads.{standing_of, Stands, Leads};
-ghost use Rattle.line_paint.specs.Starting.{start_one, start_two};
 
 use crate::closing::waiting_after;
 use crate::new_frames::{
-    body_ended, match_frame, open_area, open_body, pushed, shared, shared_again, with_externals,
-    word_frame,
+    Matched, body_ended, match_frame, open_area, open_body, pushed, shared, shared_again,
+    with_externals, word_frame,
 };
 use crate::standing::Standing;
 use crate::{Site, Stop};
@@ -21,6 +17,15 @@ use state_stack::{Frame, Stack, State};
 use std::alloc::Global;
 use syn_base::{ItemId, Memory};
 use syntax_set::{ItemKind, Pattern};
+
+/// A region's start that matched, and the region's end where that was found.
+#[derive(Drop)]
+struct Opening<'a> {
+    item: ItemId,
+    pattern: &'a Pattern,
+    m: Match,
+    end: Option<RegionEnd>,
+}
 
 impl Standing {
     /// An item has started at a column.
@@ -74,70 +79,27 @@ impl Standing {
         Ok(self.start_on(stack, None, c, item)?)
     }
 
-    fn start_word<S: Site>(
-        &mut self,
-        site: &S,
-        c: usize,
-        item: ItemId,
-        end: usize,
-    ) -> Result<(), Stop>
-        requires is_item { item.0 < length (S.here site.now).rules.items }
-        requires stands { Stands (S.here site.now) c self.old }
-        ensures leads { Leads result self.old self.new
-            (started (S.here site.now) c (standing_of self.old) (AWord item end)) }
-        ensures stands { IfOk result (λ _. Stands (S.here site.now) c self.new) }
-    {
-        let frame = word_frame(site, c, item, end)?;
-        self.start_one(site.alloc(), c, item, frame)
-    }
-
-    fn start_match<S: Site>(
-        &mut self,
-        site: &S,
-        c: usize,
-        item: ItemId,
-        pattern: &Pattern,
-        m: &Match,
-    ) -> Result<(), Stop>
-        requires is_item { item.0 < length (S.here site.now).rules.items }
-        requires stands { Stands (S.here site.now) c self.old }
-        ensures leads { Leads result self.old self.new
-            (started (S.here site.now) c (standing_of self.old) (AMatch item pattern.now m.now)) }
-        ensures stands { IfOk result (λ _. Stands (S.here site.now) c self.new) }
-    {
-        let frame = match_frame(site, c, item, pattern, m)?;
-        self.start_one(site.alloc(), c, item, frame)
-    }
-
-    fn start_empty<S: Site>(&mut self, site: &S, c: usize, item: ItemId) -> Result<(), Stop>
-        requires is_item { item.0 < length (S.here site.now).rules.items }
-        requires stands { Stands (S.here site.now) c self.old }
-        ensures leads { Leads result self.old self.new
-            (started (S.here site.now) c (standing_of self.old) (AnEmpty item)) }
-        ensures stands { IfOk result (λ _. Stands (S.here site.now) c self.new) }
-    {
-        let stack = self.state.stack.copy()?;
-        let waiting = waiting_after(site, c, item);
-        Ok(self.start_on(stack, waiting, c, item)?)
-    }
-
-    fn start_region<S: Site>(
-        &mut self,
-        site: &S,
-        c: usize,
-        item: ItemId,
-        pattern: &Pattern,
-        found: (Match, Option<RegionEnd>),
-    ) -> Result<(), Stop>
-        requires is_item { item.0 < length (S.here site.now).rules.items }
+    /// A region starts.
+    fn start_region<S: Site>(&mut self, site: &S, c: usize, region: Opening) -> Result<(), Stop>
+        requires is_item { region.item.0 < length (S.here site.now).rules.items }
         requires stands { Stands (S.here site.now) c self.old }
         ensures leads { Leads result self.old self.new
             (started (S.here site.now) c (standing_of self.old)
-            (ARegion item pattern.now found.0 found.1)) }
+            (ARegion region.entry.item region.entry.pattern.now region.entry.m region.entry.end)) }
         ensures stands { IfOk result (λ _. Stands (S.here site.now) c self.new) }
     {
-        let (m, end) = found;
-        let open = open_body(site, c, item, pattern, &m)?;
+        let Opening {
+            item,
+            pattern,
+            m,
+            end,
+        } = region;
+        let by = Matched {
+            item,
+            pattern,
+            m: &m,
+        };
+        let open = open_body(site, c, &by)?;
         match pattern.matchgroup {
             None => {
                 let body = with_externals(open, shared(site.alloc(), m)?);
@@ -145,7 +107,7 @@ impl Standing {
                 self.start_one(site.alloc(), c, item, body)
             }
             Some(group) => {
-                let area = open_area(site, c, item, pattern, &m, group)?;
+                let area = open_area(site, c, &by, group)?;
                 let externals = shared(site.alloc(), m)?;
                 let body = with_externals(open, shared_again(&externals)?);
                 let body = body_ended(site, body, end)?;
@@ -170,10 +132,25 @@ impl Standing {
         ensures stands { IfOk result (λ _. Stands (S.here site.now) c self.new) }
     {
         match starting {
-            Starting::Word { item, end } => self.start_word(site, c, item, end),
-            Starting::Empty { item } => self.start_empty(site, c, item),
+            Starting::Word { item, end } => {
+                let frame = word_frame(site, c, item, end)?;
+                self.start_one(site.alloc(), c, item, frame)
+            }
+            Starting::Empty { item } => {
+                let stack = self.state.stack.copy()?;
+                let waiting = waiting_after(site, c, item);
+                Ok(self.start_on(stack, waiting, c, item)?)
+            }
             Starting::Matched { item, m } => match &site.item(item).kind {
-                ItemKind::Match(pattern) => self.start_match(site, c, item, pattern, &m),
+                ItemKind::Match(pattern) => {
+                    let by = Matched {
+                        item,
+                        pattern,
+                        m: &m,
+                    };
+                    let frame = match_frame(site, c, &by)?;
+                    self.start_one(site.alloc(), c, item, frame)
+                }
                 _ => unreachable!(),
             },
             Starting::Region {
@@ -182,13 +159,15 @@ impl Standing {
                 m,
                 end,
             } => match &site.item(item).kind {
-                ItemKind::Region { starts, .. } => self.start_region(
-                    site,
-                    c,
-                    item,
-                    starts.get(start),
-                    (m, end),
-                ),
+                ItemKind::Region { starts, .. } => {
+                    let region = Opening {
+                        item,
+                        pattern: starts.get(start),
+                        m,
+                        end,
+                    };
+                    self.start_region(site, c, region)
+                }
                 _ => unreachable!(),
             },
         }

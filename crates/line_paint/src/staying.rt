@@ -1,13 +1,7 @@
 //! How long nothing closes or starts.
 ghost use Rattle.std.specs.Prelude.{◌≡◌, ◌<◌, ◌≤◌, ℕ, [], false, length, reverse, IfOk, None};
-ghost use Rattle.paint_rules.specs.Rules.{this_line};
-ghost use Rattle.line_paint.specs.Leads.{standing_of, IsAt};
-ghost use Rattle.line_paint.specs.Quiet.{IsQuiet};
-ghost use Rattle.paint_rules.specs.declared.Spot.TheVariants.{At};
-ghost use Rattle.paint_rules.specs.Painted.{done};
-ghost use Rattle.paint_rules.specs.Close.{is_reached, close_once};
+ghost use Rattle.line_paint.specs.Common.{this_line, standing_of, IsAt, IsQuiet, At, done, is_reached, close_once, Fits};
 ghost use Rattle.paint_rules.specs.States as rule;
-ghost use Rattle.paint_rules.specs.States.{Fits};
 
 use crate::Site;
 use crate::standing::Standing;

@@ -50,10 +50,10 @@ impl Brush<'_> {
         match paint_line_with(
             self.alloc,
             &parts,
+            self.budget,
             text,
             line,
             before,
-            self.budget,
             memory,
             steps,
         ) {

@@ -1,12 +1,21 @@
-use Rattle.item_pick.proofs.Common.{sym, subst, reverse, Bool, IfOk, Some, Looked, looked_first, picked, rules_in, IsPicked, here_at}
+use Rattle.item_pick.proofs.Common.{rules, sym, subst, reverse, Bool, IfOk, Some, Looked, looked_first, picked, rules_in, IsPicked, here_at}
 use Rattle.region_ends.proofs.SearchLaws.{line_is}
 use Rattle.item_pick.proofs.asking.pick.Goals as goal
 
-pub pick-requires-clause-memory : goal.pick-requires-clause-memory
-pick-requires-clause-memory g c =
+pub pick-requires : goal.pick-requires
+pick-requires g c =
     let t = g.T.Lines.lines c.args.lines.now in
-    c.in_ok-enter_line.ensures.entered c.args.budget t c.args.at.line (sym (line_is t c.args.at.line c.line.result.now c.line.ensures))
-    (c.new-memory.ensures (rules_in c.args.parts.now c.args.budget))
+    record {
+      may = record {
+        sound = search rules;
+        present = c.requires.present;
+        within = c.requires.within;
+        fits = c.requires.fits;
+        held = search rules;
+        memory = c.in_ok-enter_line.ensures.entered c.args.budget t c.args.at.line (sym (line_is t c.args.at.line c.line.result.now c.line.ensures))
+            (c.new-memory.ensures (rules_in c.args.parts.now c.args.budget));
+      };
+    }
 
 pub returns : goal.returns
 returns g c =

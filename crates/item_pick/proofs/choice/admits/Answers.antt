@@ -1,5 +1,4 @@
-use Rattle.item_pick.proofs.Common.{◌<◌, length, sym, ap, ◌∙◌, subst, Choice, rules_by, admits}
-use Rattle.item_pick.specs.Standing.{ChoiceFits}
+use Rattle.item_pick.proofs.Common.{◌<◌, length, sym, ap, ◌∙◌, subst, Choice, rules_by, admits, ChoiceFits}
 use Rattle.item_pick.proofs.NextLaws.{follows_next}
 use Rattle.item_pick.proofs.choice.admits.Goals as goal
 

@@ -1,7 +1,5 @@
-use Rattle.item_pick.proofs.Common.{ℕ, get_or, arith, rules, nat_lt}
-use Rattle.std.proofs.Common.{of_calls}
+use Rattle.item_pick.proofs.Common.{ℕ, get_or, arith, rules, nat_lt, of_calls, IsPartitionedBy-ltb}
 use Rattle.std.proofs.lemmas.Fn.{always_returns_same}
-use Rattle.std.proofs.lemmas.List.Sorted.{IsPartitionedBy-ltb}
 use Rattle.item_pick.proofs.TableLaws.{is_below, isnt_below}
 use Rattle.item_pick.proofs.open.count_below.Goals as goal
 

@@ -1,7 +1,5 @@
-use Rattle.line_paint.proofs.Common.{arith, ap, sym, ◌∙◌, ◌≡◌, pos, Looked}
-use Rattle.std.proofs.Common.{ℤ, ◌+ℤ◌}
+use Rattle.line_paint.proofs.Common.{arith, ap, sym, ◌∙◌, ◌≡◌, pos, Looked, ℤ, ◌+ℤ◌, moved_by}
 use Rattle.std.proofs.lemmas.Int.{ints}
-use Rattle.syn_base.specs.Looked.{moved_by}
 use Rattle.line_paint.proofs.paint.counted_here.Goals as goal
 
 there_and_back : (a by line : ℤ) → by +ℤ line ≡ pos 0 → a ≡ (a +ℤ by) +ℤ line

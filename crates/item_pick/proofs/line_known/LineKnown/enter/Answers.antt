@@ -1,6 +1,5 @@
-use Rattle.item_pick.proofs.Common.{◌≡◌, ◌+◌, ap, arith, length, subst, sym, ℕ, List, true, All, IfOk-weaker, line_at, Sets}
+use Rattle.item_pick.proofs.Common.{◌≡◌, ◌+◌, ap, arith, length, subst, sym, ℕ, List, true, All, IfOk-weaker, line_at, Sets, AreNumbers}
 use Rattle.pattern_needs.specs.Held.{holds}
-use Rattle.pattern_screens.specs.Keys.{AreNumbers}
 use Rattle.item_pick.proofs.line_known.LineKnown.enter.Goals as goal
 
 pub returns : goal.returns

@@ -1,5 +1,4 @@
-use Rattle.item_pick.proofs.Common.{◌≡◌, ℕ, arith, length, subst, sym, Has, all_still, line_at, rules_in, item_numbered, IsBarren}
-use Rattle.pattern_needs.specs.LineNeeds.{AreHeld}
+use Rattle.item_pick.proofs.Common.{◌≡◌, ℕ, arith, length, subst, sym, Has, all_still, line_at, rules_in, item_numbered, IsBarren, AreHeld}
 use Rattle.item_pick.proofs.LineLaws.{lacked_barren}
 use Rattle.item_pick.proofs.NeedLaws.{futile_lacked}
 use Rattle.item_pick.proofs.line_known.LineKnown.note_lacking.Goals as goal

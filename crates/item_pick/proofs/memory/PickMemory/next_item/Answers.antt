@@ -9,4 +9,4 @@ returns-in-Some-clause-next g c =
     let r = rules_by s in
     let t = g.T.Lines.lines p.lines.now in
     next_ok r t p.at p.floor (reverse p.tried.now) c.args.choice c.args.looked c.args.left c.left_in.result
-    (c.left_in.ensures.next t p.at.line c.requires.may.memory.line (c.in-Some.ensures r t p.at.line c.requires.may.memory.line) c.requires.held)
+    (c.left_in.ensures.next t p.at.line c.requires.may.ask.memory.line (c.in-Some.ensures r t p.at.line c.requires.may.ask.memory.line) c.requires.may.held)

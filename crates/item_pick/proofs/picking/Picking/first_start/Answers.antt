@@ -13,7 +13,7 @@ items-init g c =
       whole = items_skip f c.args.looked.now (length (rules_by c.args.self.now.asked.now).items) c.in_ok-left.left (c.added.result - c.in_ok-left.left) (omega (arith, next.behind, count))
           (λ j a b. next.idle j a (omega (arith, b, count)));
       within = omega (arith, next.behind, count);
-      held = c.requires.held;
+      held = c.requires.may.held;
       may = c.next_item.ensures.may;
     }
 
@@ -34,11 +34,14 @@ items-preserved g c =
       may = c.next_item-in-None.ensures.may;
     }
 
-pub next_item-requires-in-None-clause-held : goal.next_item-requires-in-None-clause-held
-next_item-requires-in-None-clause-held g c =
+pub next_item-requires-in-None-clause-may : goal.next_item-requires-in-None-clause-may
+next_item-requires-in-None-clause-may g c =
     let f = start_if_free (rules_by c.args.self.now.asked.now) (g.T.Lines.lines c.args.self.now.lines.now) c.args.self.now.at c.args.self.now.floor (reverse c.args.self.now.tried.now) c.args.choice in
     let absent = rw c.in-None.is at c.in_ok-found.ensures.told in
-    still_held c.items.looked c.start_if_free.new.looked c.args.self.now.at.line (f (item_numbered (c.items.left - 1))) _ c.items.invariant.held absent
+    record {
+      ask = c.start_if_free.ensures.may;
+      held = still_held c.items.looked c.start_if_free.new.looked c.args.self.now.at.line (f (item_numbered (c.items.left - 1))) _ c.items.invariant.held absent;
+    }
 
 pub items-smaller : goal.items-smaller
 items-smaller g c = omega (arith, c.in_ok-left-in-None.ensures.next.behind, c.items-test.true)

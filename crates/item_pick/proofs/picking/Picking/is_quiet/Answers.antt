@@ -1,5 +1,4 @@
-use Rattle.item_pick.proofs.Common.{◌≡◌, ◌∙◌, ℕ, List, [], reverse, false, sym, subst, nat_eq, ItemId, begins_word, place_at, rules_by, IsQuietAt, IsNextAt}
-use Rattle.std.proofs.Common.{eqb→eq}
+use Rattle.item_pick.proofs.Common.{◌≡◌, ◌∙◌, ℕ, List, [], reverse, false, sym, subst, nat_eq, ItemId, begins_word, place_at, rules_by, IsQuietAt, IsNextAt, eqb→eq}
 use Rattle.std.proofs.lemmas.Float.{T_from_true}
 use Rattle.item_pick.proofs.QuietPlaceLaws.{none_starts, row_empty}
 use Rattle.item_pick.proofs.SettledLaws.{none_left}
@@ -26,13 +25,13 @@ returns-clause-quiet g c e =
     let word : begins_word r.sets.keyword c.line.result.now c.args.col ≡ false = sym c.begins_word.ensures ∙ c.if-begins_word.false in
     let none : c.in_ok-left.left ≡ 0 = eqb→eq c.in_ok-left.left 0 (T_from_true (nat_eq c.in_ok-left.left 0) e) in
     let k = c.args.looked in
-    let known = c.requires.may.memory.line in
+    let known = c.requires.may.ask.memory.line in
     row_empty r t p floor k c.args.choice
     (subst (λ (line : List ℕ). begins_word r.sets.keyword line c.args.col ≡ false) c.line.ensures word)
     (subst (λ (n : ℕ). IsNextAt r t p floor k [] c.args.choice n 0) c.added-count.ensures.number
     (subst (IsNextAt r t p floor k [] c.args.choice c.added-count.result) none
     (subst (λ (xs : List ItemId). IsNextAt r t p floor k (reverse xs) c.args.choice c.added-count.result c.in_ok-left.left) c.requires.none_tried
-    (c.in_ok-left.ensures.next t l known (c.in-Some.ensures r t l known) c.requires.held))))
+    (c.in_ok-left.ensures.next t l known (c.in-Some.ensures r t l known) c.requires.may.held))))
 
 pub returns-then-is_still-clause-quiet : goal.returns-then-is_still-clause-quiet
 returns-then-is_still-clause-quiet g c _ =
@@ -46,4 +45,4 @@ returns-then-is_still-clause-quiet g c _ =
     row_empty r t (place_at l c.args.col) floor k c.args.choice
     (subst (λ (line : List ℕ). begins_word r.sets.keyword line c.args.col ≡ false) c.line.ensures word)
     (none_left r t l c.args.choice floor k c.args.col (c.requires.settled c.if-col-settled.true)
-    (c.is_still.ensures c.if-is_still.true t l c.requires.may.memory (c.in-Some.ensures r t l c.requires.may.memory.line) floor k c.requires.held))
+    (c.is_still.ensures c.if-is_still.true t l c.requires.may.ask.memory (c.in-Some.ensures r t l c.requires.may.ask.memory.line) floor k c.requires.may.held))

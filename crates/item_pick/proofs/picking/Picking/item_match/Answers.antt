@@ -15,7 +15,7 @@ columns-init g c =
           c.args.self.now.floor c.args.looked.now c.max-first.result (omega arith) (λ x h l within. omega (arith, h, l, within.0))
           ∙ skip_to (match_from r t c.args.by.now.item c.args.by.now.pattern.now c.args.self.now.at) c.last-last.result c.args.looked.now c.max-first.result c.in_ok-col.col next.ahead
           (λ x a b h. next.idle x a b (omega (arith, h, c.last-last.ensures.is)));
-      held = c.requires.held;
+      held = c.requires.may.held;
       may = c.next_column.ensures.may;
       from = next.ahead;
     }
@@ -40,13 +40,16 @@ columns-preserved g c =
       from = omega (arith, next.ahead, c.columns.invariant.from);
     }
 
-pub next_column-requires-in-Not-clause-held : goal.next_column-requires-in-Not-clause-held
-next_column-requires-in-Not-clause-held g c =
+pub next_column-requires-in-Not-clause-may : goal.next_column-requires-in-Not-clause-may
+next_column-requires-in-Not-clause-may g c =
     let r = rules_by c.args.self.now.asked.now in
     let t = g.T.Lines.lines c.args.self.now.lines.now in
     let f = match_from r t c.args.by.now.item c.args.by.now.pattern.now c.args.self.now.at in
     let absent = rw c.in-Not.is at c.in_ok-tried.ensures.told in
-    still_held c.columns.looked c.tried_from.new.looked c.args.self.now.at.line (f c.columns.col) _ c.columns.invariant.held absent
+    record {
+      ask = c.note.ensures.may;
+      held = still_held c.columns.looked c.tried_from.new.looked c.args.self.now.at.line (f c.columns.col) _ c.columns.invariant.held absent;
+    }
 
 pub columns-smaller : goal.columns-smaller
 columns-smaller g c = omega (arith, c.in_ok-col-in-Not.ensures.next.ahead, c.columns-test.true)

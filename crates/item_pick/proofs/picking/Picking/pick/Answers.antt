@@ -19,5 +19,8 @@ returns-else-waits_on-clause-told g c =
     let t = g.T.Lines.lines c.args.self.now.lines.now in
     rw c.in-Some.is (told_by _ _ _ _ _ _ _ (wait_over r t c.args.self.now.at c.args.self.now.floor (reverse c.args.self.now.tried.now) (reverse c.args.stack.now) c.in-Some.wait _ _ (rw c.in-None-found.is at c.in_ok-found-in-Some.ensures.told) (sym c.waits_on.ensures ∙ c.if-waits_on.false)) c.pick_allowed-else-waits_on.ensures.told)
 
-pub pick_allowed-requires-else-waits_on-clause-held : goal.pick_allowed-requires-else-waits_on-clause-held
-pick_allowed-requires-else-waits_on-clause-held g c = still_held _ _ _ _ _ c.requires.held (rw c.in-None-found.is at c.in_ok-found-in-Some.ensures.told)
+pub pick_allowed-requires-else-waits_on-clause-may : goal.pick_allowed-requires-else-waits_on-clause-may
+pick_allowed-requires-else-waits_on-clause-may g c = record {
+  ask = c.start_among.ensures.may;
+  held = still_held _ _ _ _ _ c.requires.may.held (rw c.in-None-found.is at c.in_ok-found-in-Some.ensures.told);
+}

@@ -37,7 +37,7 @@ returns-clause-quiet g c =
     let t = g.T.Lines.lines c.args.self.now.lines.now in
     let before = c.loop-col.invariant.quiet in
     record {
-      from = omega (arith, c.requires.may.place.within, c.last-last.ensures.is);
+      from = omega (arith, c.requires.may.ask.place.within, c.last-last.ensures.is);
       within = omega (arith, c.last-last.ensures.is);
       quiet = λ k a b over.
           nothing_picked r t c.args.self.now.at k (reverse c.args.stack.now) c.allowed-choice.result c.allowed-choice.ensures.allowed c.args.self.now.floor c.args.looked (before k a (omega (arith, b, c.loop-col-test.false))) over;

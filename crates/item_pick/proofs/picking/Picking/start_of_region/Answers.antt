@@ -10,8 +10,8 @@ starts-init g c =
     record {
       whole = rw (c.len-left.ensures, take-length c.args.starts.now) refl;
       within = omega arith;
-      held = c.requires.held;
-      may = c.requires.may;
+      held = c.requires.may.held;
+      may = c.requires.may.ask;
     }
 
 pub starts-preserved : goal.starts-preserved

@@ -14,4 +14,4 @@ returns-in-Some c e t l known within held =
     let sought = c.args.search.now in
     let key = c.in-Some.ensures r t l known.line in
     inr (idle_quiet r (futile_after asked.parts.now.sets.now asked.budget) t (place_at l sought.at) c.in-Some.number key.1 key.0 (item_numbered c.args.id)
-    (c.is_idle.ensures e r known.tables) sought.floor sought.looked held)
+    (c.is_idle.ensures e r known.tables.firsts) sought.floor sought.looked held)

@@ -1,4 +1,4 @@
-use Rattle.item_pick.proofs.Common.{arith, ◌<◌, ℕ, List, get_or, length, subst, place_at, rules_by, IsQuiet, item_numbered, ListStands}
+use Rattle.item_pick.proofs.Common.{◌<◌, ℕ, List, get_or, length, subst, place_at, rules_by, IsQuiet, item_numbered, ListStands}
 use Rattle.item_pick.proofs.FutileLaws.{futile_after, futile_by}
 use Rattle.item_pick.proofs.SettledLaws.{still_by}
 use Rattle.item_pick.proofs.TableLaws.{idle_quiet}

@@ -7,11 +7,7 @@ returns c r tables row = record {
       (All-append (RowStands r) c.args.self.now.rows.items (c.args.row ∷ []) tables.rows
       (All-cons (RowStands r) c.args.row [] row (All-nil (RowStands r))));
   outs = tables.outs;
-  vains = tables.vains;
-  behinds = tables.behinds;
-  afters = tables.afters;
-  idles = tables.idles;
+  firsts = tables.firsts;
   shut = tables.shut;
-  reaches = tables.reaches;
   wanted = tables.wanted;
 }

@@ -1,5 +1,4 @@
-use Rattle.item_pick.proofs.Common.{◌<◌, ◌≤◌, ◌⊎◌, ℕ, get_or, length, reverse, IsNonDecreasing, Text, line_at, place_at, rules_in, IsPassed, item_numbered, HoldsLine}
-use Rattle.item_pick.specs.Tables.{AreKnown}
+use Rattle.item_pick.proofs.Common.{◌<◌, ◌≤◌, ◌⊎◌, ℕ, get_or, length, reverse, IsNonDecreasing, Text, line_at, place_at, rules_in, IsPassed, item_numbered, HoldsLine, AreKnown}
 use Rattle.item_pick.proofs.tables.Tables.next_open.Given as goal
 
 -- those that are below `left` have started or don't start, from `count` on
