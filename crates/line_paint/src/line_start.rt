@@ -1,6 +1,6 @@
 //! The start of a line: frames whose ends aren't known search them.
-ghost use Rattle.std.specs.Prelude.{reverse};
-ghost use Rattle.line_paint.specs.Common.{line_start_of, FramesCome, MaySearch};
+ghost use Rattle.std.specs.Prelude.{◌≡◌, reverse};
+ghost use Rattle.line_paint.specs.Common.{below_if, line_start_of, FramesCome, MaySearch};
 
 use crate::ends::Occasion;
 use crate::frames::top_searched;
@@ -28,11 +28,23 @@ pub(crate) fn line_start<S: Site>(
         None => Ok(None),
         Some((top, below)) => {
             let on = Occasion::LineStart { is_top };
-            if !may_search(site, !site.item(top.item).extend, below) {
+            if !goes_on(site, is_top, !site.item(top.item).extend, below) {
                 return top_searched(site, memory, on, stack, None, looked);
             }
             let rest = line_start(site, memory, false, below, looked)?;
             top_searched(site, memory, on, stack, rest, looked)
         }
+    }
+}
+
+/// Whether the frames below one search too, where that is wanted. The kinds of a stack are asked
+/// once, below its top.
+fn goes_on<S: Site>(site: &S, is_top: bool, wanted: bool, below: &Stack) -> bool
+    ensures { below_if (S.here site.now) result (reverse below.now) ≡ below_if (S.here site.now) wanted (reverse below.now) }
+{
+    if is_top {
+        may_search(site, wanted, below)
+    } else {
+        wanted
     }
 }
