@@ -1,5 +1,7 @@
 -- Places at which nothing starts.
 use Rattle.item_pick.proofs.Common.{◌≡◌, ◌∙◌, refl, ap, arith, ℕ, inl, Bool, false, List, [], ◌∷◌, length, Option, Some, None, option_map, take, ◌-◌, list_any, Place, ItemId, Looked, Text, line_at, begins_word, Frame, Done, looked_first, done, Rules, place_at, same_item, is_allowed, keyword_at, or_nothing, picked, goes_on, Choice, IsNextItem, item_numbered, IsQuietAt, admits, here_at, is_free, start_if_free, IsNextAt, drop, find, Nothing, keyword_to, NoItem}
+use Rattle.std.specs.Prelude.{Result, Ok, Err, IfOk, IsTrue}
+use Rattle.syn_base.specs.declared.want_of_memory.Memory.{Memory}
 use Rattle.keyword_table.specs.Candidates.{candidates}
 use Rattle.keyword_table.specs.Words.{word_end}
 use Rattle.item_pick.proofs.FoundLaws.{items_skip}
@@ -12,7 +14,7 @@ unfolding word_end
 no_end line c set e = rw e refl
 
 -- where no word begins there is no keyword
-no_keyword : (r : Rules) (test : ItemId → Bool) (line : List ℕ) (c : ℕ) → begins_word r.sets.keyword line c ≡ false → keyword_at r test line c ≡ None
+pub no_keyword : (r : Rules) (test : ItemId → Bool) (line : List ℕ) (c : ℕ) → begins_word r.sets.keyword line c ≡ false → keyword_at r test line c ≡ None
 no_keyword r test line c e = ap (keyword_to r test line c) (no_end line c r.sets.keyword e)
 
 find_none : (test : ItemId → Bool) → ((i : ItemId) → test i ≡ false) → (xs : List ItemId) → find test xs ≡ None
@@ -42,12 +44,11 @@ none_starts r t p floor k =
     quiet_by r t p floor k NoItem (none_admitted r (is_free r [] NoItem) (never_free r) (line_at t p.line) p.col (word_end (line_at t p.line) p.col r.sets.keyword))
     (omega arith, λ j a b. inl (never_free r (item_numbered j)))
 
--- nothing starts where no word begins and no item of the choice is left
-pub row_empty : (r : Rules) (t : Text) (p : Place) (floor : ℕ) (k : Looked) (choice : Choice) →
-    begins_word r.sets.keyword (line_at t p.line) p.col ≡ false → IsNextAt r t p floor k [] choice (length r.items) 0 → IsQuietAt r t choice floor k p
-row_empty r t p floor k choice word next =
-    quiet_by r t p floor k choice (no_keyword r (is_free r [] choice) (line_at t p.line) p.col word)
-    (next_items r t p floor [] choice k (length r.items) 0 next)
+-- nothing starts where no keyword does and no item of the choice is left
+pub row_empty : (r : Rules) (t : Text) (p : Place) (floor : ℕ) (k : Looked) (choice : Choice) → IsNextAt r t p floor k [] choice (length r.items) 0 → (none : Result Bool Memory) →
+    IfOk none (λ none. IsTrue none → keyword_at r (is_free r [] choice) (line_at t p.line) p.col ≡ None) → IfOk none (λ none. IsTrue none → IsQuietAt r t choice floor k p)
+row_empty r t p floor k choice next (Ok b) word = λ e. quiet_by r t p floor k choice (word e) (next_items r t p floor [] choice k (length r.items) 0 next)
+row_empty r t p floor k choice next (Err memory) word = tt
 
 -- so nothing is picked
 pub nothing_picked : (r : Rules) (t : Text) (at : Place) (c : ℕ) (stack : List Frame) (choice : Choice) →

@@ -55,10 +55,10 @@ impl Firsts {
     {
         let end = line.numbers.len();
         let reach = self.reach(asked, by)?;
-        if reach.anchored && from > 0 {
-            return Ok(from.max(end));
-        }
         for col in from..end {
+            if reach.anchored && col > 0 {
+                return Ok(from.max(end));
+            }
             let Some(number) = line.number_at(col) else {
                 return Ok(col);
             };

@@ -1,6 +1,6 @@
 //! Columns at which nothing starts, by what stands there.
-ghost use Rattle.std.specs.Prelude.{◌≡◌, ◌<◌, ℕ, [], length, reverse, IfOk, IsTrue, true};
-ghost use Rattle.item_pick.specs.Common.{Text, line_at, begins_word, Rules, place_at, Fits, IsQuietAt, IsQuietUntil, HoldsLine, ArePassed, AreSettled, ChoiceFits, MemoryStands, MayAsk, rules_by, MayBeAsked, MayPick};
+ghost use Rattle.std.specs.Prelude.{◌≡◌, ◌<◌, ℕ, [], length, reverse, IfOk, IsTrue, None, true};
+ghost use Rattle.item_pick.specs.Common.{Text, line_at, begins_word, Rules, place_at, keyword_at, is_free, Fits, IsQuietAt, IsQuietUntil, HoldsLine, ArePassed, AreSettled, ChoiceFits, IsNextAt, IsNumberAt, IsPlace, IsSound, MemoryStands, MayAsk, rules_by, MayBeAsked, MayPick};
 
 use crate::asked::Asked;
 use crate::choice::Choice;
@@ -12,10 +12,14 @@ use state_stack::Stack;
 use syn_base::{Lines, Looked, Memory, Place};
 
 impl PickMemory {
-    /// The first column from a place of a present line on at which something may start, at most the
-    /// line's length, where no item has started there: it stops where a word begins, and where what
-    /// stands there may begin an item. The line has to be entered (`enter_line`).
-    pub fn quiet_until<T: Lines>(&mut self, query: &Query<'_, T>) -> Result<usize, Memory>
+    /// The first column from a place of a present line on at which something may start, at most `end`
+    /// and the line's length, where no item has started there: it stops where a keyword may start, and
+    /// where what stands there may begin an item. The line has to be entered (`enter_line`).
+    pub fn quiet_until<T: Lines>(
+        &mut self,
+        query: &Query<'_, T>,
+        end: usize,
+    ) -> Result<usize, Memory>
         requires may { MayBeAsked T.lines query.now self.old }
         requires none_tried { query.now.tried.now ≡ [] }
         ensures quiet { IfOk result (IsQuietUntil (rules_by query.now.asked.now)
@@ -28,13 +32,73 @@ impl PickMemory {
         let tried = query.tried_items()?;
         query
             .picking(&tried)
-            .quiet_until(&query.state.stack, query.looked, self)
+            .quiet_until(&query.state.stack, query.looked, end, self)
     }
 }
 
 impl<T: Lines> Picking<'_, T> {
-    /// Whether it is known that no item of a choice starts at a column: no word begins there, and no item
-    /// of the row of the choice is left. Up to `settled`, and without it, those that wander don't start.
+    /// Whether it is known that no item of a choice is left at a column whose key has a number. Up to
+    /// `settled`, and without it, those that wander don't start.
+    fn no_item_left(
+        &self,
+        choice: Choice,
+        number: u16,
+        col: usize,
+        looked: Looked,
+        settled: usize,
+        memory: &mut PickMemory,
+    ) -> Result<bool, Memory>
+        requires none_tried { self.now.tried.now ≡ [] }
+        requires choice { ChoiceFits (rules_by self.now.asked.now) choice }
+        requires number { IsNumberAt (rules_by self.now.asked.now)
+            (line_at (T.lines self.now.lines.now) self.now.at.line) col number }
+        requires settled { col < settled → ArePassed (rules_by self.now.asked.now)
+            (T.lines self.now.lines.now) self.now.at.line choice self.now.floor looked true col }
+        requires may { MayPick T.lines self.now looked memory.old }
+        ensures none { IfOk result (λ none. IsTrue none → IsNextAt (rules_by self.now.asked.now)
+            (T.lines self.now.lines.now) (place_at self.now.at.line col) self.now.floor looked [] choice
+            (length (rules_by self.now.asked.now).items) 0) }
+        ensures may { MayAsk T.lines self.now memory.new }
+    {
+        let tables = &mut memory.tables;
+        if col < settled && tables.is_still(&memory.line, self.asked, choice, number, col) {
+            return Ok(true);
+        }
+        let search = Search {
+            at: col,
+            floor: self.floor,
+            looked,
+            tried: self.tried,
+            line: &memory.line,
+        };
+        let count = self.asked.parts.items.added();
+        let left = tables.left_in(self.asked, choice, number, &search, count)?;
+        Ok(left == 0)
+    }
+
+    /// Whether no keyword of a choice starts at a column.
+    fn no_keyword_starts(&self, choice: Choice, col: usize) -> Result<bool, Memory>
+        requires column { col < length (line_at (T.lines self.now.lines.now) self.now.at.line) }
+        requires none_tried { self.now.tried.now ≡ [] }
+        requires choice { ChoiceFits (rules_by self.now.asked.now) choice }
+        requires valid { IsSound self.now.asked.now }
+        requires place { IsPlace (T.lines self.now.lines.now) self.now.at }
+        ensures { IfOk result (λ none. IsTrue none → keyword_at (rules_by self.now.asked.now)
+            (is_free (rules_by self.now.asked.now) [] choice)
+            (line_at (T.lines self.now.lines.now) self.now.at.line) col ≡ None) }
+    {
+        if !begins_word(self.line(), col, &self.asked.parts.sets.keyword) {
+            return Ok(true);
+        }
+        let at = Place {
+            line: self.at.line,
+            col,
+        };
+        let here = Picking { at, ..*self };
+        Ok(here.keyword(choice)?.is_none())
+    }
+
+    /// Whether it is known that no item of a choice is left at a column, and no keyword starts there.
     fn is_quiet(
         &self,
         choice: Choice,
@@ -58,26 +122,13 @@ impl<T: Lines> Picking<'_, T> {
             Choice::NoItem => return Ok(true),
             _ => {}
         }
-        if begins_word(self.line(), col, &self.asked.parts.sets.keyword) {
-            return Ok(false);
-        }
         let Some(number) = memory.line.number_at(col) else {
             return Ok(false);
         };
-        let tables = &mut memory.tables;
-        if col < settled && tables.is_still(&memory.line, self.asked, choice, number, col) {
-            return Ok(true);
+        if !self.no_item_left(choice, number, col, looked, settled, memory)? {
+            return Ok(false);
         }
-        let search = Search {
-            at: col,
-            floor: self.floor,
-            looked,
-            tried: self.tried,
-            line: &memory.line,
-        };
-        let count = self.asked.parts.items.added();
-        let left = tables.left_in(self.asked, choice, number, &search, count)?;
-        Ok(left == 0)
+        self.no_keyword_starts(choice, col)
     }
 
     /// Up to which column it is known that no items of a choice start that wander.
@@ -96,11 +147,12 @@ impl<T: Lines> Picking<'_, T> {
         memory.tables.settled_until(choice, &search)
     }
 
-    /// The first column at which something may start on a stack.
+    /// The first column at which something may start on a stack, at most `end`.
     fn quiet_until(
         &self,
         stack: &Stack,
         looked: Looked,
+        end: usize,
         memory: &mut PickMemory,
     ) -> Result<usize, Memory>
         requires none_tried { self.now.tried.now ≡ [] }
@@ -113,14 +165,15 @@ impl<T: Lines> Picking<'_, T> {
     {
         let choice = self.allowed(stack);
         let last = self.last();
+        let end = end.min(last).max(self.at.col);
         let settled = self.settled_until(choice, looked, memory);
-        for col in self.at.col..last {
+        for col in self.at.col..end {
             let quiet = self.is_quiet(choice, col, looked, settled, memory)?;
             if !quiet {
                 return Ok(col);
             }
         }
-        Ok(last)
+        Ok(end)
     }
 }
 

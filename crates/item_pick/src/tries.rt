@@ -224,7 +224,10 @@ impl<T: Lines> Picking<'_, T> {
                 Tried::Here(m) => return Ok(Some(m)),
                 Tried::Not(places, lines) => {
                     memory.note(by, self, col, places, lines)?;
-                    col = memory.next_column(self, by, col + 1, *looked)?;
+                    col += 1;
+                    if col < end {
+                        col = memory.next_column(self, by, col, *looked)?;
+                    }
                 }
             }
         }

@@ -109,8 +109,9 @@ impl<T: Lines> Site for Painting<'_, T> {
         memory: &mut PickMemory,
         c: usize,
         at: &Standing,
+        end: usize,
     ) -> Result<usize, Memory> {
-        memory.quiet_until(&self.query(c, at))
+        memory.quiet_until(&self.query(c, at), end)
     }
 
     fn find_end(

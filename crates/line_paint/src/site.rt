@@ -61,8 +61,14 @@ pub(crate) trait Site {
             (picked (here self.now) c (standing_of at.now)))) };
 
     /// A column from one on, up to the line's end, before which nothing starts on the stack, where
-    /// nothing waits. No other line than those so far is looked at.
-    fn starts_from(&self, memory: &mut PickMemory, c: usize, at: &Standing) -> Result<usize, Memory>
+    /// nothing waits. None behind `end` is asked. No other line than those so far is looked at.
+    fn starts_from(
+        &self,
+        memory: &mut PickMemory,
+        c: usize,
+        at: &Standing,
+        end: usize,
+    ) -> Result<usize, Memory>
         requires memory { stands self.now memory.old }
         requires at { IsAt (here self.now) c at.now }
         requires none_tried { at.now.tried ≡ [] }

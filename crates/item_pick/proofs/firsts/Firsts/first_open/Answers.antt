@@ -1,12 +1,14 @@
-use Rattle.item_pick.proofs.Common.{◌<◌, ◌≤◌, ℕ, length, below_more, arith, line_at, rules_by, IsMissed}
+use Rattle.item_pick.proofs.Common.{◌<◌, ◌≤◌, ℕ, inl, inr, cases_lt, length, below_more, arith, line_at, rules_by, IsMissed}
 use Rattle.item_pick.proofs.TableLaws.{anchored_missed, vain_is_missed}
 use Rattle.item_pick.proofs.firsts.Firsts.first_open.Goals as goal
 
-pub returns-then-from-gt0-clause-missed : goal.returns-then-from-gt0-clause-missed
-returns-then-from-gt0-clause-missed c t l stands k from below =
-    let within : k < length c.args.line.now.numbers.items = omega (arith, from, below, c.max.ensures, c.len-end.ensures) in
-    anchored_missed (rules_by c.args.asked.now) t l c.args.line.now stands c.args.by.now.item (c.in_ok-reach.ensures.reach.anchored c.if-reach.true) c.args.by.now.pattern.now c.requires.first.first k
-    (omega (arith, c.if-from-gt0.true, from)) within
+pub returns-then-col-gt0-clause-missed : goal.returns-then-col-gt0-clause-missed
+returns-then-col-gt0-clause-missed c t l stands k from below = elim (cases_lt k c.loop-col.col) [
+  | inl here ↦ c.loop-col.invariant.missed t l stands k from here
+  | inr past ↦
+      anchored_missed (rules_by c.args.asked.now) t l c.args.line.now stands c.args.by.now.item (c.in_ok-reach.ensures.reach.anchored c.if-reach.true) c.args.by.now.pattern.now c.requires.first.first k
+      (omega (arith, c.if-col-gt0.true, past)) (omega (arith, from, below, c.max.ensures, c.len-end.ensures, c.loop-col-test.true))
+]
 
 pub loop-col-preserved-then-branch : goal.loop-col-preserved-then-branch
 loop-col-preserved-then-branch c =

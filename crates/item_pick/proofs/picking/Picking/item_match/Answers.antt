@@ -21,7 +21,16 @@ columns-init g c =
     }
 
 pub columns-preserved : goal.columns-preserved
-columns-preserved g c =
+columns-preserved g c = record {
+  whole = c.columns.invariant.whole
+      ∙ column_none _ c.last-last.result _ _ c.columns.col (c.columns.col + 1) (omega (arith, c.columns-test.true)) (omega arith) (rw c.in-Not.is at c.in_ok-tried.ensures.told);
+  held = still_held _ _ _ _ _ c.columns.invariant.held (rw c.in-Not.is at c.in_ok-tried.ensures.told);
+  may = c.note.ensures.may;
+  from = omega (arith, c.columns.invariant.from);
+}
+
+pub columns-preserved-then-col-end : goal.columns-preserved-then-col-end
+columns-preserved-then-col-end g c =
     let r = rules_by c.args.self.now.asked.now in
     let t = g.T.Lines.lines c.args.self.now.lines.now in
     let f = match_from r t c.args.by.now.item c.args.by.now.pattern.now c.args.self.now.at in
@@ -29,19 +38,18 @@ columns-preserved g c =
     let absent = rw c.in-Not.is at c.in_ok-tried.ensures.told in
     let here : c.columns.col ≤ c.last-last.result = omega (arith, c.columns-test.true) in
     let one : c.columns.col + 1 ≡ suc c.columns.col = omega arith in
-    let held = still_held c.columns.looked c.tried_from.new.looked c.args.self.now.at.line (f c.columns.col) _ c.columns.invariant.held absent in
     record {
       whole = c.columns.invariant.whole
           ∙ (column_none f c.last-last.result c.columns.looked c.tried_from.new.looked c.columns.col (c.columns.col + 1) here one absent
           ∙ skip_to f c.last-last.result c.tried_from.new.looked (c.columns.col + 1) c.in_ok-col-in-Not.col next.ahead
           (λ x a b h. next.idle x a b (omega (arith, h, c.last-last.ensures.is))));
-      held = held;
-      may = c.next_column-in-Not.ensures.may;
+      held = still_held c.columns.looked c.tried_from.new.looked c.args.self.now.at.line (f c.columns.col) _ c.columns.invariant.held absent;
+      may = c.next_column-then-col-end.ensures.may;
       from = omega (arith, next.ahead, c.columns.invariant.from);
     }
 
-pub next_column-requires-in-Not-clause-may : goal.next_column-requires-in-Not-clause-may
-next_column-requires-in-Not-clause-may g c =
+pub next_column-requires-then-col-end-clause-may : goal.next_column-requires-then-col-end-clause-may
+next_column-requires-then-col-end-clause-may g c =
     let r = rules_by c.args.self.now.asked.now in
     let t = g.T.Lines.lines c.args.self.now.lines.now in
     let f = match_from r t c.args.by.now.item c.args.by.now.pattern.now c.args.self.now.at in
@@ -51,8 +59,8 @@ next_column-requires-in-Not-clause-may g c =
       held = still_held c.columns.looked c.tried_from.new.looked c.args.self.now.at.line (f c.columns.col) _ c.columns.invariant.held absent;
     }
 
-pub columns-smaller : goal.columns-smaller
-columns-smaller g c = omega (arith, c.in_ok-col-in-Not.ensures.next.ahead, c.columns-test.true)
+pub columns-smaller-then-col-end : goal.columns-smaller-then-col-end
+columns-smaller-then-col-end g c = omega (arith, c.in_ok-col-in-Not.ensures.next.ahead, c.columns-test.true)
 
 pub returns-in-Here-clause-told : goal.returns-in-Here-clause-told
 returns-in-Here-clause-told g c =

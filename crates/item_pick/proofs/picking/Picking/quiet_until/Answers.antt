@@ -25,7 +25,7 @@ returns-then-not-quiet-clause-quiet g c =
     let before = c.loop-col.invariant.quiet in
     record {
       from = c.loop-col.invariant.from;
-      within = omega (arith, c.loop-col-test.true, c.last-last.ensures.is);
+      within = omega (arith, c.loop-col-test.true, c.min.ensures, c.max-end.ensures, c.requires.may.ask.place.within, c.last-last.ensures.is);
       quiet = λ k a b over.
           nothing_picked r t c.args.self.now.at k (reverse c.args.stack.now) c.allowed-choice.result c.allowed-choice.ensures.allowed c.args.self.now.floor c.args.looked (before k a b) over;
     }
@@ -37,8 +37,8 @@ returns-clause-quiet g c =
     let t = g.T.Lines.lines c.args.self.now.lines.now in
     let before = c.loop-col.invariant.quiet in
     record {
-      from = omega (arith, c.requires.may.ask.place.within, c.last-last.ensures.is);
-      within = omega (arith, c.last-last.ensures.is);
+      from = omega (arith, c.max-end.ensures);
+      within = omega (arith, c.min.ensures, c.max-end.ensures, c.requires.may.ask.place.within, c.last-last.ensures.is);
       quiet = λ k a b over.
           nothing_picked r t c.args.self.now.at k (reverse c.args.stack.now) c.allowed-choice.result c.allowed-choice.ensures.allowed c.args.self.now.floor c.args.looked (before k a (omega (arith, b, c.loop-col-test.false))) over;
     }
