@@ -4,7 +4,7 @@ ghost use Rattle.line_paint.specs.Common.{IsFromColumn, line_at, AreItemsBelow, 
 
 use crate::at_hand::AtHand;
 use crate::paint::painted_by;
-use crate::site::Site;
+use crate::site::{Site, UpTo};
 use crate::standing::Standing;
 use crate::{LineNote, PaintError};
 use item_pick::{Asked, Parts, PickMemory, Picked, Query};
@@ -104,13 +104,7 @@ impl<T: Lines> Site for Painting<'_, T> {
         memory.pick(&self.query(c, at))
     }
 
-    fn starts_from(
-        &self,
-        memory: &mut PickMemory,
-        c: usize,
-        at: &Standing,
-        end: usize,
-    ) -> Result<usize, Memory> {
+    fn starts_from(&self, memory: &mut PickMemory, c: usize, end: usize, at: &Standing) -> UpTo {
         memory.quiet_until(&self.query(c, at), end)
     }
 

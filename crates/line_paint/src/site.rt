@@ -1,5 +1,5 @@
 //! The line that is painted, and what the painter asks about it.
-ghost use Rattle.std.specs.Prelude.{◌≡◌, ◌<◌, ◌^◌, length, ◌≤◌, [], IfOk, true, Some, reverse};
+ghost use Rattle.std.specs.Prelude.{◌≡◌, ◌<◌, ◌^◌, length, [], IfOk, true, Some, reverse};
 ghost use Rattle.line_paint.specs.Common.{Here, this_line, item_of, no_externals, place_at, offset_place, is_region, end_in_line, search_from, IsEnd, looked_first, picked, IsPicked, IsQuietUntil, standing_of, IsAt};
 ghost use Rattle.item_pick.specs.declared.memory.PickMemory.{PickMemory as Kept};
 
@@ -13,6 +13,9 @@ use std::alloc::Global;
 use std::rc::Rc;
 use syn_base::{Externals, ItemId, Memory, Place};
 use syntax_set::{Item, ItemSet, Pattern};
+
+/// A column before which something is so.
+pub(crate) type UpTo = Result<usize, Memory>;
 
 /// The line that is painted, as the rules see it: where it stands, its items, what starts in it and
 /// where regions end. The latter two are told by what is kept of the syntax and known of the line.
@@ -62,13 +65,7 @@ pub(crate) trait Site {
 
     /// A column from one on, up to the line's end, before which nothing starts on the stack, where
     /// nothing waits. None behind `end` is asked. No other line than those so far is looked at.
-    fn starts_from(
-        &self,
-        memory: &mut PickMemory,
-        c: usize,
-        at: &Standing,
-        end: usize,
-    ) -> Result<usize, Memory>
+    fn starts_from(&self, memory: &mut PickMemory, c: usize, end: usize, at: &Standing) -> UpTo
         requires memory { stands self.now memory.old }
         requires at { IsAt (here self.now) c at.now }
         requires none_tried { at.now.tried ≡ [] }

@@ -63,6 +63,6 @@ pub(crate) fn quiet_until<S: Site>(
     if closes <= c {
         return Ok(c);
     }
-    let starts = site.starts_from(memory, c, standing, closes)?;
+    let starts = site.starts_from(memory, c, closes, standing)?;
     Ok(closes.min(starts))
 }

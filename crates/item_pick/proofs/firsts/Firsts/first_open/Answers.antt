@@ -1,4 +1,4 @@
-use Rattle.item_pick.proofs.Common.{◌<◌, ◌≤◌, ℕ, inl, inr, cases_lt, length, below_more, arith, line_at, rules_by, IsMissed}
+use Rattle.item_pick.proofs.Common.{◌≤◌, ℕ, inl, inr, cases_lt, below_more, arith, line_at, rules_by, IsMissed}
 use Rattle.item_pick.proofs.TableLaws.{anchored_missed, vain_is_missed}
 use Rattle.item_pick.proofs.firsts.Firsts.first_open.Goals as goal
 

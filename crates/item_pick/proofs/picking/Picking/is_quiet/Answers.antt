@@ -1,4 +1,4 @@
-use Rattle.item_pick.proofs.Common.{◌≡◌, sym, subst, place_at, rules_by, IsQuietAt}
+use Rattle.item_pick.proofs.Common.{sym, subst, place_at, rules_by, IsQuietAt}
 use Rattle.item_pick.proofs.QuietPlaceLaws.{none_starts, row_empty}
 use Rattle.item_pick.proofs.picking.Picking.is_quiet.Goals as goal
 
