@@ -1,6 +1,7 @@
 pub mod LastPartLaws
 pub mod EntryLaws
 pub mod PendingLaws
+pub mod PlainWays
 pub mod WayLaws
 pub mod Leading
 pub mod Counting

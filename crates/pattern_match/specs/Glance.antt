@@ -16,6 +16,7 @@ use Rattle.pattern_match.specs.declared.glance.Rest.TheVariants as rest
 use Rattle.pattern_match.specs.declared.glance.Saw.{Saw}
 use Rattle.pattern_match.specs.declared.glance.Saw.TheVariants.{Reached, InVain, TooFar}
 use Rattle.pattern_match.specs.declared.glance.Sight.{Sight}
+use Rattle.pattern_match.specs.declared.spent.Spent.{Spent}
 use Rattle.pattern_match.specs.declared.task.Turns.{Turns}
 use Rattle.pattern_match.specs.Spending.{spent_on}
 use Rattle.pattern_match.specs.Runs.{AreAllowed, IsRun}
@@ -64,12 +65,17 @@ marks_behind x (rest.Close' number from p r) w =
 marks_behind x (rest.CloseExternal' number from p r) w =
     followed (noted_external number from w) (marks_behind x r)
 
--- what these marks come to was seen, if it was: their first way, which stands at the place, or none
+-- these marks come to a first way, which stands at a place, or to none
+abbrev pub ComesTo : List Mark → Spent → Spent → Option Place → Type 0
+ComesTo marks old new (Some p) = (v : Way) × ((answer_from old.cost old.looked marks
+    ≡ record { way = Some v; cost = new.cost; looked = new.looked }) × (v.at ≡ p))
+ComesTo marks old new None = answer_from old.cost old.looked marks
+    ≡ record { way = None; cost = new.cost; looked = new.looked }
+
+-- that was seen, if it was
 abbrev pub IsSeen : List Mark → Sight → Sight → Saw → Type 0
-IsSeen marks old new Reached = (v : Way) × ((answer_from old.spent.cost old.spent.looked marks
-    ≡ record { way = Some v; cost = new.spent.cost; looked = new.spent.looked }) × (v.at ≡ new.at))
-IsSeen marks old new InVain = answer_from old.spent.cost old.spent.looked marks
-    ≡ record { way = None; cost = new.spent.cost; looked = new.spent.looked }
+IsSeen marks old new Reached = ComesTo marks old.spent new.spent (Some new.at)
+IsSeen marks old new InVain = ComesTo marks old.spent new.spent None
 IsSeen marks old new TooFar = Unit {0}
 
 -- an atom that asks for the text of a group

@@ -12,6 +12,7 @@ pub mod Takes
 pub mod Entries
 pub mod Ways
 pub mod Machine
+pub mod Noteless
 pub mod Spending
 pub mod Heights
 pub mod Search

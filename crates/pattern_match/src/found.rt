@@ -28,7 +28,7 @@ pub(crate) fn found_match<T: Lines, I: Copy>(
 }
 
 /// The match of a way that noted nothing. It takes no memory.
-fn plain_match(alloc: Global, start: Place, at: Place) -> Result<Match, Memory>
+pub(crate) fn plain_match(alloc: Global, start: Place, at: Place) -> Result<Match, Memory>
     ensures { (t : Text) → IfOk result (λ found. found ≡ match_of t start (way_from at)) }
 {
     Ok(Match {

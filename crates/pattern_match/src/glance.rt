@@ -1,6 +1,6 @@
 //! A short look from a place: where a node and what follows it lead is told with no list of ways, as
 //! long as few nodes are visited.
-ghost use Rattle.std.specs.Prelude.{◌≡◌, ◌≤◌, ◌+◌, ◌<◌, ◌^◌, None, IsTrue, IsFalse, false, length, pos, true};
+ghost use Rattle.std.specs.Prelude.{◌≡◌, ◌≤◌, ◌+◌, ◌<◌, ◌^◌, None, IfSome, IsTrue, IsFalse, false, length, pos, true};
 ghost use Rattle.syn_base.specs.Looked.{one_line};
 ghost use Rattle.match_rules.specs.Attempt.{answer_from};
 ghost use Rattle.match_rules.specs.Counts.{is_spent};
@@ -8,7 +8,7 @@ ghost use Rattle.match_rules.specs.Marks.{followed};
 ghost use Rattle.match_rules.specs.Visits.{visits};
 ghost use Rattle.match_rules.specs.Ways.{IsPlaceOf, Way, line_at};
 ghost use Rattle.pattern_match.specs.Contexts.{context_in};
-ghost use Rattle.pattern_match.specs.Glance.{AreTaken, GoesOn, IsAtomSeen, IsSeen, Stands, asks_for_group, marks_behind, stops_of, turn_of, turns_behind, turns_of};
+ghost use Rattle.pattern_match.specs.Glance.{AreTaken, ComesTo, GoesOn, IsAtomSeen, IsSeen, Stands, asks_for_group, marks_behind, stops_of, turn_of, turns_behind, turns_of};
 ghost use Rattle.pattern_match.specs.Search.{wanted_marks};
 ghost use Rattle.pattern_match.specs.Spending.{spent_times};
 ghost use Rattle.pattern_match.specs.Steps.{atom_of, shape_of};
@@ -101,6 +101,42 @@ pub(crate) fn is_in_vain<T: Lines>(
             true
         }
         _ => false,
+    }
+}
+
+/// What a short look tells of a node from a place: where its first way stands, or that it has none;
+/// nothing, where it doesn't see that. The ticks up to there are spent.
+pub(crate) fn first_way<T: Lines>(
+    lines: &T,
+    context: &Context<'_>,
+    step: &Step,
+    start: Place,
+    spent: &mut Spent,
+) -> Option<Option<Place>>
+    requires on_text { IsPlaceOf (T.lines lines.now) start }
+    requires within { spent.old.cost ≤ spent.old.budget }
+    ensures seen { IfSome result (λ found. (w : Way) → w.at ≡ start →
+        ComesTo (visits (context_in (T.lines lines.now) context.now) (shape_of step.now) w)
+        spent.old spent.new found) }
+    ensures budget { spent.new.budget ≡ spent.old.budget }
+    ensures within { spent.new.cost ≤ spent.new.budget }
+{
+    let mut sight = Sight {
+        at: start,
+        left: NODES,
+        spent: *spent,
+    };
+    let saw = look_at(lines, context, step, &Rest::End, &mut sight);
+    match saw {
+        Saw::Reached => {
+            *spent = sight.spent;
+            Some(Some(sight.at))
+        }
+        Saw::InVain => {
+            *spent = sight.spent;
+            Some(None)
+        }
+        Saw::TooFar => None,
     }
 }
 

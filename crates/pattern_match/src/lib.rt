@@ -18,6 +18,7 @@ mod found;
 mod glance;
 mod look;
 mod made;
+mod noteless;
 mod parts;
 mod programs;
 mod ready;

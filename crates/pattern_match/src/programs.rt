@@ -8,6 +8,8 @@ ghost use Rattle.match_rules.specs.Visits.{visits};
 ghost use Rattle.match_rules.specs.Attempt.{answer_of};
 ghost use Rattle.pattern_screens.specs.FirstAtoms.{first_cost};
 ghost use Rattle.pattern_match.specs.Contexts.{context_in};
+ghost use Rattle.pattern_match.specs.Noteless.{is_noteless};
+ghost use Rattle.pattern_match.specs.Programs.{IsReady};
 ghost use Rattle.pattern_match.specs.Screens.{IsVainAt, passes_at};
 ghost use Rattle.pattern_match.specs.StandsFor.{StandsFor};
 ghost use Rattle.pattern_match.specs.Steps.{shape_of};
@@ -16,8 +18,9 @@ ghost use Rattle.pattern_match.specs.OnText.{AnswersStayOnText};
 
 use crate::answer::Attempt;
 use crate::context::Context;
-use crate::found::found_match;
-use crate::glance::is_in_vain;
+use crate::found::{found_match, plain_match};
+use crate::glance::first_way;
+use crate::noteless::is_noteless;
 use crate::parts::fails_at_once;
 use crate::ready::ready;
 use crate::screens::some_first_fits;
@@ -39,9 +42,29 @@ struct Program {
     tree: Tree,
     step: Step,
     screen_cost: u64,
+    /// Its ways note nothing, so a place tells all of one.
+    plain: bool,
 }
 
 impl Program {
+    /// Makes a pattern ready.
+    fn new(alloc: Global, tree: &Tree) -> Result<Program, Memory>
+        requires { HasNumbers tree.now.node }
+        ensures ready { IfOk result IsReady }
+        ensures tree { IfOk result (λ program. program.tree ≡ tree.now) }
+    {
+        let step = ready(alloc, &tree.node)?;
+        let screen_cost = screen_cost(tree)?;
+        let plain = is_noteless(&tree.node);
+        let tree = tree.copy(alloc)?;
+        Ok(Program {
+            tree,
+            step,
+            screen_cost,
+            plain,
+        })
+    }
+
     /// Tries the pattern at a place, with no regard to what it says of case.
     fn attempt<'p, T: Lines>(
         &'p self,
@@ -55,13 +78,29 @@ impl Program {
         requires place { IsPlaceOf (T.lines lines.now) start }
         requires numbers { HasNumbers self.now.tree.node }
         requires stands { StandsFor (shape_of self.now.step) self.now.tree.node }
+        requires plain { self.now.plain ≡ is_noteless self.now.tree.node }
         requires budget { 1 ≤ budget }
         ensures { let x = context_in (T.lines lines.now) context.now in
             IfOk result (λ told. told ≡ answered budget (T.lines lines.now) start
             (answer_of (visits x self.now.tree.node (way_from start)))) }
     {
-        let ways = &mut scratch.ways;
-        attempt_of(alloc, ways, &self.step, lines, context, start, budget)
+        let mut spent = Spent::nothing(budget);
+        match first_way(lines, context, &self.step, start, &mut spent) {
+            Some(None) => Ok(Attempt::Absent(looked_or_start(lines, spent.looked, start))),
+            Some(Some(at)) if self.plain => {
+                let looked = looked_or_start(lines, spent.looked, start);
+                Ok(Attempt::Found(plain_match(alloc, start, at)?, looked))
+            }
+            _ => searched(
+                alloc,
+                &mut scratch.ways,
+                &self.step,
+                lines,
+                context,
+                start,
+                budget,
+            ),
+        }
     }
 }
 
@@ -123,14 +162,7 @@ impl Programs {
     {
         let alloc = *self.programs.allocator();
         let number = self.programs.len() as u32;
-        let step = ready(alloc, &tree.node)?;
-        let screen_cost = screen_cost(tree)?;
-        let tree = tree.copy(alloc)?;
-        self.programs.push(Program {
-            tree,
-            step,
-            screen_cost,
-        })?;
+        self.programs.push(Program::new(alloc, tree)?)?;
         Ok(PatternId(number))
     }
 
@@ -226,8 +258,8 @@ pub fn answers_stay_on_the_text()
     ensures { (trees : List PatternTree) → AnswersStayOnText trees }
 {}
 
-/// Tries a node at a place.
-fn attempt_of<'p, T: Lines>(
+/// Tries a node at a place, way by way.
+fn searched<'p, T: Lines>(
     alloc: Global,
     ways: &mut Ways<Task<'p>>,
     step: &'p Step,
@@ -244,9 +276,6 @@ fn attempt_of<'p, T: Lines>(
         (answer_of (visits x (shape_of step.now) (way_from start)))) }
 {
     let mut spent = Spent::nothing(budget);
-    if is_in_vain(lines, context, step, start, None, &mut spent) {
-        return Ok(Attempt::Absent(looked_or_start(lines, spent.looked, start)));
-    }
     ways.begin(start);
     if let Some(looked) = fails_at_once(lines, context, ways, step) {
         return Ok(Attempt::Absent(looked));
