@@ -88,9 +88,3 @@ module _ (r : Rules) (t : Text) (l : ℕ) (i : ItemId) (pattern : Pattern) (c : 
     by_may : starts_at t pattern (place_at l at) found ≡ false → (b : Bool) → may_start_at pattern (length (line_at t l)) at c ≡ b → IsIdle (match_from r t i pattern (place_at l at)) k c
     by_may s false e = ap (looked_first (Some k)) (no_start r t i pattern (place_at l at) c e)
     by_may s true e = by_found found refl s e
-
-  pub told_settled : (above below : ℕ) →
-      ((at : ℕ) → above ≤ at → at < below → starts_at t pattern (place_at l at) found ≡ false) →
-      IsSettled r t l i pattern above below looked c
-  told_settled above below h at a b k _ held =
-      by_may at k held (h at a b) (may_start_at pattern (length (line_at t l)) at c) refl

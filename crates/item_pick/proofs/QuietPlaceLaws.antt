@@ -1,21 +1,41 @@
 -- Places at which nothing starts.
-use Rattle.item_pick.proofs.Common.{◌≡◌, ◌∙◌, refl, ap, arith, ℕ, inl, Bool, false, List, [], ◌∷◌, length, Option, Some, None, option_map, take, ◌-◌, list_any, Place, ItemId, Looked, Text, line_at, begins_word, Frame, Done, looked_first, done, Rules, place_at, same_item, is_allowed, keyword_at, or_nothing, picked, goes_on, Choice, IsNextItem, item_numbered, IsQuietAt, admits, here_at, is_free, start_if_free, IsNextAt, drop, find, Nothing, keyword_to, NoItem}
-use Rattle.std.specs.Prelude.{Result, Ok, Err, IfOk, IsTrue}
+use Rattle.item_pick.proofs.Common.{◌≡◌, ◌∙◌, refl, ap, arith, ℕ, inl, Bool, false, List, [], ◌∷◌, length, Option, Some, None, option_map, take, ◌-◌, list_any, true, nat_tests, Place, ItemId, Looked, Text, line_at, begins_word, Sets, IsNumberAt, last_of, key_numbered, zero, suc, slice_get, subst, Frame, Done, looked_first, done, Rules, place_at, same_item, is_allowed, keyword_at, or_nothing, picked, goes_on, Choice, IsNextItem, item_numbered, IsQuietAt, admits, here_at, is_free, start_if_free, IsNextAt, drop, find, Nothing, keyword_to, NoItem}
+use Rattle.std.specs.Prelude.{Result, Ok, Err, IfOk, IsTrue, ◌&&◌, ◌||◌, ◌==◌, not}
 use Rattle.syn_base.specs.declared.want_of_memory.Memory.{Memory}
 use Rattle.keyword_table.specs.Candidates.{candidates}
-use Rattle.keyword_table.specs.Words.{word_end}
+use Rattle.keyword_table.specs.Words.{has_at, word_end}
+use Rattle.std.specs.Option.{option_map_or}
+use Rattle.std.proofs.Math.Bool.{and-false}
+use Rattle.char_class.specs.CharSet.{set_has}
+use Rattle.match_rules.specs.Atoms.{has_keyword}
+use Rattle.pattern_screens.specs.Keys.{last_in}
+use Rattle.pattern_screens.specs.declared.key.Key.{Key}
+use Rattle.pattern_screens.specs.declared.key.Last.TheVariants as last
 use Rattle.item_pick.proofs.FoundLaws.{items_skip}
 use Rattle.item_pick.proofs.PickLaws.{allowed_as, among, no_word}
 use Rattle.item_pick.proofs.QuietLaws.{earlier}
-use Rattle.item_pick.proofs.TableLaws.{next_items, not_free}
+use Rattle.item_pick.proofs.TableLaws.{next_items}
 
 no_end : (line : List ℕ) (c : ℕ) (set : List ℕ) → begins_word set line c ≡ false → word_end line c set ≡ None
 unfolding word_end
 no_end line c set e = rw e refl
 
--- where no word begins there is no keyword
-pub no_keyword : (r : Rules) (test : ItemId → Bool) (line : List ℕ) (c : ℕ) → begins_word r.sets.keyword line c ≡ false → keyword_at r test line c ≡ None
-no_keyword r test line c e = ap (keyword_to r test line c) (no_end line c r.sets.keyword e)
+keyword_last : (sets : Sets) (o : Option ℕ) → last_of (has_keyword sets o) ≡ last.Keyword → option_map_or (set_has sets.keyword) o false ≡ true
+keyword_last sets None e = absurd (cc)
+keyword_last sets (Some x) e = elim (set_has sets.keyword x) as (λ b. last_of b ≡ last.Keyword → b ≡ true) [ true ↦ λ _. refl | false ↦ λ e. absurd (cc) ] e
+
+-- behind a keyword character no word begins
+none_begins : (sets : Sets) (line : List ℕ) (c : ℕ) → last_in sets line c ≡ last.Keyword → begins_word sets.keyword line c ≡ false
+none_begins sets line zero e = absurd (cc)
+none_begins sets line (suc c) e =
+    let back : suc c - 1 ≡ c = omega arith in
+    let later : (suc c == 0) ≡ false = grind (arith, nat_tests) in
+    rw (ap (has_at sets.keyword line) back ∙ keyword_last sets (slice_get line c) e, later) (and-false (has_at sets.keyword line (suc c)))
+
+-- so there is no keyword
+pub no_keyword : (r : Rules) (test : ItemId → Bool) (line : List ℕ) (c number : ℕ) → IsNumberAt r line c number → (key_numbered number).last ≡ last.Keyword → keyword_at r test line c ≡ None
+no_keyword r test line c number key after =
+    ap (keyword_to r test line c) (no_end line c r.sets.keyword (none_begins r.sets line c (subst (λ (k : Key). k.last ≡ last.Keyword) key.1 after)))
 
 find_none : (test : ItemId → Bool) → ((i : ItemId) → test i ≡ false) → (xs : List ItemId) → find test xs ≡ None
 find_none test none [] = refl
@@ -36,7 +56,7 @@ module _ (r : Rules) (t : Text) (p : Place) (floor : ℕ) (k : Looked) (choice :
       ∙ items_skip (start_if_free r t p floor [] choice) k (length r.items) 0 (length r.items) (omega arith) e.idle
 
 never_free : (r : Rules) (i : ItemId) → is_free r [] NoItem i ≡ false
-never_free r i = not_free (list_any (same_item i) []) false refl
+never_free r i = refl
 
 -- nothing starts where nothing is allowed
 pub none_starts : (r : Rules) (t : Text) (p : Place) (floor : ℕ) (k : Looked) → IsQuietAt r t NoItem floor k p

@@ -5,9 +5,6 @@ use Rattle.paint_rules.specs.Rules.{Attempt}
 use Rattle.syn_base.proofs.HullLaws.{hull_assoc, hull_comm, hull_self}
 use Rattle.item_pick.proofs.MatchLaws.{match_absent, no_start}
 
-pub holds_itself : (l : ℕ) → HoldsLine (one_line (pos l)) l
-holds_itself l = hull_self (one_line (pos l))
-
 -- lines looked at stay among those looked at
 wider : (j n : Looked) (l : ℕ) → HoldsLine j l → HoldsLine (hull_of j n) l
 wider j n l h =

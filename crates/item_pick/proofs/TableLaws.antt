@@ -4,7 +4,7 @@ use Rattle.syn_base.specs.declared.want_of_memory.Memory.{Memory}
 use Rattle.syntax_set.specs.declared.item.Offset.{Offset}
 use Rattle.match_rules.specs.Atoms.{has_keyword}
 use Rattle.pattern_screens.specs.declared.key.Key.{Key}
-use Rattle.std.proofs.lemmas.Bool.{and_parts as both_true}
+use Rattle.std.proofs.lemmas.Bool.{and_left, and_parts as both_true, and_right}
 use Rattle.item_pick.specs.declared.line_known.LineKnown.{LineKnown}
 use Rattle.item_pick.specs.Tables.{IsEnough, passes}
 use Rattle.item_pick.proofs.BehindLaws.{futile_vain}
@@ -121,22 +121,14 @@ next_at r law t p number floor k held key tried choice list stands left next wit
   ],
 )
 
-pub not_free : (tried admitted : Bool) → admitted ≡ false → (not tried && admitted) ≡ false
-not_free true admitted e = refl
-not_free false admitted e = e
-
-not_again : (tried admitted : Bool) → tried ≡ true → (not tried && admitted) ≡ false
-not_again true admitted e = refl
-not_again false admitted e = absurd (cc)
-
 passed_by : (r : Rules) (t : Text) (p : Place) (floor : ℕ) (k : Looked) (tried : List ItemId) (choice : Choice) (i : ItemId) →
     (b : Bool) → admits r choice i ≡ b → (admits r choice i ≡ true → IsPassed r t p floor k tried i) →
     (is_free r tried choice i ≡ false) ⊎ IsQuiet r t p floor k i
 passed_by r t p floor k tried choice i true e passed = elim (passed e) [
-  | inl again ↦ inl (not_again (list_any (same_item i) tried) (admits r choice i) again)
+  | inl again ↦ inl (and_left (not (list_any (same_item i) tried)) (admits r choice i) (ap not again))
   | inr quiet ↦ inr quiet
 ]
-passed_by r t p floor k tried choice i false e passed = inl (not_free (list_any (same_item i) tried) (admits r choice i) e)
+passed_by r t p floor k tried choice i false e passed = inl (and_right (not (list_any (same_item i) tried)) (admits r choice i) e)
 
 -- what is left of the admitted items is what is left to try
 pub next_items : (r : Rules) (t : Text) (p : Place) (floor : ℕ) (tried : List ItemId) (choice : Choice) (k : Looked) (left next : ℕ) →
@@ -275,12 +267,6 @@ rises_by n list more e h = subst (RisesTo n) (sym e) (record {
   rises = IsNonDecreasingBy-push (λ x. x) list n h.rises (λ d some. h.within (length list - 1) d (omega (arith, some)));
   within = All-append (λ x. x ≤ n) list (n ∷ []) h.within (All-cons (λ x. x ≤ n) n [] (omega arith) (All-nil (λ x. x ≤ n)));
 })
-
-pub is_below : (a b : ℕ) → nat_lt a b ≡ true → a < b
-is_below a b e = grind (arith, nat_tests)
-
-pub isnt_below : (a b : ℕ) → nat_lt a b ≡ false → b ≤ a
-isnt_below a b e = grind (arith, nat_tests)
 
 -- what holds of the items of a list from a place on, up to where they aren't below `left` any more,
 -- holds of all numbers from `next` on that the list has, where those before are below `next`

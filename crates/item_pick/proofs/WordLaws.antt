@@ -1,22 +1,17 @@
 -- The items that words start are there.
 use Rattle.item_pick.proofs.Common.{◌≡◌, sym, subst, ℕ, ◌<◌, Bool, List, [], ◌∷◌, Result, Ok, Err, reverse, IfOk, All, reverse-append, All-append, All-cons, All-nil, ItemId, All-filter, All-head, All-map, All-tail}
 use Rattle.std.specs.Prelude.{filter}
+use Rattle.region_ends.proofs.CommonLaws.{all_reverse}
 use Rattle.syn_base.specs.declared.want_of_memory.Memory.{Memory}
 use Rattle.keyword_table.specs.Candidates.{candidates, folded, has_fold, has_word, last_first}
 use Rattle.keyword_table.specs.ItemNumbers.{AreItemsBelow}
 use Rattle.keyword_table.specs.declared.table.Definition.{Definition}
 
-All-reverse : {A : Type 0} (P : A → Type 0) (xs : List A) → All P xs → All P (reverse xs)
-All-reverse {A} P [] h = All-nil P
-All-reverse {A} P (x ∷ xs) h =
-    subst (All P) (sym (reverse-append (x ∷ []) xs))
-    (All-append P (reverse xs) (x ∷ []) (All-reverse P xs (All-tail P x xs h)) (All-cons P x [] (All-head P x xs h) (All-nil P)))
-
 below_last_first : (n : ℕ) (test : Definition → Bool) (definitions : List Definition) → AreItemsBelow n definitions → All (λ (i : ItemId). i.0 < n) (last_first test definitions)
 below_last_first n test definitions h =
     let P : Definition → Type 0 = λ definition. definition.item.0 < n in
     All-map (λ (i : ItemId). i.0 < n) (λ (definition : Definition). definition.item) (reverse (filter test definitions))
-    (All-reverse P (filter test definitions) (All-filter test P definitions h))
+    (all_reverse P (filter test definitions) (All-filter test P definitions h))
 
 pub below_candidates : (n : ℕ) (definitions : List Definition) (word : List ℕ) → AreItemsBelow n definitions → All (λ (i : ItemId). i.0 < n) (candidates definitions word)
 unfolding candidates

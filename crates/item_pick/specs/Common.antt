@@ -1,7 +1,6 @@
 -- The names that the clauses of this crate cite, passed on from one place. Declares nothing.
 pub use Rattle.keyword_table.specs.Candidates.{candidates}
 pub use Rattle.keyword_table.specs.ItemNumbers.{AreItemsBelow}
-pub use Rattle.keyword_table.specs.Words.{begins_word}
 pub use Rattle.match_rules.specs.Ways.{Text, is_after, line_at}
 pub use Rattle.paint_rules.specs.Close.{is_body, is_region}
 pub use Rattle.paint_rules.specs.EndInLine.{end_in_line, for_ends}
@@ -12,8 +11,6 @@ pub use Rattle.paint_rules.specs.Pick.{container_of, is_allowed, items_below, ke
 pub use Rattle.paint_rules.specs.Rules.{Cause, Rules, attempted, item_of, no_externals, place_at, same_item}
 pub use Rattle.paint_rules.specs.States.{Fits, StateFits, WaitFits}
 pub use Rattle.pattern_needs.specs.LineNeeds.{IsLineNeedOf}
-pub use Rattle.pattern_screens.specs.Failing.{fails_at}
-pub use Rattle.pattern_screens.specs.Following.{fails_after}
 pub use Rattle.region_ends.specs.Attempts.{IsAttempted}
 pub use Rattle.region_ends.specs.KeyAnswers.{AnswersStand}
 pub use Rattle.region_ends.specs.Searches.{IsEnd, search_of}

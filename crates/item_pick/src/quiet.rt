@@ -1,20 +1,23 @@
 //! Columns at which nothing starts, by what stands there.
 ghost use Rattle.std.specs.Prelude.{◌≡◌, ◌<◌, ℕ, [], length, reverse, IfOk, IsTrue, None, true};
-ghost use Rattle.item_pick.specs.Common.{Text, line_at, begins_word, Rules, place_at, keyword_at, is_free, Fits, IsQuietAt, IsQuietUntil, HoldsLine, ArePassed, AreSettled, ChoiceFits, IsNextAt, IsNumberAt, IsPlace, IsSound, MemoryStands, MayAsk, rules_by, MayBeAsked, MayPick};
+ghost use Rattle.item_pick.specs.Common.{Text, line_at, Rules, place_at, keyword_at, is_free, Fits, IsQuietAt, IsQuietUntil, HoldsLine, ArePassed, AreSettled, ChoiceFits, IsNextAt, IsNumberAt, IsPlace, IsSound, MemoryStands, MayAsk, rules_by, MayBeAsked, MayPick};
+ghost use Rattle.pattern_screens.specs.Keys.{key_numbered};
+ghost use Rattle.pattern_screens.specs.declared.key.Last.TheVariants as last;
 
 use crate::asked::Asked;
 use crate::choice::Choice;
 use crate::memory::PickMemory;
 use crate::picking::{Picking, Query};
 use crate::runs::Search;
-use char_class::CharSet;
+use pattern_screens::{KEYS, Key, Last};
 use state_stack::Stack;
 use syn_base::{Lines, Looked, Memory, Place};
 
 impl PickMemory {
-    /// The first column from a place of a present line on at which something may start, at most `end`
-    /// and the line's length, where no item has started there: it stops where a keyword may start, and
-    /// where what stands there may begin an item. The line has to be entered (`enter_line`).
+    /// The first column from a place of a present line on at which something may start, where no item has
+    /// started there: it stops where a keyword starts, and where what stands there may begin an item. None
+    /// is sought from `end` or the line's end on; the place itself where that lies before it. The line has
+    /// to be entered (`enter_line`).
     pub fn quiet_until<T: Lines>(
         &mut self,
         query: &Query<'_, T>,
@@ -76,8 +79,10 @@ impl<T: Lines> Picking<'_, T> {
         Ok(left == 0)
     }
 
-    /// Whether no keyword of a choice starts at a column.
-    fn no_keyword_starts(&self, choice: Choice, col: usize) -> Result<bool, Memory>
+    /// Whether no keyword of a choice starts at a column whose key has a number.
+    fn no_keyword_starts(&self, choice: Choice, number: u16, col: usize) -> Result<bool, Memory>
+        requires number { IsNumberAt (rules_by self.now.asked.now)
+            (line_at (T.lines self.now.lines.now) self.now.at.line) col number }
         requires column { col < length (line_at (T.lines self.now.lines.now) self.now.at.line) }
         requires none_tried { self.now.tried.now ≡ [] }
         requires choice { ChoiceFits (rules_by self.now.asked.now) choice }
@@ -87,7 +92,7 @@ impl<T: Lines> Picking<'_, T> {
             (is_free (rules_by self.now.asked.now) [] choice)
             (line_at (T.lines self.now.lines.now) self.now.at.line) col ≡ None) }
     {
-        if !begins_word(self.line(), col, &self.asked.parts.sets.keyword) {
+        if is_after_keyword(number) {
             return Ok(true);
         }
         let at = Place {
@@ -128,7 +133,7 @@ impl<T: Lines> Picking<'_, T> {
         if !self.no_item_left(choice, number, col, looked, settled, memory)? {
             return Ok(false);
         }
-        self.no_keyword_starts(choice, col)
+        self.no_keyword_starts(choice, number, col)
     }
 
     /// Up to which column it is known that no items of a choice start that wander.
@@ -147,7 +152,7 @@ impl<T: Lines> Picking<'_, T> {
         memory.tables.settled_until(choice, &search)
     }
 
-    /// The first column at which something may start on a stack, at most `end`.
+    /// The first column at which something may start on a stack; none is sought from `end` on.
     fn quiet_until(
         &self,
         stack: &Stack,
@@ -177,10 +182,10 @@ impl<T: Lines> Picking<'_, T> {
     }
 }
 
-/// Whether a word begins at a column.
-fn begins_word(line: &[char], col: usize, set: &CharSet) -> bool
-    requires { col < length line.now }
-    ensures { result ≡ begins_word set.now line.now col }
+/// Whether a keyword character stands before a column whose key has a number.
+#[inline(always)]
+fn is_after_keyword(number: u16) -> bool
+    ensures { IsTrue result → (key_numbered number).last ≡ last.Keyword }
 {
-    set.has(line[col]) && (col == 0 || !set.has(line[col - 1]))
+    number < KEYS && Key::numbered(number).last == Last::Keyword
 }

@@ -20,7 +20,7 @@ use syntax_set::{ItemKind, Pattern};
 
 /// A region's start that matched, and the region's end where that was found.
 #[derive(Drop)]
-struct Opening<'a> {
+struct Begun<'a> {
     item: ItemId,
     pattern: &'a Pattern,
     m: Match,
@@ -80,7 +80,7 @@ impl Standing {
     }
 
     /// A region starts.
-    fn start_region<S: Site>(&mut self, site: &S, c: usize, region: Opening) -> Result<(), Stop>
+    fn start_region<S: Site>(&mut self, site: &S, c: usize, region: Begun) -> Result<(), Stop>
         requires is_item { region.item.0 < length (S.here site.now).rules.items }
         requires stands { Stands (S.here site.now) c self.old }
         ensures leads { Leads result self.old self.new
@@ -88,7 +88,7 @@ impl Standing {
             (ARegion region.entry.item region.entry.pattern.now region.entry.m region.entry.end)) }
         ensures stands { IfOk result (λ _. Stands (S.here site.now) c self.new) }
     {
-        let Opening {
+        let Begun {
             item,
             pattern,
             m,
@@ -160,7 +160,7 @@ impl Standing {
                 end,
             } => match &site.item(item).kind {
                 ItemKind::Region { starts, .. } => {
-                    let region = Opening {
+                    let region = Begun {
                         item,
                         pattern: starts.get(start),
                         m,
