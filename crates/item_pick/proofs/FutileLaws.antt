@@ -1,5 +1,6 @@
 -- An attempt that is known to fail finds nothing, within the budget.
-use Rattle.item_pick.proofs.Common.{◌≡◌, ap, refl, ℕ, ◌+◌, ◌≤◌, Bool, true, false, length, not, nat_lt, option_map, Sets, PatternTree, Text, line_at, no_externals, place_at, context_of, is_cheap_behind, fails, fails_after, takes_first, key_numbered, key_of, two_lines, rest_fails, AreWithin, IsFutile, IsFutileBy, place, lines_seen, IsInVain}
+use Rattle.std.proofs.lemmas.Bool.{not-false}
+use Rattle.item_pick.proofs.Common.{◌≡◌, ap, ℕ, ◌+◌, ◌≤◌, Bool, true, false, length, nat_lt, option_map, Sets, PatternTree, Text, line_at, no_externals, place_at, context_of, is_cheap_behind, fails, fails_after, takes_first, key_numbered, key_of, two_lines, rest_fails, AreWithin, IsFutile, IsFutileBy, place, lines_seen, IsInVain}
 use Rattle.match_rules.specs.Attempt.{attempt}
 use Rattle.paint_rules.specs.Syntax.{attempt_by}
 use Rattle.pattern_match.specs.Answers.{match_of}
@@ -14,16 +15,12 @@ pub futile_in : (sets : Sets) (budget : ℕ) (tree : PatternTree) (t : Text) (ig
 unfolding attempt_by
 futile_in sets budget tree t ignore l c before h = (ap (option_map (match_of t (place_at l c))) h.way, h.cost, h.looked)
 
-not_false : (b : Bool) → not b ≡ false → b ≡ true
-not_false true e = refl
-not_false false e = absurd (cc)
-
 -- where its screen fails
 pub futile_by : (sets : Sets) (budget : ℕ) (tree : PatternTree) (t : Text) (ignore : Bool) (l c : ℕ) → c ≤ length (line_at t l) →
     passes sets budget tree ignore (line_at t l) c ≡ false → IsFutile (attempt_by sets t tree ignore no_externals (place_at l c)) budget l
 futile_by sets budget tree t ignore l c within e =
     futile_in sets budget tree t ignore l c false
-    (fails-here tree (context_of sets t ignore no_externals) budget l c within (not_false (fails sets budget ignore (key_of sets (line_at t l) c) tree) e))
+    (fails-here tree (context_of sets t ignore no_externals) budget l c within (not-false (fails sets budget ignore (key_of sets (line_at t l) c) tree) e))
 
 -- where what follows its first piece fails one column behind
 pub futile_after : (sets : Sets) (budget : ℕ) (tree : PatternTree) (t : Text) (ignore : Bool) (l c number : ℕ) → takes_first (nat_lt 0 c) tree.node ≡ true → c + 1 ≤ length (line_at t l) →

@@ -45,9 +45,6 @@ pub first_by : (asks : Asks) (r : Rules) (i : ItemId) (number : ℕ) → first_a
 first_by asks r i number told pattern first =
     subst (λ (o : Option Pattern). some_asked (asks r.sets r.budget (item_of r.items i).ignore number) o ≡ true) first told
 
-pub both_told : (a b : Bool) → a ≡ true → b ≡ true → (a && b) ≡ true
-both_told a b e f = λ i. e i && f i
-
 pub idle_by : (r : Rules) (i : ItemId) (number : ℕ) (pattern : Pattern) → IsFirst r i pattern → (is sits : Bool) → (is ≡ true → first_asked fails_after r number i.0 ≡ true) →
     (sits ≡ true → (has_one_start (item_of r.items i).kind && sits_by pattern) ≡ true) → (is && sits) ≡ true → idles_before r number i.0 ≡ true
 idle_by r i number pattern first is sits told sat e =

@@ -1,5 +1,5 @@
 -- Lists that are read from their end.
-use Rattle.item_pick.proofs.Common.{◌≡◌, ◌∙◌, ap, arith, ℕ, zero, suc, ◌+◌, ◌<◌, ◌≤◌, List, [], ◌∷◌, length, sym, get_or_from_slice_get, take, reverse, get_or, Some, slice_get, reverse-append, take_more}
+use Rattle.item_pick.proofs.Common.{◌≡◌, ◌∙◌, ap, arith, ℕ, suc, ◌+◌, ◌<◌, ◌≤◌, List, [], ◌∷◌, length, sym, get_or_from_slice_get, take, reverse, get_or, Some, slice_get, reverse-append, take_more}
 
 pub one_more : {A : Type 0} (xs : List A) (k : ℕ) (d : A) → k < length xs → reverse (take (k + 1) xs) ≡ get_or xs k d ∷ reverse (take k xs)
 one_more xs k d less = ap reverse (take_more xs k d less) ∙ reverse-append (take k xs) (get_or xs k d ∷ [])

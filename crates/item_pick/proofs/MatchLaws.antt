@@ -1,5 +1,5 @@
 -- The match of an item, column by column.
-use Rattle.item_pick.proofs.Common.{◌≡◌, ◌∙◌, refl, sym, ap, arith, ℕ, ◌-◌, ◌<◌, ◌≤◌, Bool, true, false, length, Option, Some, None, pos, nat_eq, ◌+ℤ◌, ◌&&◌, ◌||◌, nat_tests, Looked, Place, hull_of, one_line, Text, line_at, ItemId, Pattern, Painted, Done, looked_first, done, ◌>>=◌, Rules, Cause, no_externals, place_at, within_line, match_from, item_match, HoldsLines, IsIdle, IsSettled, may_start_at, goes_on, Matched, attempted, may_start, starts_at, looks_at_end, Holds}
+use Rattle.item_pick.proofs.Common.{◌≡◌, ◌∙◌, refl, sym, ap, arith, ℕ, ◌-◌, ◌<◌, ◌≤◌, Bool, true, false, length, Option, Some, None, pos, nat_eq, ◌+ℤ◌, ◌&&◌, ◌||◌, nat_tests, Looked, Place, hull_of, one_line, Text, line_at, ItemId, Pattern, Painted, Done, looked_first, done, ◌>>=◌, Rules, Cause, no_externals, place_at, within_line, match_from, item_match, HoldsLines, IsIdle, may_start_at, goes_on, Matched, attempted, may_start, starts_at, looks_at_end, Holds}
 use Rattle.item_pick.specs.declared.columns.Columns.{Columns}
 use Rattle.item_pick.proofs.FoundLaws.{from_column, skip_to, skip_rest}
 

@@ -46,6 +46,12 @@ module _ (r : Rules) (t : Text) (p : Place) (floor : ℕ) (k : Looked) where
       ap (λ b. looked_first (Some k) (elim b as (λ _. Painted Cause (Option Starting)) [ true ↦ start_by (here_at r t p) p.col floor i (item_of r.items i).kind | false ↦ done None ])) e
   passed_idle tried choice i (inr quiet) = quiet_idle i quiet tried choice
 
+-- what one starts that is free
+pub starts_free : (r : Rules) (t : Text) (p : Place) (floor : ℕ) (tried : List ItemId) (choice : Choice) (i : ItemId) → is_free r tried choice i ≡ true →
+    start_if_free r t p floor tried choice i ≡ start_by (here_at r t p) p.col floor i (item_of r.items i).kind
+starts_free r t p floor tried choice i e =
+    ap (λ b. elim b as (λ _. Painted Cause (Option Starting)) [ true ↦ start_by (here_at r t p) p.col floor i (item_of r.items i).kind | false ↦ done None ]) e
+
 -- the items behind those that are left may be passed over
 pub earlier : (r : Rules) (t : Text) (p : Place) (floor : ℕ) (tried : List ItemId) (choice : Choice) (k : Looked) (left next : ℕ) →
     IsNextItem r t p floor tried choice k left next → IsEarlier r t p floor tried choice k left next

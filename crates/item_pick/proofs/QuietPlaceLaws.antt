@@ -1,6 +1,6 @@
 -- Places at which nothing starts.
-use Rattle.item_pick.proofs.Common.{◌≡◌, ◌∙◌, refl, ap, arith, ℕ, inl, Bool, false, List, [], ◌∷◌, length, Option, Some, None, option_map, take, ◌-◌, list_any, true, nat_tests, Place, ItemId, Looked, Text, line_at, begins_word, Sets, IsNumberAt, last_of, key_numbered, zero, suc, slice_get, subst, Frame, Done, looked_first, done, Rules, place_at, same_item, is_allowed, keyword_at, or_nothing, picked, goes_on, Choice, IsNextItem, item_numbered, IsQuietAt, admits, here_at, is_free, start_if_free, IsNextAt, drop, find, Nothing, keyword_to, NoItem}
-use Rattle.std.specs.Prelude.{Result, Ok, Err, IfOk, IsTrue, ◌&&◌, ◌||◌, ◌==◌, not}
+use Rattle.item_pick.proofs.Common.{◌≡◌, ◌∙◌, refl, ap, arith, ℕ, inl, Bool, false, List, [], ◌∷◌, length, Option, Some, None, option_map, take, ◌-◌, true, nat_tests, Place, ItemId, Looked, Text, line_at, begins_word, Sets, IsNumberAt, last_of, key_numbered, zero, suc, slice_get, subst, Frame, Done, looked_first, done, Rules, place_at, is_allowed, keyword_at, or_nothing, picked, goes_on, Choice, IsNextItem, item_numbered, IsQuietAt, admits, here_at, is_free, start_if_free, IsNextAt, drop, find, Nothing, keyword_to, NoItem}
+use Rattle.std.specs.Prelude.{Result, Ok, Err, IfOk, IsTrue, ◌==◌}
 use Rattle.syn_base.specs.declared.want_of_memory.Memory.{Memory}
 use Rattle.keyword_table.specs.Candidates.{candidates}
 use Rattle.keyword_table.specs.Words.{has_at, word_end}

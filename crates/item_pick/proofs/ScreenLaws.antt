@@ -2,7 +2,7 @@
 use Rattle.item_pick.proofs.Common.{◌≡◌, ◌∙◌, refl, sym, ap, subst, arith, ℕ, ◌≤◌, Bool, true, false, length, Some, None, pos, ◌||◌, nat_lt, nat_tests, Looked, Place, hull_of, one_line, Text, line_at, ItemId, Pattern, Painted, Done, Refused, looked_first, Rules, item_of, no_externals, place_at, within_budget, match_from, IsFutile, may_start_at, HoldsLine, HoldsLines, IsIdle, ℤ, lesser, greater}
 use Rattle.std.proofs.lemmas.Int.{ints}
 use Rattle.paint_rules.specs.Rules.{Attempt}
-use Rattle.syn_base.proofs.HullLaws.{hull_assoc, hull_comm, hull_self}
+use Rattle.syn_base.proofs.HullLaws.{hull_assoc, hull_comm}
 use Rattle.item_pick.proofs.MatchLaws.{match_absent, no_start}
 
 -- lines looked at stay among those looked at

@@ -1,5 +1,5 @@
 -- The items that words start are there.
-use Rattle.item_pick.proofs.Common.{◌≡◌, sym, subst, ℕ, ◌<◌, Bool, List, [], ◌∷◌, Result, Ok, Err, reverse, IfOk, All, reverse-append, All-append, All-cons, All-nil, ItemId, All-filter, All-head, All-map, All-tail}
+use Rattle.item_pick.proofs.Common.{◌≡◌, sym, subst, ℕ, ◌<◌, Bool, List, Result, Ok, Err, reverse, IfOk, All, All-append, ItemId, All-filter, All-map}
 use Rattle.std.specs.Prelude.{filter}
 use Rattle.region_ends.proofs.CommonLaws.{all_reverse}
 use Rattle.syn_base.specs.declared.want_of_memory.Memory.{Memory}

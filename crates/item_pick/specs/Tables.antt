@@ -1,5 +1,5 @@
 -- Which items of a choice may start at a column, by the key of the column.
-use Rattle.std.specs.Prelude.{◌≡◌, ◌<◌, ◌≤◌, ◌+◌, ◌-◌, ◌⊎◌, ⊤, ℕ, Bool, true, not, ◌&&◌, false, nat_lt, is_none, List, length, slice_index, IfSome}
+use Rattle.std.specs.Prelude.{◌≡◌, ◌<◌, ◌≤◌, ◌+◌, ◌-◌, ◌⊎◌, ⊤, ℕ, Bool, suc, true, not, ◌&&◌, false, get_or, nat_lt, is_none, List, length, slice_index, IfSome}
 use Rattle.std.specs.List.{All, list_all}
 use Rattle.std.specs.List.Sorted.{IsNonDecreasing}
 use Rattle.char_class.specs.declared.sets.Sets.{Sets}
@@ -33,7 +33,7 @@ use Rattle.item_pick.specs.Quiet.{item_numbered, IsPassed, IsQuiet}
 use Rattle.item_pick.specs.Screens.{HoldsLine, IsSettled}
 use Rattle.item_pick.specs.Settled.{item_wanders}
 use Rattle.item_pick.specs.Standing.{IsFirst, IsPatternOf}
-use Rattle.item_pick.specs.Started.{admits}
+use Rattle.item_pick.specs.Started.{admits, is_free}
 
 -- whether an attempt at a column of a line isn't known to fail
 abbrev pub passes : Sets → ℕ → PatternTree → Bool → List ℕ → ℕ → Bool
@@ -75,6 +75,18 @@ ListStands r choice number list =
     (j : ℕ) → j < length r.items → admits r choice (item_numbered j) ≡ true → Lacks list j →
     StaysOut r number (item_numbered j)
 
+-- a list has a number at a place
+abbrev pub IsListed : List ℕ → ℕ → Type 0
+IsListed list j = (k : ℕ) × (k < length list) × (get_or list k 0 ≡ j)
+
+-- a choice has each item of a list
+abbrev pub AreAdmitted : Rules → Choice → List ℕ → Type 0
+AreAdmitted r choice list = All (λ j. admits r choice (item_numbered j) ≡ true) list
+
+-- of so many items the last one, if there is any, is one of a choice that hasn't started
+abbrev pub IsLastFree : Rules → List ItemId → Choice → ℕ → Type 0
+IsLastFree r tried choice left = (j : ℕ) → left ≡ suc j → is_free r tried choice (item_numbered j) ≡ true
+
 -- the admitted items from one on, below another, have started at a place, or can't start there
 abbrev pub IsNextAt : Rules → Text → Place → ℕ → Looked → List ItemId → Choice → ℕ → ℕ → Type 0
 IsNextAt r t p floor k tried choice left next =
@@ -101,6 +113,7 @@ HasThose r wandering list those =
 pub record RowStands (r : Rules) (row : Row) : Type 0 where
   pub lists : ListStands r row.choice row.number row.items.items
   pub rises : IsNonDecreasing row.items.items
+  pub admitted : AreAdmitted r row.choice row.items.items
   pub resting : HasThose r false row.items.items row.resting.items
   pub wandering : IfSome row.wandering (λ those. HasThose r true row.items.items those.items)
 

@@ -1,6 +1,6 @@
 //! What is kept of a syntax, and what is known of the line that is painted.
 ghost use Rattle.std.specs.Prelude.{◌≡◌, ◌<◌, ◌≤◌, ◌^◌, ℕ, length, reverse, IfOk, IfSome, true, pos};
-ghost use Rattle.item_pick.specs.Common.{one_line, Text, line_at, Rules, rules_by, rules_in, TellsOf, IsEarlier, IsLater, IsSettled, IsVainFrom, ChoiceFits, IsFirstOf, IsStartOf, MayAsk, LineStands, MemoryStands, RunStands, TablesStand, MayPick};
+ghost use Rattle.item_pick.specs.Common.{one_line, Text, line_at, Rules, rules_by, rules_in, TellsOf, IsEarlier, IsLastFree, IsLater, IsSettled, IsVainFrom, ChoiceFits, IsFirstOf, IsStartOf, MayAsk, LineStands, MemoryStands, RunStands, TablesStand, MayPick};
 
 use crate::asked::Asked;
 use crate::choice::Choice;
@@ -185,7 +185,7 @@ impl PickMemory {
 
     /// The items of a choice are tried from the last to the first: how many are left, once those
     /// behind them are passed over that aren't free, or don't start at the place, which the lines
-    /// looked at before tell.
+    /// looked at before tell. The last of those is free. Each column of the line has a number.
     pub(crate) fn next_item<T: Lines>(
         &mut self,
         picking: &Picking<'_, T>,
@@ -199,6 +199,8 @@ impl PickMemory {
         ensures next { IfOk result (IsEarlier (rules_by picking.now.asked.now)
             (T.lines picking.now.lines.now) picking.now.at picking.now.floor
             (reverse picking.now.tried.now) choice looked left) }
+        ensures free { IfOk result (IsLastFree (rules_by picking.now.asked.now)
+            (reverse picking.now.tried.now) choice) }
         ensures may { MayAsk T.lines picking.now self.new }
     {
         let search = Search {
@@ -212,7 +214,7 @@ impl PickMemory {
             Some(number) => self
                 .tables
                 .left_in(picking.asked, choice, number, &search, left),
-            None => Ok(left),
+            None => Err(Memory),
         }
     }
 }

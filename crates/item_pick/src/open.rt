@@ -1,7 +1,8 @@
 //! Items that may start at a column.
-ghost use Rattle.std.specs.Prelude.{◌≡◌, ◌<◌, ◌≤◌, ℕ, get_or, length, nat_lt, reverse, IfOk, IfSome, IsTrue};
+ghost use Rattle.std.specs.Prelude.{◌≡◌, ◌<◌, ◌≤◌, ℕ, false, suc, get_or, length, nat_lt, reverse, IfOk, IfSome, IsTrue};
+ghost use Rattle.std.specs.List.{list_any};
 ghost use Rattle.std.specs.List.Sorted.{IsNonDecreasing};
-ghost use Rattle.item_pick.specs.Common.{Text, line_at, place_at, IsPassed, item_numbered, HoldsLine, ChoiceFits, AreKnown, AreTablesOf, IsNextAt, IsNextIn, IsNumberAt, LineStands, rules_by};
+ghost use Rattle.item_pick.specs.Common.{Text, line_at, place_at, IsPassed, item_numbered, same_item, HoldsLine, ChoiceFits, AreKnown, AreTablesOf, IsLastFree, IsListed, IsNextAt, IsNextIn, IsNumberAt, LineStands, rules_by};
 
 use crate::asked::Asked;
 use crate::choice::Choice;
@@ -12,13 +13,15 @@ use syn_base::{ItemId, Memory};
 impl Tables {
     /// Whether an item has started at a column, or is known not to: also by what stands one column behind.
     fn is_over(&self, _asked: &Asked, id: u32, search: &Search<'_>) -> bool
-        ensures { IsTrue result → (t : Text) (l : ℕ) →
+        ensures passed { IsTrue result → (t : Text) (l : ℕ) →
             AreKnown (rules_by _asked.now) t l self.now
             search.now.line.now → search.now.at ≤ length (line_at t l) →
             HoldsLine search.now.looked l →
             IsPassed (rules_by _asked.now) t (place_at l search.now.at)
             search.now.floor search.now.looked (reverse search.now.tried.now)
             (item_numbered id) }
+        ensures untried { result ≡ false →
+            list_any (same_item (item_numbered id)) (reverse search.now.tried.now) ≡ false }
     {
         if search.is_passed(id) {
             return true;
@@ -32,13 +35,15 @@ impl Tables {
     /// The number behind the last item of a list, whose numbers rise, that is below another one and may
     /// start at a column; 0 where there is none.
     fn next_open(&self, asked: &Asked, list: &[u32], left: usize, search: &Search<'_>) -> usize
-        ensures { IsNonDecreasing list.now → (t : Text) (l : ℕ) →
+        ensures next { IsNonDecreasing list.now → (t : Text) (l : ℕ) →
             AreKnown (rules_by asked.now) t l self.now
             search.now.line.now → search.now.at ≤ length (line_at t l) →
             HoldsLine search.now.looked l →
             IsNextIn (rules_by asked.now) t (place_at l search.now.at)
             search.now.floor search.now.looked (reverse search.now.tried.now) list.now left
             result }
+        ensures last { (j : ℕ) → result ≡ suc j → IsListed list.now j
+            × (list_any (same_item (item_numbered j)) (reverse search.now.tried.now) ≡ false) }
     {
         let mut count = count_below(list, left);
         'items: while count > 0 {
@@ -61,7 +66,9 @@ impl Tables {
         left: usize,
     ) -> Option<usize>
         requires { left ≤ length asked.now.parts.now.items.now }
-        ensures { (t : Text) (l : ℕ) →
+        ensures free { AreTablesOf (rules_by asked.now) self.now → IfSome result
+            (IsLastFree (rules_by asked.now) (reverse search.now.tried.now) choice) }
+        ensures next { (t : Text) (l : ℕ) →
             AreKnown (rules_by asked.now) t l self.now
             search.now.line.now →
             IsNumberAt (rules_by asked.now) (line_at t l) search.now.at
@@ -75,7 +82,7 @@ impl Tables {
     }
 
     /// The number of items that are left, once those behind them are passed over that a choice
-    /// hasn't, or that don't start at a column whose key has a number.
+    /// hasn't, or that don't start at a column whose key has a number. A row that was made is there.
     pub(crate) fn left_in(
         &mut self,
         asked: &Asked,
@@ -88,6 +95,8 @@ impl Tables {
         requires stands { AreTablesOf (rules_by asked.now) self.old }
         requires items { left ≤ length asked.now.parts.now.items.now }
         ensures stands { AreTablesOf (rules_by asked.now) self.new }
+        ensures free { IfOk result
+            (IsLastFree (rules_by asked.now) (reverse search.now.tried.now) choice) }
         ensures next { (t : Text) (l : ℕ) →
             LineStands (rules_by asked.now) t l search.now.line.now →
             IsNumberAt (rules_by asked.now) (line_at t l) search.now.at
@@ -103,7 +112,7 @@ impl Tables {
         self.make(asked, choice, number)?;
         match self.left_by(asked, choice, number, search, left) {
             Some(next) => Ok(next),
-            None => Ok(left),
+            None => Err(Memory),
         }
     }
 }

@@ -1,7 +1,8 @@
 //! Which items of a choice may start at a column, by the key of the column.
 ghost use Rattle.std.specs.Prelude.{◌≡◌, ◌<◌, ℕ, length, slice_get, Some, IfOk, IfSome, IsTrue, true};
 ghost use Rattle.std.specs.List.Sorted.{IsNonDecreasing};
-ghost use Rattle.item_pick.specs.Common.{item_numbered, ChoiceFits, IsItem, admits, AnswersStand, HasThose, is_screened, Lacks, ListStands, RisesTo, RowStands, stays_out, StaysOut, rules_by};
+ghost use Rattle.item_pick.specs.Common.{item_numbered, ChoiceFits, IsItem, admits, AnswersStand, AreAdmitted, HasThose, is_screened, Lacks, ListStands, RisesTo, RowStands, stays_out, StaysOut, rules_by};
+ghost use Rattle.item_pick.specs.declared.choice.Choice.{Choice as ChoiceOf};
 ghost use Rattle.syntax_set.specs.declared.item.Pattern.{Pattern as PatternOf};
 
 use crate::asked::Asked;
@@ -88,6 +89,8 @@ impl Asked<'_> {
         requires choice { ChoiceFits (rules_by self.now) choice }
         ensures kept { (j : ℕ) → Lacks items.new.items j → Lacks items.old.items j }
         ensures rises { RisesTo id items.old.items → RisesTo id items.new.items }
+        ensures admitted { AreAdmitted (rules_by self.now) choice items.old.items →
+            AreAdmitted (rules_by self.now) choice items.new.items }
         ensures here { IfOk result (λ _.
             admits (rules_by self.now) choice (item_numbered id) ≡ true →
             Lacks items.new.items id →
@@ -130,6 +133,10 @@ impl Asked<'_> {
         ensures outs { AnswersStand (stays_out (rules_by self.now)) outs.new }
         ensures kept { (j : ℕ) → Lacks items.new.items j → Lacks items.old.items j }
         ensures rises { RisesTo id items.old.items → RisesTo id items.new.items }
+        ensures admitted { (choice : ChoiceOf) →
+            admits (rules_by self.now) choice (item_numbered id) ≡ true →
+            AreAdmitted (rules_by self.now) choice items.old.items →
+            AreAdmitted (rules_by self.now) choice items.new.items }
         ensures here { IfOk result (λ _.
             id < length (rules_by self.now).items →
             Lacks items.new.items id →
@@ -145,11 +152,18 @@ impl Asked<'_> {
     }
 
     /// The items of a choice that may start.
-    fn listed(&self, alloc: Global, choice: Choice, number: u16) -> Result<Vec<u32>, Memory>
+    pub(crate) fn listed(
+        &self,
+        alloc: Global,
+        choice: Choice,
+        number: u16,
+    ) -> Result<Vec<u32>, Memory>
         requires { ChoiceFits (rules_by self.now) choice }
         ensures lists { IfOk result (λ list.
             ListStands (rules_by self.now) choice number list.items) }
         ensures rises { IfOk result (λ list. IsNonDecreasing list.items) }
+        ensures admitted { IfOk result
+            (λ list. AreAdmitted (rules_by self.now) choice list.items) }
     {
         let count = self.parts.items.added() as u32;
         let mut items = Vec::new(alloc);
@@ -174,6 +188,8 @@ impl Asked<'_> {
         ensures lists { IfOk result (λ list. ListStands (rules_by self.now) all.now.choice number
             list.items) }
         ensures rises { IfOk result (λ list. IsNonDecreasing list.items) }
+        ensures admitted { IfOk result
+            (λ list. AreAdmitted (rules_by self.now) all.now.choice list.items) }
     {
         let count = self.parts.items.added();
         let mut items = Vec::new(alloc);
@@ -194,6 +210,7 @@ impl Asked<'_> {
     ) -> Result<Row, Memory>
         requires lists { ListStands (rules_by self.now) choice number items.items }
         requires rises { IsNonDecreasing items.items }
+        requires admitted { AreAdmitted (rules_by self.now) choice items.items }
         requires those { IfSome wandering (λ those. HasThose (rules_by self.now) true items.items
             those.items) }
         ensures { IfOk result (RowStands (rules_by self.now)) }
@@ -206,15 +223,5 @@ impl Asked<'_> {
             resting,
             wandering,
         })
-    }
-
-    /// The row of all items of a choice that start by a pattern.
-    pub(crate) fn whole_row(&self, alloc: Global, choice: Choice) -> Result<Row, Memory>
-        requires { ChoiceFits (rules_by self.now) choice }
-        ensures { IfOk result (RowStands (rules_by self.now)) }
-    {
-        let items = self.listed(alloc, choice, ANY)?;
-        let wandering = self.those(alloc, items.as_slice(), true)?;
-        self.row(alloc, choice, ANY, items, Some(wandering))
     }
 }

@@ -1,6 +1,7 @@
 //! From which columns of a line an item isn't matched.
-ghost use Rattle.std.specs.Prelude.{◌≡◌, ◌<◌, ◌≤◌, ◌-◌, ◌^◌, ℕ, length, reverse, IfSome, IsTrue};
-ghost use Rattle.item_pick.specs.Common.{Text, line_at, Rules, item_of, place_at, has_one_start, IsFirstOf, IsItem, IsEnough, LineStands, RunStands, Covers, IsWhole, TellsOf, IsPassed, item_numbered, HoldsLine, HoldsLines, rules_by};
+ghost use Rattle.std.specs.Prelude.{◌≡◌, ◌<◌, ◌≤◌, ◌-◌, ◌^◌, ℕ, false, length, reverse, IfSome, IsTrue};
+ghost use Rattle.std.specs.List.{list_any};
+ghost use Rattle.item_pick.specs.Common.{Text, line_at, Rules, item_of, place_at, has_one_start, IsFirstOf, IsItem, IsEnough, LineStands, RunStands, Covers, IsWhole, TellsOf, IsPassed, item_numbered, same_item, HoldsLine, HoldsLines, rules_by};
 
 use crate::asked::Asked;
 use crate::columns::Columns;
@@ -45,11 +46,13 @@ impl Search<'_> {
     /// Whether an item has started at the column, or is known to have no match there.
     #[inline(always)]
     pub(crate) fn is_passed(&self, id: u32) -> bool
-        ensures { IsTrue result → (r : Rules) (t : Text) (l : ℕ) →
+        ensures passed { IsTrue result → (r : Rules) (t : Text) (l : ℕ) →
             LineStands r t l self.now.line.now → self.now.at ≤ length (line_at t l) →
             HoldsLine self.now.looked l →
             IsPassed r t (place_at l self.now.at) self.now.floor self.now.looked
             (reverse self.now.tried.now) (item_numbered id) }
+        ensures untried { result ≡ false →
+            list_any (same_item (item_numbered id)) (reverse self.now.tried.now) ≡ false }
     {
         self.line.is_barren(id)
             || self.line.told_to(id, self) > self.at

@@ -213,30 +213,6 @@ impl<T: Lines> Picking<'_, T> {
         }
     }
 
-    /// What an item starts, if a choice has it.
-    fn start_if_free(
-        &self,
-        choice: Choice,
-        id: ItemId,
-        looked: &mut Looked,
-        memory: &mut PickMemory,
-    ) -> Found
-        requires item { IsItem (rules_by self.now.asked.now) id }
-        requires choice { ChoiceFits (rules_by self.now.asked.now) choice }
-        requires may { MayPick T.lines self.now looked.old memory.old }
-        ensures told { IsToldAs (seen_start (rules_by self.now.asked.now).items) looked.old result
-            looked.new (start_if_free (rules_by self.now.asked.now) (T.lines self.now.lines.now)
-            self.now.at self.now.floor (reverse self.now.tried.now) choice id) }
-        ensures there { IfOk result (IsStartThere (rules_by self.now.asked.now).items) }
-        ensures may { MayAsk T.lines self.now memory.new }
-    {
-        if self.is_free(choice, id) {
-            self.start_by(id, looked, memory)
-        } else {
-            Ok(None)
-        }
-    }
-
     /// The first match or region of a choice, the last item first.
     pub(crate) fn first_start(
         &self,
@@ -256,7 +232,7 @@ impl<T: Lines> Picking<'_, T> {
     {
         let mut left = memory.next_item(self, choice, self.asked.parts.items.added(), *looked)?;
         'items: while left > 0 {
-            let found = self.start_if_free(choice, ItemId((left - 1) as u32), looked, memory)?;
+            let found = self.start_by(ItemId((left - 1) as u32), looked, memory)?;
             match found {
                 Some(starting) => return Ok(Some(starting)),
                 None => left = memory.next_item(self, choice, left - 1, *looked)?,

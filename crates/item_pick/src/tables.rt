@@ -92,7 +92,9 @@ impl Tables {
         if self.row(choice, ANY).is_some() {
             return Ok(());
         }
-        let row = asked.whole_row(self.alloc, choice)?;
+        let items = asked.listed(self.alloc, choice, ANY)?;
+        let wandering = asked.those(self.alloc, items.as_slice(), true)?;
+        let row = asked.row(self.alloc, choice, ANY, items, Some(wandering))?;
         self.keep(row)
     }
 

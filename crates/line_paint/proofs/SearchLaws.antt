@@ -5,16 +5,13 @@ use Rattle.paint_rules.specs.Close.{Anew, body_after_area, col_here, exposed_ane
 use Rattle.line_paint.specs.declared.closing.Anew.{Anew as AnewCode}
 use Rattle.line_paint.specs.declared.ends.Occasion.{Occasion}
 use Rattle.line_paint.specs.declared.ends.Occasion.TheVariants.{LineStart, UnderArea, OverKeepend, Exposed}
+use Rattle.std.proofs.lemmas.Bool.{or_parts}
 use Rattle.line_paint.proofs.ComesLaws.{comes_of_then}
 
 turned : {A : Type 0} (b : Bool) (x y : A) →
     elim b as (λ _. A) [ true ↦ x | false ↦ y ] ≡ elim (not b) as (λ _. A) [ true ↦ y | false ↦ x ]
 turned true x y = refl
 turned false x y = refl
-
-neither : (a b : Bool) → (a || b) ≡ false → a ≡ false
-neither true b e = e
-neither false b e = refl
 
 unchanged : (b : Bool) (f : Frame) →
     done f ≡ elim b as (λ _. Painted Cause Frame) [ true ↦ done f | false ↦ done f ]
@@ -178,7 +175,7 @@ module _ (h : Here) (top : Frame) (below : List Frame) (item : Item)
         lifted (Ok (record { frames = None; over = false })) k (
           comes_to false is
               ∙ ap (λ (fs : Option (List Frame)). Done (record { frames = top ∷ frames_or below fs; over = false }) (Some k))
-              (none (neither rest.over (has_keepend h.rules.items top) (sym is_over ∙ is))),
+              (none (or_parts rest.over (has_keepend h.rules.items top) (sym is_over ∙ is)).0),
           refl,
         )
 

@@ -1,13 +1,5 @@
--- Tests of two parts, and lists from their last element on.
-use Rattle.region_ends.proofs.Common.{◌≡◌, ◌⊎◌, inl, inr, ◌∙◌, refl, sym, ap, subst, arith, ℕ, ◌-◌, ◌+◌, ◌<◌, ◌≤◌, Bool, true, false, List, [], ◌∷◌, length, take, reverse, Some, ◌&&◌, ◌||◌, get_or, slice_get, All, reverse-append, All-head, All-tail, get_or_from_slice_get, take_more, All-push}
-
-pub both : (a b : Bool) → (a && b) ≡ true → (a ≡ true) × (b ≡ true)
-both true b e = (refl, e)
-both false b e = absurd (cc)
-
-pub one_of : (a b : Bool) → (a || b) ≡ true → (a ≡ true) ⊎ (b ≡ true)
-one_of true b e = inl refl
-one_of false b e = inr e
+-- Lists from their last element on.
+use Rattle.region_ends.proofs.Common.{◌≡◌, ◌∙◌, sym, ap, subst, arith, ℕ, ◌-◌, ◌+◌, ◌<◌, ◌≤◌, List, [], ◌∷◌, length, take, reverse, Some, get_or, slice_get, All, reverse-append, All-head, All-tail, get_or_from_slice_get, take_more, All-push}
 
 pub all_reverse : {A : Type 0} (P : A → Type 0) (xs : List A) → All P xs → All P (reverse xs)
 all_reverse P [] h = h

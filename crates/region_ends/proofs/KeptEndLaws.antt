@@ -1,6 +1,5 @@
 -- The frames up to one, its top first.
-use Rattle.region_ends.proofs.Common.{◌≡◌, ℕ, suc, ◌<◌, List, [], ◌∷◌, length, take, reverse, sym, ap, ◌∙◌, arith, reverse-append, AddedItem, Frame, ◌++◌, length-append, reverse-reverse, take-append-le, kept_end_over, kept_end, kept_end_of_first}
-use Rattle.std.proofs.Math.Seq.{take-length}
+use Rattle.region_ends.proofs.Common.{◌≡◌, ℕ, suc, ◌<◌, List, [], ◌∷◌, length, take, reverse, sym, ap, ◌∙◌, arith, reverse-append, AddedItem, Frame, ◌++◌, length-append, reverse-reverse, take-append-le, kept_end, kept_end_of_first}
 
 stack_is : (stack below : List Frame) (top : Frame) → reverse stack ≡ top ∷ reverse below → stack ≡ below ++ top ∷ []
 stack_is stack below top e =
@@ -10,13 +9,6 @@ stack_is stack below top e =
 pub one_more : (stack below : List Frame) (top : Frame) → reverse stack ≡ top ∷ reverse below → length stack ≡ suc (length below)
 one_more stack below top e =
     ap length (stack_is stack below top e) ∙ (length-append below (top ∷ []) ∙ omega arith)
-
-pub kept_at_top : (items : List AddedItem) (stack below : List Frame) (top : Frame) (i : ℕ) → reverse stack ≡ top ∷ reverse below → i ≡ length below →
-    kept_end items stack i ≡ kept_end_over items top (reverse below)
-kept_at_top items stack below top i e h =
-    let n : suc i ≡ length stack = ap suc h ∙ sym (one_more stack below top e) in
-    ap (λ n. kept_end_of_first items (reverse (take n stack))) n
-    ∙ (ap (λ fs. kept_end_of_first items (reverse fs)) (take-length stack) ∙ ap (kept_end_of_first items) e)
 
 pub kept_below : (items : List AddedItem) (stack below : List Frame) (top : Frame) (i : ℕ) → reverse stack ≡ top ∷ reverse below → i < length below →
     kept_end items stack i ≡ kept_end items below i

@@ -4,7 +4,8 @@ use Rattle.paint_rules.specs.declared.Spot.{Spot}
 use Rattle.state_stack.specs.declared.enders.Enders.{Enders}
 use Rattle.state_stack.specs.declared.enders.Enders.TheVariants.{Nothing, One, Two, Three, Many}
 use Rattle.state_stack.specs.Enders.{ends_by, have_enders, is_among}
-use Rattle.region_ends.proofs.CommonLaws.{all_reverse, both, one_of}
+use Rattle.std.proofs.lemmas.Bool.{and_parts, or_cases}
+use Rattle.region_ends.proofs.CommonLaws.{all_reverse}
 
 none_or_end : (b : Bool) (end : Option Spot) → end ≡ None → ◌≡◌ {A = Option Spot} (elim b [ true ↦ None | false ↦ end ]) None
 none_or_end true end e = refl
@@ -34,8 +35,8 @@ module _ (items : List AddedItem) (i : ItemId) where
 
   by_more : (a : ItemId) (rest among : Bool) → (rest ≡ true → among ≡ true → Unkept) → not (item_of items a).keepend && rest ≡ true → nat_eq a.0 i.0 || among ≡ true → Unkept
   by_more a rest among others e h =
-      let each = both (not (item_of items a).keepend) rest e in
-      elim (one_of (nat_eq a.0 i.0) among h) [ inl here ↦ by_one a each.0 here | inr there ↦ others each.1 there ]
+      let each = and_parts (not (item_of items a).keepend) rest e in
+      elim (or_cases (nat_eq a.0 i.0) among h) [ inl here ↦ by_one a each.0 here | inr there ↦ others each.1 there ]
 
   -- none of the items among which one is has `keepend`
   unkept_among : (enders : Enders) → keep_none items enders ≡ true → is_among enders i ≡ true → Unkept
@@ -50,7 +51,7 @@ module _ (items : List AddedItem) (enders : Enders) (unkept : (i : ItemId) → i
   none_limits : (fs : List Frame) → have_enders enders fs ≡ true → limit_on items fs ≡ None
   none_limits [] e = refl
   none_limits (f ∷ fs) e =
-      let a = both (ends_by enders f) (have_enders enders fs) e in
+      let a = and_parts (ends_by enders f) (have_enders enders fs) e in
       ap (λ limit. earlier_end limit (elim (has_extend items f) [ true ↦ None | false ↦ limit_on items fs ]))
       (no_limit (has_keepend items f) (not (is_start_area f.part)) f.known_end (is_among enders f.item) a.0 (unkept f.item))
       ∙ none_or_end (has_extend items f) (limit_on items fs) (none_limits fs a.1)

@@ -1,5 +1,6 @@
 -- A line that was looked at stays among those looked at.
-use Rattle.region_ends.proofs.Common.{◌≡◌, ◌∙◌, refl, sym, ap, subst, arith, ℕ, Bool, true, false, Some, None, pos, ◌||◌, Looked, one_line, hull_assoc, Painted, Done, Refused, looked_first, HoldsLine, ℤ, hull_of, lesser, greater, hull_comm}
+use Rattle.std.proofs.lemmas.Bool.{or_parts}
+use Rattle.region_ends.proofs.Common.{◌≡◌, ◌∙◌, sym, ap, subst, arith, ℕ, Some, None, pos, Looked, one_line, hull_assoc, Painted, Done, Refused, looked_first, HoldsLine, ℤ, hull_of, lesser, greater, hull_comm}
 use Rattle.std.proofs.lemmas.Int.{ints}
 
 wider : (j n : Looked) (l : ℕ) → HoldsLine j l → HoldsLine (hull_of j n) l
@@ -28,10 +29,6 @@ lesser_once a b c e h = grind (arith, ints, e, h)
 greater_once : (a b c : ℤ) → greater a b ≡ c → greater a c ≡ a → a ≡ c
 greater_once a b c e h = grind (arith, ints, e, h)
 
-neither : (a b : Bool) → (a || b) ≡ false → a ≡ false
-neither true b e = absurd (cc)
-neither false b e = refl
-
 -- where all looks are at one line, so were those before
 pub alone_before : {E A : Type 0} (k : Looked) (l : ℕ) (p : Painted E A) (a : A) → HoldsLine k l → looked_first (Some k) p ≡ Done a (Some (one_line (pos l))) → k ≡ one_line (pos l)
 alone_before k l (Done b None) a h e = cc
@@ -40,6 +37,6 @@ alone_before k l (Done b (Some n)) a h e =
     λ i. record {
       low = lesser_once k.low n.low (pos l) (ap (λ (j : Looked). j.low) whole) (ap (λ (j : Looked). j.low) h) i;
       high = greater_once k.high n.high (pos l) (ap (λ (j : Looked). j.high) whole) (ap (λ (j : Looked). j.high) h) i;
-      numbered = neither k.numbered n.numbered (ap (λ (j : Looked). j.numbered) whole) i;
+      numbered = (or_parts k.numbered n.numbered (ap (λ (j : Looked). j.numbered) whole)).0 i;
     }
 alone_before k l (Refused c m) a h e = absurd (cc)

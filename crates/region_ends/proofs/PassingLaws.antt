@@ -12,7 +12,8 @@ use Rattle.pattern_screens.specs.declared.key.Next.TheVariants as nexts
 use Rattle.pattern_screens.specs.Keys.{key_numbered, key_of, last_in, next_of, other_of}
 use Rattle.pattern_screens.specs.Screens.{is_futile}
 use Rattle.pattern_screens.proofs.Screened.{law as futile}
-use Rattle.region_ends.proofs.CommonLaws.{all_reverse, both, one_of}
+use Rattle.std.proofs.lemmas.Bool.{and_parts, or_cases}
+use Rattle.region_ends.proofs.CommonLaws.{all_reverse}
 use Rattle.region_ends.proofs.OpeningLaws.{attempt_fails, begins_here, differs, told_differs}
 use Rattle.region_ends.proofs.SearchLaws.{after_try, first_end, tried_at_is, to_later}
 
@@ -51,8 +52,8 @@ module _ (a : Walk) (text : Text) (of : IsWalk a text) (k : Looked) (held : Hold
 
   shut_gives : (pattern : Pattern) → is_shut (question_of a) key pattern ≡ true → GivesNothing pattern
   shut_gives pattern e =
-      let h = both (nat_eq pattern.lc 0) (is_futile a.search.matcher.sets.now a.ignore key pattern.tree && is_cheap a.search.matcher.budget pattern) e in
-      let shut = both (is_futile a.search.matcher.sets.now a.ignore key pattern.tree) (is_cheap a.search.matcher.budget pattern) h.1 in
+      let h = and_parts (nat_eq pattern.lc 0) (is_futile a.search.matcher.sets.now a.ignore key pattern.tree && is_cheap a.search.matcher.budget pattern) e in
+      let shut = and_parts (is_futile a.search.matcher.sets.now a.ignore key pattern.tree) (is_cheap a.search.matcher.budget pattern) h.1 in
       in_vain pattern (failing_cost pattern.tree) (grind (arith, nat_tests, h.0)) (within_budget a.search.matcher.budget (failing_cost pattern.tree) shut.1)
       (futile pattern.tree x a.search.from.line c (omega (arith, within, ap length of.line))
       (sym (λ i. is_futile a.search.matcher.sets.now (of.of.ignore i) (key_of a.search.matcher.sets.now (of.line i) c) pattern.tree) ∙ shut.0))
@@ -66,7 +67,7 @@ module _ (a : Walk) (text : Text) (of : IsWalk a text) (k : Looked) (held : Hold
 
   end_gives : is_unopened a.opening (slice_get a.line.now c) ≡ true → (pattern : Pattern) → IsToldOf a.search.externals.now a.ignore a.opening pattern →
       is_end_shut (question_of a) key pattern ≡ true → GivesNothing pattern
-  end_gives unopened pattern told e = elim (one_of (is_some (begins_with pattern)) _ e) [
+  end_gives unopened pattern told e = elim (or_cases (is_some (begins_with pattern)) _ e) [
     | inl some ↦ (let number = some_of (begins_with pattern) some in
         let here = begins_here pattern number.0 number.1 in
         in_vain pattern 1 here.0 of.may.budget
@@ -82,7 +83,7 @@ module _ (a : Walk) (text : Text) (of : IsWalk a text) (k : Looked) (held : Hold
 
   column_passed : IsPassedOver a c → left_from a text k c ≡ left_from a text k (suc c)
   column_passed passed =
-      let h = both (is_skip_shut (question_of a) key a.skip.now) (list_all (is_end_shut (question_of a) key) a.ends.now) passed.shut in
+      let h = and_parts (is_skip_shut (question_of a) key a.skip.now) (list_all (is_end_shut (question_of a) key) a.ends.now) passed.shut in
       let shut = AllPass-from_list_all (is_end_shut (question_of a) key) a.ends.now h.1 in
       to_later s (Region [] a.skip.now a.ends.now) c (length a.line.now) k within k (skip_gives a.skip.now h.0) k
       (ends_give (reverse a.ends.now) (all_reverse GivesNothing a.ends.now (λ i d below. end_gives passed.unopened _ (of.opening i d below) (shut i d below))))
@@ -118,8 +119,8 @@ module _ (q : Question) where
   after_any : (next : Next) (last : Last) → are_shut_anyway q next ≡ true → are_shut q (record { next = next; last = last }) ≡ true
   after_any next last e =
       let shut : Last → Bool = λ l. are_shut q (record { next = next; last = l }) in
-      let h = both (shut lasts.Nothing) (shut lasts.Keyword && shut lasts.Other) e in
-      let g = both (shut lasts.Keyword) (shut lasts.Other) h.1 in
+      let h = and_parts (shut lasts.Nothing) (shut lasts.Keyword && shut lasts.Other) e in
+      let g = and_parts (shut lasts.Keyword) (shut lasts.Other) h.1 in
       elim last as (λ l. shut l ≡ true) [
         | lasts.Nothing ↦ h.0
         | lasts.Keyword ↦ g.0

@@ -1,11 +1,9 @@
 -- Searches from several columns that come to the same.
-use Rattle.region_ends.proofs.Common.{◌≡◌, ◌∙◌, refl, sym, ap, subst, arith, ℕ, suc, ◌<◌, ◌≤◌, Bool, true, false, List, [], ◌∷◌, length, inl, inr, Option, Some, None, nat_lt, pos, reverse, nat_tests, Sets, Looked, ItemId, Place, one_line, hull_self, Text, line_at, AddedItem, ItemKind, Region, Pattern, RegionEnd, Me, Painted, Done, Refused, looked_first, ◌>>=◌, done, first_found, Cause, Matched, item_of, no_externals, place_at, offset_place, columns_from, Search, Skip, NoSkip, SkipTo, SkipLine, skip_of, ends_of, skip_at, tried_at, end_at, end_made, end_from, end_in_line, Walk, EndAnswer, KnownStands, IsPassedOver, IsWalk, search_of, IsEnd, search_in, answer_at, left_from, HoldsLine, cases_lt, is_after, He, Re, later_place, earlier_place, end_in_present, IsKept, found_from, GoesOn, IsFirst, IsSearched, ReachesEnd, TellsColumns}
+use Rattle.region_ends.proofs.Common.{◌≡◌, ◌∙◌, refl, sym, ap, subst, arith, ℕ, suc, ◌<◌, ◌≤◌, Bool, true, false, List, [], ◌∷◌, length, inl, inr, Option, Some, None, nat_lt, pos, reverse, nat_tests, Sets, Looked, ItemId, Place, one_line, hull_self, Text, line_at, AddedItem, ItemKind, Region, Pattern, RegionEnd, Me, Painted, Done, Refused, looked_first, ◌>>=◌, done, first_found, Cause, Matched, item_of, place_at, offset_place, columns_from, Search, Skip, NoSkip, SkipTo, SkipLine, skip_of, ends_of, skip_at, tried_at, end_at, end_made, end_from, end_in_line, Walk, EndAnswer, IsPassedOver, IsWalk, search_of, IsEnd, search_in, answer_at, left_from, HoldsLine, cases_lt, is_after, He, Re, later_place, earlier_place, end_in_present, found_from, GoesOn, IsFirst, IsSearched, ReachesEnd}
 use Rattle.std.specs.Option.{option_map}
 use Rattle.syn_base.specs.declared.places.GroupId.{GroupId}
-use Rattle.region_ends.specs.declared.end_memo.Known.{Known}
 use Rattle.region_ends.specs.declared.searching.EndAnswer.TheVariants.{NotHere}
 use Rattle.region_ends.specs.declared.searching.Searched.{Searched}
-use Rattle.region_ends.specs.declared.searching.Searching.{Searching}
 use Rattle.region_ends.proofs.LookedLaws.{alone_before}
 use Rattle.region_ends.proofs.PassingLaws.{columns_passed}
 use Rattle.region_ends.proofs.SearchLaws.{none_left}
@@ -298,13 +296,3 @@ module _ (a : Walk) (text : Text) (of : IsWalk a text) where
         subst (λ p. IsEnd answer a.search.region p)
         (sym (r.same now d low (omega (arith, high, e)) ∙ ap (λ (k : Looked). left_from a text k busy) (sym now))) there;
   })
-
--- what a search came to stands of its line
-pub kept_stands : (a : Searching) (text : Text) (s : Searched) (known : Known) → a.externals.now ≡ no_externals →
-    IsKept a.region a.from.line s known → TellsColumns a text s → KnownStands a.items.now a.matcher.sets.now a.matcher.budget text a.from.line known
-kept_stands a text s known none kept tells c low high reached =
-    let whole : ItemId → List (List ℕ) → EndAnswer → Type 0 = λ i externals x. IsEnd x i (end_in_line (search_of a.items.now a.matcher.sets.now a.matcher.budget text i externals (place_at a.from.line c))) in
-    subst (λ (i : ItemId). whole i no_externals (answer_at known.end a.from.line)) (sym kept.same)
-    (subst (λ (externals : List (List ℕ)). whole a.region externals (answer_at known.end a.from.line)) none
-    (subst (λ (x : EndAnswer). whole a.region a.externals.now x) kept.answer
-    (tells known.end kept.answer c (omega (arith, low, kept.first)) (omega (arith, high, kept.to)) reached)))

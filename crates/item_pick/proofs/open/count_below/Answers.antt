@@ -1,4 +1,4 @@
-use Rattle.item_pick.proofs.Common.{ℕ, get_or, arith, nat_tests, rules, nat_lt, of_calls, IsPartitionedBy-ltb}
+use Rattle.item_pick.proofs.Common.{ℕ, arith, nat_tests, rules, nat_lt, of_calls, IsPartitionedBy-ltb}
 use Rattle.std.proofs.lemmas.Fn.{always_returns_same}
 use Rattle.item_pick.proofs.open.count_below.Goals as goal
 

@@ -1,5 +1,5 @@
 use Rattle.item_pick.proofs.Common.{◌≡◌, ◌∙◌, ◌&&◌, subst, sym, true, false, rules_by, fails_at, fails_after, first_asked, idles_before, is_asked, rest_asked, Question}
-use Rattle.item_pick.proofs.KeptLaws.{both_told, idle_by}
+use Rattle.item_pick.proofs.KeptLaws.{idle_by}
 use Rattle.item_pick.proofs.firsts.Firsts.keep.Goals as goal
 use Rattle.item_pick.proofs.firsts.Firsts.keep.Goals.{then-yes, else-yes}
 
@@ -23,7 +23,7 @@ returns-after-yes c =
     let told = subst (λ (q : Question). c.args.yes ≡ true → first_asked (is_asked q) r c.args.number c.args.by.now.item.0 ≡ true) c.in-Before.is c.requires.told in
     let stands = c.requires.stands in
     let both : c.if-yes.keep ≡ true → (c.args.yes && c.sits-sits.result) ≡ true =
-    λ e. elim c.if-yes.branch [ then-yes w ↦ both_told _ _ w.if-yes.true (sym w.keep-is ∙ e) | else-yes w ↦ absurd (let no : false ≡ true = sym w.if-yes.false ∙ (sym w.keep-is ∙ e) in cc) ] in
+    λ e. elim c.if-yes.branch [ then-yes w ↦ (λ i. w.if-yes.true i && (sym w.keep-is ∙ e) i) | else-yes w ↦ absurd (let no : false ≡ true = sym w.if-yes.false ∙ (sym w.keep-is ∙ e) in cc) ] in
     record {
       here = stands.here;
       before = c.keep-in-Before.ensures (first_asked fails_after r) stands.before told;

@@ -1,4 +1,5 @@
 use Rattle.item_pick.proofs.Common.{◌≡◌, ◌≤◌, length, reverse, MayAsk, rules_by, start_if_free, items_below, HoldsLine}
+use Rattle.item_pick.specs.Tables.{IsLastFree}
 use Rattle.item_pick.proofs.FoundLaws.{found_after}
 use Rattle.item_pick.proofs.picking.Picking.first_start.Given as goal
 
@@ -12,6 +13,7 @@ invariant-items g l =
       whole : found_after f l.fn.looked (items_below (length r.items)) ≡ found_after f l.looked (items_below l.left);
       within : l.left ≤ length r.items;
       held : HoldsLine l.looked l.self.at.line;
+      free : IsLastFree r (reverse l.self.tried.now) l.choice l.left;
       may : MayAsk g.T.Lines.lines l.self l.memory;
     }
 

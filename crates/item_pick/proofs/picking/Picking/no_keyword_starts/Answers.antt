@@ -1,4 +1,4 @@
-use Rattle.item_pick.proofs.Common.{[], subst, sym, line_at, is_free, rules_by}
+use Rattle.item_pick.proofs.Common.{[], line_at, is_free, rules_by}
 use Rattle.item_pick.proofs.QuietPlaceLaws.{no_keyword}
 use Rattle.item_pick.proofs.picking.Picking.no_keyword_starts.Goals as goal
 

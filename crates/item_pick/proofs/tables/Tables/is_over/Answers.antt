@@ -3,12 +3,12 @@ use Rattle.item_pick.proofs.FutileLaws.{futile_after}
 use Rattle.item_pick.proofs.TableLaws.{idle_quiet}
 use Rattle.item_pick.proofs.tables.Tables.is_over.Goals as goal
 
-pub returns-then-is_passed : goal.returns-then-is_passed
-returns-then-is_passed c _ t l known within held =
-    c.is_passed.ensures c.if-is_passed.true (rules_by c.args._asked.now) t l known.line within held
+pub returns-then-is_passed-clause-passed : goal.returns-then-is_passed-clause-passed
+returns-then-is_passed-clause-passed c _ t l known within held =
+    c.is_passed.ensures.passed c.if-is_passed.true (rules_by c.args._asked.now) t l known.line within held
 
-pub returns-in-Some : goal.returns-in-Some
-returns-in-Some c e t l known within held =
+pub returns-in-Some-clause-passed : goal.returns-in-Some-clause-passed
+returns-in-Some-clause-passed c e t l known within held =
     let asked = c.args._asked.now in
     let r = rules_by asked in
     let sought = c.args.search.now in

@@ -1,4 +1,4 @@
-use Rattle.item_pick.proofs.Common.{◌<◌, ◌+◌, ◌-◌, ◌≡◌, inl, inr, subst, arith, get_or, length, reverse, cases_lt, place_at, IsPassed, item_numbered, rules_in}
+use Rattle.item_pick.proofs.Common.{false, list_any, same_item, ◌<◌, ◌+◌, ◌-◌, ◌≡◌, inl, inr, subst, arith, get_or, length, reverse, cases_lt, place_at, IsPassed, item_numbered, rules_in}
 use Rattle.item_pick.proofs.TableLaws.{next_in}
 use Rattle.item_pick.proofs.tables.Tables.next_open.Goals as goal
 
@@ -22,13 +22,13 @@ items-preserved c =
             let same : c.items.count - 1 ≡ k = omega (arith, here, a) in
             inr (λ t l memory within held.
             subst (λ n. IsPassed (rules_in c.args.asked.now.parts.now c.args.asked.now.budget) t (place_at l search.at) search.floor search.looked (reverse search.tried.now) (item_numbered (get_or list n 0))) same
-            (c.is_over.ensures c.if-not-is_over.false t l memory within held))
+            (c.is_over.ensures.passed c.if-not-is_over.false t l memory within held))
         | inr more ↦ before.passed rises k more b
       ];
     }
 
-pub returns-then-not-is_over : goal.returns-then-not-is_over
-returns-then-not-is_over c rises t l memory within held =
+pub returns-then-not-is_over-clause-next : goal.returns-then-not-is_over-clause-next
+returns-then-not-is_over-clause-next c rises t l memory within held =
     let search = c.args.search.now in
     let list = c.args.list.now in
     let count = c.items.count in
@@ -43,8 +43,8 @@ returns-then-not-is_over c rises t l memory within held =
           ]),
     )
 
-pub returns : goal.returns
-returns c rises t l memory within held =
+pub returns-clause-next : goal.returns-clause-next
+returns-clause-next c rises t l memory within held =
     let search = c.args.search.now in (
       omega arith,
       next_in (λ j. IsPassed (rules_in c.args.asked.now.parts.now c.args.asked.now.budget) t (place_at l search.at) search.floor search.looked (reverse search.tried.now) (item_numbered j))
@@ -53,4 +53,11 @@ returns c rises t l memory within held =
             | inl above ↦ inl above
             | inr passed ↦ inr (passed t l memory within held)
           ]),
+    )
+
+pub returns-then-not-is_over-clause-last : goal.returns-then-not-is_over-clause-last
+returns-then-not-is_over-clause-last c j e =
+    let same : get_or c.args.list.now (c.items.count - 1) 0 ≡ j = omega (arith, e) in (
+      (c.items.count - 1, omega (arith, c.items.invariant.within, c.items-test.true), same),
+      subst (λ n. list_any (same_item (item_numbered n)) (reverse c.args.search.now.tried.now) ≡ false) same (c.is_over.ensures.untried c.if-not-is_over.true),
     )
