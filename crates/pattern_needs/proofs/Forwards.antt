@@ -16,7 +16,7 @@ use Rattle.match_rules.proofs.Forwards.{IsForwardsOrNone, fits-forwards, further
 use Rattle.match_rules.proofs.MarkLaws.{AllWays}
 use Rattle.match_rules.proofs.Walks.{IsForwards}
 
-abbrev Anything : Looked → Type 0
+abbrev pub Anything : Looked → Type 0
 Anything l = Unit {0}
 
 abbrev Anywhere : Way → Type 0
@@ -75,7 +75,7 @@ later x (before part negative limit) p w h =
     look-all Anything Anywhere (IsLater p) negative w h (λ v k. h) (tried_behind x.text (visits x part) limit w) (all-anywhere (tried_behind x.text (visits x part) limit w))
 later x (whole part) p w h = whole-all Anything (IsLater p) (visits x part w) (later x part p w h)
 
-ways-of-all : (P : Way → Type 0) (marks : List Mark) → AllMarks Anything P marks → AllWays P marks
+pub ways-of-all : (P : Way → Type 0) (marks : List Mark) → AllMarks Anything P marks → AllWays P marks
 ways-of-all P [] h = tt
 ways-of-all P (Tick l ∷ marks) h = ways-of-all P marks h.1
 ways-of-all P (Reach w ∷ marks) h = (h.0, ways-of-all P marks h.1)

@@ -1,20 +1,12 @@
--- Laws of the characters that a line holds.
-use Rattle.std.proofs.Common.{◌≡◌, ◌∙◌, refl, sym, ap, arith, ℕ, zero, suc, ◌+◌, ◌<◌, ◌/◌, ◌%◌, Bool, true, false, eqb, List, [], ◌∷◌, get_or, max, min, ◌||◌, bit_and, bit_or}
-use Rattle.std.specs.Prelude.{◌≤◌, nat_lt, nat_le, if◌then◌else◌, ◌&&◌, not, drop, length}
+-- Laws of some characters.
+use Rattle.std.proofs.Common.{◌≡◌, ◌∙◌, refl, sym, ap, arith, ℕ, zero, suc, ◌<◌, ◌/◌, ◌%◌, ◌^◌, ◌-◌, Bool, true, false, eqb, List, [], ◌∷◌, get_or, max, ◌||◌, bit_and, bit_or}
+use Rattle.std.specs.Prelude.{nat_lt, nat_le, if◌then◌else◌}
 use Rattle.std.specs.Int.{bit_at}
-use Rattle.std.specs.List.{All, list_any}
 use Rattle.std.proofs.lemmas.Bool.{eqb-true}
 use Rattle.std.proofs.lemmas.Bool.Decides.{nat_tests}
-use Rattle.std.proofs.lemmas.List.Folds.{list_any_none}
-use Rattle.std.proofs.lemmas.Nat.Bits.{bit_at-zero, bit_at-lt, bit_at_and, bit_at_or}
+use Rattle.std.proofs.lemmas.Nat.Bits.{bit_at-zero, bit_at-lt, bit_at_and, bit_at_ones, bit_at_or}
 use Rattle.char_class.specs.Bits.{has_bit}
 use Rattle.char_class.proofs.CodeLaws.{no_code}
-use Rattle.pattern_needs.specs.Held.{holds}
-use Rattle.pattern_needs.specs.Lacking.{Need, is_lacked}
-use Rattle.pattern_needs.specs.LineNeeds.{AreHeld, Covers}
-use Rattle.pattern_needs.specs.Needs.{some_takes}
-use Rattle.pattern_needs.specs.declared.held.Held.{Held}
-use Rattle.pattern_needs.specs.declared.line_need.LineNeed.{LineNeed}
 
 -- the code of a place and a bit of four words
 abbrev is_bit : List ℕ → ℕ → Bool
@@ -97,24 +89,22 @@ others_held c = by (nat_lt c 256) refl
     by true e = no_code c ∙ grind (arith, nat_tests, e)
     by false e = grind (arith, nat_tests, e)
 
-not_true : (b : Bool) → (b ≡ true → ⊥) → b ≡ false
-not_true true h = absurd (h refl)
-not_true false h = refl
+-- each code is in full words
+abbrev full : ℕ
+full = 18446744073709551615
 
-true_isnt : (b : Bool) → b ≡ true → b ≡ false → ⊥
-true_isnt true e f = absurd (cc)
-true_isnt false e f = absurd (cc)
+abbrev ones : List ℕ
+ones = full ∷ full ∷ full ∷ full ∷ []
 
--- what no held character is, the line lacks
-pub lacked_by : (need : LineNeed) (held : Held) (many : ℕ) (line : List ℕ) (full : Need) → many ≤ need.most → ((c : ℕ) → holds need.takes c ≡ true → holds held c ≡ false) →
-    AreHeld held many line → Covers full need → is_lacked full line 0 ≡ true
-lacked_by need held many line full short apart are covers =
-    let f : ℕ → Bool = some_takes full.sets full.ignore full.atoms in
-    let within : nat_le (length line) full.most ≡ true = grind (arith, nat_tests, short, are.few, covers.within) in
-    let none : list_any f line ≡ false =
-    list_any_none f line (λ k d inside. not_true _ (λ takes. true_isnt _ (are.each k d inside) (apart _ (covers.takes _ takes)))) in
-    rw (within, none) refl
+all_bits : (c : ℕ) → c < 256 → has_bit ones c ≡ true
+all_bits c h =
+    let here : get_or ones (c / 64) 0 ≡ 2 ^ 64 - 1 = four (c / 64) (place_below c h) (λ k. get_or ones k 0 ≡ 2 ^ 64 - 1) refl refl refl refl in
+    let under : c % 64 < 64 = omega arith in
+    bits ones c ∙ (ap (λ w. eqb (bit_at w (c % 64)) 1) here ∙ ap (λ n. eqb n 1) (bit_at_ones 64 (c % 64) under))
 
-pub not_is : (b : Bool) → not b ≡ true → b ≡ false
-not_is true e = absurd (cc)
-not_is false e = refl
+pub all_held : (c : ℕ) → (if nat_lt c 256 then has_bit ones c else true) ≡ true
+all_held c = by (nat_lt c 256) refl
+  where
+    by : (b : Bool) → nat_lt c 256 ≡ b → (if b then has_bit ones c else true) ≡ true
+    by true e = all_bits c (grind (arith, nat_tests, e))
+    by false e = refl

@@ -30,10 +30,10 @@ use Rattle.pattern_needs.proofs.LineParts.{IsFrom, both-are, counted-is, first-i
 abbrev pub HasNone : List Mark → Type 0
 HasNone marks = ways_of marks ≡ 0
 
-none-followed : (a : List Mark) (f : Way → List Mark) → HasNone a → HasNone (followed a f)
+pub none-followed : (a : List Mark) (f : Way → List Mark) → HasNone a → HasNone (followed a f)
 none-followed a f h = ap ways_of (followed-none a f h) ∙ h
 
-none-after : (P : Way → Type 0) (a : List Mark) (f : Way → List Mark) → AllWays P a → ((v : Way) → P v → HasNone (f v)) → HasNone (followed a f)
+pub none-after : (P : Way → Type 0) (a : List Mark) (f : Way → List Mark) → AllWays P a → ((v : Way) → P v → HasNone (f v)) → HasNone (followed a f)
 none-after P a f h k = omega (arith, followed-ways P 0 a f h (λ v p. omega (arith, k v p)))
 
 none-looked : (w : Way) (marks : List Mark) → HasNone marks → HasNone (look false w marks)
@@ -88,7 +88,7 @@ module _ (x : Context) (line from : ℕ) where
 
   module _ (most : ℕ) (few : length (line_at x.text line) ≤ most) where
     -- the ways of a part from the column on are in the line, from the column on
-    ways-from : (node : Shape) (room : Room) → room_of most node ≡ Some room → (w : Way) → IsFrom x line from w.at → AllWays (λ v. IsFrom x line from v.at) (visits x node w)
+    pub ways-from : (node : Shape) (room : Room) → room_of most node ≡ Some room → (w : Way) → IsFrom x line from w.at → AllWays (λ v. IsFrom x line from v.at) (visits x node w)
     ways-from node room e w at =
         from-later x line from w (visits x node w) at (room-lined x line most few node room e w (in-line x line from w.at at)).here (goes-forwards x node w)
 

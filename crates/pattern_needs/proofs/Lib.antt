@@ -5,4 +5,8 @@ pub mod HeldLaws
 pub mod NeedsLaws
 pub mod AskingLaws
 pub mod RoomLaws
+pub mod LeadLaws
+pub mod FrontLaws
+pub mod FrontWays
+pub mod LineNeedLaws
 mod Rows

@@ -29,7 +29,7 @@ none-there f (d ∷ line) zero (suc i) c h l e = none-there f line zero i c (or_
 none-there f (d ∷ line) (suc from) zero c h l e = absurd (omega arith)
 none-there f (d ∷ line) (suc from) (suc i) c h l e = none-there f line from i c h (omega arith) e
 
-room-is : (budget : ℕ) (o : Option Room) → costs_at_most budget o ≡ true → (room : Room) × ((o ≡ Some room) × (room.cost ≤ budget))
+pub room-is : (budget : ℕ) (o : Option Room) → costs_at_most budget o ≡ true → (room : Room) × ((o ≡ Some room) × (room.cost ≤ budget))
 room-is budget None e = absurd (cc)
 room-is budget (Some room) e = (room, (refl, isnt_more budget room.cost e))
 

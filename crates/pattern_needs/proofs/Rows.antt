@@ -9,6 +9,7 @@ use Rattle.pattern_items.specs.declared.atom.SetPart.TheVariants.{Of}
 use Rattle.pattern_items.specs.declared.item.Behind.TheVariants as behind
 use Rattle.vim_pattern.specs.Shape.{Shape, one, seq, or, group, repeat, ahead, before}
 use Rattle.vim_pattern.specs.Tree.{PatternTree}
+use Rattle.pattern_needs.specs.Fronts.{front, piece}
 use Rattle.pattern_needs.specs.LineRooms.{is_cheap_in, room_of}
 use Rattle.pattern_needs.specs.Needs.{lacks, needed}
 
@@ -73,6 +74,21 @@ no_need_of_a_negative_look = refl
 
 pub no_need_of_a_look_behind : needed (before (group (ch 97) 1) false behind.Any) ≡ None
 no_need_of_a_look_behind = refl
+
+-- ---- first pieces
+
+-- of `xyz` the piece of number 1, and those up to it
+abbrev three : Shape
+three = seq (ch 120) (seq (ch 121) (ch 122))
+
+pub piece_of_three : piece three 1 ≡ ch 121
+piece_of_three = refl
+
+pub front_of_three : front three 1 ≡ seq (ch 120) (ch 121)
+front_of_three = refl
+
+pub need_of_a_front : needed (front three 1) ≡ Some (Char 121 ∷ [])
+need_of_a_front = refl
 
 -- ---- lines
 

@@ -3,7 +3,9 @@ pub mod Needs
 pub mod LineRooms
 pub mod Lacking
 pub mod NeedsLaw
-pub mod Held
+pub mod Characters
+pub mod Fronts
+pub mod Nonblanks
 pub mod LineNeeds
 -- what only code and proofs cite
 pub mod Asking

@@ -1,29 +1,45 @@
 -- What a line must hold so that a pattern has a way in it.
-use Rattle.std.specs.Prelude.{◌≡◌, ℕ, ◌≤◌, Bool, true, List, length}
+use Rattle.std.specs.Prelude.{◌≡◌, ℕ, ◌≤◌, Bool, true, false, List, length, IfSome}
 use Rattle.std.specs.List.{All}
 use Rattle.char_class.specs.declared.sets.Sets.{Sets}
 use Rattle.vim_pattern.specs.Tree.{PatternTree}
-use Rattle.pattern_needs.specs.Held.{holds}
-use Rattle.pattern_needs.specs.Lacking.{IsNeedOf, Need, is_lacked}
-use Rattle.pattern_needs.specs.Needs.{some_takes}
+use Rattle.match_rules.specs.Ways.{Context, line_at, place}
+use Rattle.match_rules.specs.Attempt.{attempt}
+use Rattle.pattern_screens.specs.ScreenLaw.{IsInVain}
+use Rattle.pattern_needs.specs.Characters.{holds}
+use Rattle.pattern_needs.specs.Nonblanks.{IsSecondOf}
 use Rattle.pattern_needs.specs.declared.held.Held.{Held}
 use Rattle.pattern_needs.specs.declared.line_need.LineNeed.{LineNeed}
+use Rattle.pattern_needs.specs.declared.one_of.OneOf.{OneOf}
 
--- each character that this need takes is among some, and lines in which it is looked for aren't longer
-pub record Covers (full : Need) (need : LineNeed) : Type 0 where
-  pub within : need.most ≤ full.most
-  pub takes : (c : ℕ) → some_takes full.sets full.ignore full.atoms c ≡ true → holds need.takes c ≡ true
+-- all characters of a line are among these, and this is the second that isn't a blank
+pub record IsHeldOf (held : Held) (line : List ℕ) : Type 0 where
+  pub each : All (λ c. holds held.characters c ≡ true) line
+  pub second : IfSome held.second (IsSecondOf line)
 
--- what a pattern needs is covered
-abbrev pub IsLineNeedOf : Sets → Bool → ℕ → PatternTree → LineNeed → Type 0
-IsLineNeedOf sets ignore budget tree need = (full : Need) × (IsNeedOf sets ignore budget tree full × Covers full need)
-
--- these are all characters of a line of so many
+-- the same of a line of at most so many
 pub record AreHeld (held : Held) (many : ℕ) (line : List ℕ) : Type 0 where
-  pub each : All (λ c. holds held c ≡ true) line
+  pub are : IsHeldOf held line
   pub few : length line ≤ many
 
--- a pattern needs something that the line lacks
-abbrev pub LacksNeed : Sets → Bool → ℕ → PatternTree → List ℕ → Type 0
-LacksNeed sets ignore budget tree line =
-    (need : Need) × (IsNeedOf sets ignore budget tree need × (is_lacked need line 0 ≡ true))
+-- each attempt in a line has no way, is within the budget, and looks at its line alone
+abbrev pub IsVainIn : Sets → Bool → ℕ → PatternTree → List ℕ → Type 0
+IsVainIn sets ignore budget tree line =
+    (x : Context) (l col : ℕ) → x.sets ≡ sets → x.ignore ≡ ignore → line_at x.text l ≡ line → col ≤ length line →
+    IsInVain (place l col) budget false (attempt tree x (place l col))
+
+-- lines of at most so many characters are of no use to a pattern that have none of these
+abbrev pub IsOneNeeded : Sets → Bool → ℕ → PatternTree → OneOf → Type 0
+IsOneNeeded sets ignore budget tree need =
+    (line : List ℕ) → length line ≤ need.most → All (λ c. holds need.characters c ≡ false) line →
+    IsVainIn sets ignore budget tree line
+
+-- nor are those whose second character that isn't a blank is none of these
+abbrev pub IsSecondNeeded : Sets → Bool → ℕ → PatternTree → OneOf → Type 0
+IsSecondNeeded sets ignore budget tree need =
+    (line : List ℕ) → length line ≤ need.most → (c : ℕ) → IsSecondOf line c → holds need.characters c ≡ false →
+    IsVainIn sets ignore budget tree line
+
+pub record IsLineNeedOf (sets : Sets) (ignore : Bool) (budget : ℕ) (tree : PatternTree) (need : LineNeed) : Type 0 where
+  pub any : IsOneNeeded sets ignore budget tree need.any
+  pub second : IsSecondNeeded sets ignore budget tree need.second

@@ -1,105 +1,68 @@
-//! Which characters a line holds.
-ghost use Rattle.std.specs.Prelude.{◌≡◌, ◌==◌, ◌<◌, ◌||◌, ℕ, true, false, nat_le, if◌then◌else◌};
-ghost use Rattle.std.specs.List.{All};
-ghost use Rattle.char_class.specs.Bits.{has_bit};
-ghost use Rattle.pattern_needs.specs.Held.{holds};
+//! What of a line is looked at to tell what it lacks.
+ghost use Rattle.std.specs.Prelude.{◌≡◌, ◌<◌, ◌≤◌, ℕ, IfSome, None, Some, slice_get, true, false};
+ghost use Rattle.pattern_needs.specs.Characters.{holds};
+ghost use Rattle.pattern_needs.specs.LineNeeds.{IsHeldOf};
+ghost use Rattle.pattern_needs.specs.Nonblanks.{IsSecondOf, is_blank};
 
-/// Some characters: those below 256 one by one, and all others together.
+use crate::characters::Characters;
+
+/// Which characters a line holds, and the second of those that aren't blanks.
 #[derive(Clone, Copy)]
 pub struct Held {
-    words: [u64; 4],
-    others: bool,
+    pub(crate) characters: Characters,
+    pub(crate) second: Option<char>,
 }
 
 impl Held {
-    /// No character.
+    /// That of no line.
     pub fn none() -> Held
-        ensures { (c : ℕ) → holds result c ≡ false }
+        ensures characters { (c : ℕ) → holds result.characters c ≡ false }
+        ensures second { result.second ≡ None }
     {
         Held {
-            words: [0; 4],
-            others: false,
+            characters: Characters::none(),
+            second: None,
         }
     }
 
-    /// All characters from 256 on.
-    pub(crate) fn others() -> Held
-        ensures { (c : ℕ) → holds result c ≡ nat_le 256 c }
-    {
-        Held {
-            words: [0; 4],
-            others: true,
-        }
-    }
-
-    /// The characters of a line.
+    /// That of a line.
     pub fn of(line: &[char]) -> Held
-        ensures { All (λ c. holds result c ≡ true) line.now }
-    {
-        let mut held = Held::none();
-        for c in line {
-            held.add(*c);
-        }
-        held
-    }
-
-    /// Adds a character.
-    fn add(&mut self, c: char)
-        ensures here { holds self.new c ≡ true }
-        ensures kept { (d : ℕ) → holds self.old d ≡ true → holds self.new d ≡ true }
-    {
-        match u8::try_from(c) {
-            Ok(code) => self.add_code(code),
-            Err(_) => self.others = true,
-        }
-    }
-
-    /// Adds the character of a code.
-    pub(crate) fn add_code(&mut self, code: u8)
-        ensures { (c : ℕ) → holds self.new c ≡ (if c == code then true else holds self.old c) }
-    {
-        put(&mut self.words, code);
-    }
-
-    /// The characters of both.
-    pub(crate) fn with(&self, other: &Held) -> Held
-        ensures { (c : ℕ) → holds result c ≡ (holds self.now c || holds other.now c) }
+        ensures { IsHeldOf result line.now }
     {
         Held {
-            words: joined(&self.words, &other.words),
-            others: self.others | other.others,
+            characters: Characters::of(line),
+            second: second_nonblank(line),
         }
     }
+}
 
-    /// Whether a character may be in both.
-    pub(crate) fn meets(&self, other: &Held) -> bool
-        ensures { result ≡ false → (c : ℕ) → holds self.now c ≡ true → holds other.now c ≡ false }
-    {
-        have_common(&self.words, &other.words) | (self.others & other.others)
+/// The second of a line's characters that aren't blanks.
+fn second_nonblank(line: &[char]) -> Option<char>
+    ensures { IfSome result (IsSecondOf line.now) }
+{
+    let first = past_blanks(line, 0);
+    let behind = first.checked_add(1)?;
+    line.get(past_blanks(line, behind)).copied()
+}
+
+/// The first column from one on at which no blank stands.
+fn past_blanks(line: &[char], from: usize) -> usize
+    ensures from { from ≤ result }
+    ensures blanks { (i c : ℕ) → from ≤ i → i < result → slice_get line.now i ≡ Some c →
+        is_blank c ≡ true }
+    ensures nonblank { (c : ℕ) → slice_get line.now result ≡ Some c → is_blank c ≡ false }
+{
+    for col in from..line.len() {
+        if !is_blank(line[col]) {
+            return col;
+        }
     }
+    from.max(line.len())
 }
 
-/// Puts a code in.
-fn put(words: &mut [u64; 4], code: u8)
-    ensures { (c : ℕ) → has_bit words.new c ≡ (if c == code then true else has_bit words.old c) }
+/// Whether it is a blank: a space or a tab (`/\s`).
+fn is_blank(c: char) -> bool
+    ensures { result ≡ is_blank c }
 {
-    let at = usize::from(code / 64);
-    let bit: u64 = 1 << (code % 64);
-    let word = words[at];
-    words[at] = word | bit;
-}
-
-/// The codes of both.
-fn joined(a: &[u64; 4], b: &[u64; 4]) -> [u64; 4]
-    ensures { (c : ℕ) → c < 256 → has_bit result c ≡ (has_bit a.now c || has_bit b.now c) }
-{
-    [a[0] | b[0], a[1] | b[1], a[2] | b[2], a[3] | b[3]]
-}
-
-/// Whether a code is in both.
-fn have_common(a: &[u64; 4], b: &[u64; 4]) -> bool
-    ensures { result ≡ false → (c : ℕ) → c < 256 → has_bit a.now c ≡ true →
-        has_bit b.now c ≡ false }
-{
-    a[0] & b[0] | a[1] & b[1] | a[2] & b[2] | a[3] & b[3] != 0
+    c == ' ' || c == '\t'
 }

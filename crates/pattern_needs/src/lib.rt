@@ -10,13 +10,17 @@ ghost use Rattle.pattern_needs.specs.NeedsLaw.{AreNeedsSound};
 mod asked;
 mod atoms;
 mod by;
+mod characters;
 mod held;
 mod line_need;
 mod longest;
 mod needs;
+mod nonblanks;
+mod one_of;
 mod piece;
 mod room;
 mod rooms;
+mod taken;
 
 pub use held::Held;
 pub use line_need::LineNeed;

@@ -5,13 +5,10 @@ ghost use Rattle.char_class.specs.Bits.{has_code};
 ghost use Rattle.vim_pattern.specs.Shape.{bare};
 ghost use Rattle.pattern_needs.specs.Asking.{atoms_in};
 ghost use Rattle.pattern_needs.specs.Lacking.{IsNeedOf, Need, is_lacked};
-ghost use Rattle.pattern_needs.specs.LineNeeds.{Covers};
 ghost use Rattle.pattern_needs.specs.Needs.{lacks, needed, some_takes};
 
 use crate::asked::{ask, takes_needed};
 use crate::by::By;
-use crate::held::Held;
-use crate::line_need::LineNeed;
 use crate::longest::longest_cheap;
 use crate::piece::telling_piece;
 use char_class::{Codes, Sets};
@@ -55,10 +52,7 @@ impl<'a> Needs<'a> {
     pub fn of(tree: &'a Tree, sets: &'a Sets, ignore: bool, budget: u64) -> Option<Needs<'a>>
         ensures { IfSome result (IsNeedOf sets.now ignore budget tree.now) }
     {
-        let by = By {
-            sets,
-            ignore: tree.case.unwrap_or(ignore),
-        };
+        let by = By::of(tree, sets, ignore);
         let part = telling_piece(&tree.node, &by);
         ask(part, &by, ' ')?;
         let most = longest_cheap(tree, budget)?;
@@ -68,22 +62,6 @@ impl<'a> Needs<'a> {
             low: codes_taken(part, &by),
             most,
         })
-    }
-
-    /// What a whole line must hold.
-    pub(crate) fn of_line(&self) -> LineNeed
-        ensures { (need : Need) → need ≡ self.now → Covers need result }
-    {
-        let mut takes = Held::others();
-        for code in 0..=u8::MAX {
-            if self.low.have(code) {
-                takes.add_code(code);
-            }
-        }
-        LineNeed {
-            takes,
-            most: self.most,
-        }
     }
 
     /// Whether a line isn't too long, and has no character that the pattern needs at a column or behind

@@ -2,6 +2,7 @@
 ghost use Rattle.std.specs.Prelude.{◌≡◌, Some, IfSome};
 ghost use Rattle.vim_pattern.specs.Shape.{bare};
 ghost use Rattle.pattern_screens.specs.Lined.{is_few};
+ghost use Rattle.pattern_needs.specs.Fronts.{front, front_upto};
 ghost use Rattle.pattern_needs.specs.LineRooms.{both_rooms, chain_room, endless_room, first_room, optional_room, or_room, room_of, then_room, turns_room};
 
 use crate::atoms::is_lined_atom;
@@ -184,4 +185,49 @@ fn room_either(one: Room, most: u64, node: &Node) -> Option<Room>
         rest = b;
     }
     or_room(known, room_of(most, rest)?)
+}
+
+/// The room of a node's first pieces, up to that of a number; of the whole where no number is told.
+pub(crate) fn front_room(most: u64, node: &Node, upto: Option<usize>) -> Option<Room>
+    ensures { IfSome result (λ room. room_of most (front_upto upto (bare node.now)) ≡ Some room) }
+{
+    match upto {
+        None => room_of(most, node),
+        Some(number) => numbered_room(most, node, number),
+    }
+}
+
+/// The same of a number; none where the sequence ends before it.
+fn numbered_room(most: u64, node: &Node, number: usize) -> Option<Room>
+    ensures { IfSome result (λ room. room_of most (front (bare node.now) number) ≡ Some room) }
+{
+    let Node::Seq(a, b) = node else {
+        return None;
+    };
+    let first = room_of(most, a)?;
+    match number.checked_sub(1) {
+        None => Some(first),
+        Some(left) => front_behind(first, most, b, left),
+    }
+}
+
+/// The room of a part and of the first pieces of a node behind it, up to that of a number.
+#[tactic(auto, using(crate::proofs::RoomLaws::pieces))]
+fn front_behind(first: Room, most: u64, node: &Node, number: usize) -> Option<Room>
+    ensures { IfSome result (λ room.
+        both_rooms then_room (Some first) (room_of most (front (bare node.now) number))
+        ≡ Some room) }
+{
+    let mut known = first;
+    let mut rest = node;
+    let mut left = number;
+    while let Node::Seq(a, b) = rest {
+        known = then_room(known, room_of(most, a)?)?;
+        if left == 0 {
+            return Some(known);
+        }
+        left -= 1;
+        rest = b;
+    }
+    None
 }

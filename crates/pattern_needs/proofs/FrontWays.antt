@@ -1,0 +1,92 @@
+-- The first pieces of a pattern, where they have no way.
+use Rattle.std.proofs.Common.{◌≡◌, ◌≤◌, ℕ, zero, suc, List, [], ◌∷◌, length, refl, sym, arith, subst}
+use Rattle.std.specs.Prelude.{Option, Some, None, true, false}
+use Rattle.syn_base.specs.declared.places.Place.{Place}
+use Rattle.vim_pattern.specs.Shape.{Shape, empty, one, seq, or, and, group, external, repeat, ahead, before, whole}
+use Rattle.vim_pattern.specs.Tree.{PatternTree}
+use Rattle.match_rules.specs.Ways.{Context, Way, line_at, place, way_from}
+use Rattle.match_rules.specs.Attempt.{answer_of, attempt, for_tree}
+use Rattle.match_rules.specs.Marks.{Mark, Tick, Reach, followed}
+use Rattle.match_rules.specs.Visits.{visits}
+use Rattle.match_rules.proofs.MarkLaws.{AllWays, followed-same}
+use Rattle.pattern_screens.specs.ScreenLaw.{IsInVain}
+use Rattle.pattern_screens.proofs.Bounded.{followed-none, ways-append}
+use Rattle.pattern_screens.proofs.InVain.{in-vain}
+use Rattle.pattern_screens.proofs.LinedParts.{IsIn, Lined}
+use Rattle.pattern_needs.specs.Fronts.{front, front_tree, front_upto, piece, piece_upto}
+use Rattle.pattern_needs.specs.LineRooms.{is_cheap_in, room_of, then_room}
+use Rattle.pattern_needs.specs.declared.room.Room.{Room}
+use Rattle.pattern_needs.proofs.Lacking.{HasNone, none-after, ways-from}
+use Rattle.pattern_needs.proofs.LineParts.{IsFrom, both-are, in-line, room-lined}
+use Rattle.pattern_needs.proofs.NeedsLaws.{room-is}
+
+-- ---- where the first pieces have no way, the whole does the same
+
+none-each : (a : List Mark) (f : Way → List Mark) → HasNone (followed a f) → AllWays (λ v. HasNone (f v)) a
+none-each [] f h = tt
+none-each (Tick l ∷ a) f h = none-each a f h
+none-each (Reach w ∷ a) f h =
+    let both = ways-append (f w) (followed a f) in
+    (omega (arith, both, h), none-each a f (omega (arith, both, h)))
+
+front-same : (x : Context) (node : Shape) (k : ℕ) (w : Way) → HasNone (visits x (front node k) w) → visits x node w ≡ visits x (front node k) w
+front-same x (seq a b) zero w h = followed-none (visits x a w) (visits x b) h
+front-same x (seq a b) (suc k) w h =
+    followed-same (λ v. HasNone (visits x (front b k) v)) (visits x a w) (visits x b) (visits x (front b k))
+    (none-each (visits x a w) (visits x (front b k)) h) (λ v none. front-same x b k v none)
+front-same x empty k w h = refl
+front-same x (one a) k w h = refl
+front-same x (or a b) k w h = refl
+front-same x (and a b) k w h = refl
+front-same x (group part number) k w h = refl
+front-same x (external part number) k w h = refl
+front-same x (repeat part least most lazy) k w h = refl
+front-same x (ahead part negative) k w h = refl
+front-same x (before part negative limit) k w h = refl
+front-same x (whole part) k w h = refl
+
+upto-same : (x : Context) (upto : Option ℕ) (node : Shape) (w : Way) → HasNone (visits x (front_upto upto node) w) → visits x node w ≡ visits x (front_upto upto node) w
+upto-same x None node w h = refl
+upto-same x (Some k) node w h = front-same x node k w h
+
+-- an attempt of which the first pieces have no way is in vain
+pub vain-by-front : (tree : PatternTree) (x : Context) (budget : ℕ) (upto : Option ℕ) (most line col : ℕ) → length (line_at x.text line) ≤ most → col ≤ length (line_at x.text line) →
+    is_cheap_in most budget (front_tree upto tree) ≡ true → HasNone (visits (for_tree tree x) (front_upto upto tree.node) (way_from (place line col))) →
+    IsInVain (place line col) budget false (attempt tree x (place line col))
+vain-by-front tree x budget upto most line col short within cheap none =
+    let y : Context = for_tree tree x in
+    let start : Place = place line col in
+    let node : Shape = front_upto upto tree.node in
+    let marks : List Mark = visits y node (way_from start) in
+    let room = room-is budget (room_of most node) cheap in
+    let at : IsFrom y line 0 start = record { on = refl; within = within; from = omega arith } in
+    let lined : Lined y line room.0.ways room.0.cost marks = room-lined y line most short node room.0 room.1.0 (way_from start) (in-line y line 0 start at) in
+    let vain = in-vain {R = IsIn y line} {marks = marks} start (record { here = lined.here; few = omega (arith, none); cheap = omega (arith, lined.cheap, room.1.1); seen = lined.seen }) in
+    subst (λ m. IsInVain start budget false (answer_of m)) (sym (upto-same y upto tree.node (way_from start) none)) vain
+
+-- ---- where one piece has no way, the pieces up to it haven't
+
+module _ (x : Context) (line most : ℕ) (few : length (line_at x.text line) ≤ most) where
+  abbrev HasNoneAt : Shape → Type 0
+  HasNoneAt part =
+      (room : Room) → room_of most part ≡ Some room → (v : Way) → IsFrom x line 0 v.at → HasNone (visits x part v)
+
+  front-none : (node : Shape) (k : ℕ) → HasNoneAt (piece node k) → HasNoneAt (front node k)
+  front-none (seq a b) zero h room e w at = h room e w at
+  front-none (seq a b) (suc k) h room e w at =
+      let t = both-are then_room (room_of most a) (room_of most (front b k)) room e in
+      none-after (λ v. IsFrom x line 0 v.at) (visits x a w) (visits x (front b k)) (ways-from x line 0 most few a t.0 t.1.1.0 w at) (λ v i. front-none b k h t.1.0 t.1.1.1.0 v i)
+  front-none empty k h room e w at = h room e w at
+  front-none (one a) k h room e w at = h room e w at
+  front-none (or a b) k h room e w at = h room e w at
+  front-none (and a b) k h room e w at = h room e w at
+  front-none (group part number) k h room e w at = h room e w at
+  front-none (external part number) k h room e w at = h room e w at
+  front-none (repeat part least count lazy) k h room e w at = h room e w at
+  front-none (ahead part negative) k h room e w at = h room e w at
+  front-none (before part negative limit) k h room e w at = h room e w at
+  front-none (whole part) k h room e w at = h room e w at
+
+  pub upto-none : (upto : Option ℕ) (node : Shape) → HasNoneAt (piece_upto upto node) → HasNoneAt (front_upto upto node)
+  upto-none None node h = h
+  upto-none (Some k) node h = front-none node k h

@@ -1,8 +1,0 @@
--- Which characters a line holds: those below 256 one by one, and all others together.
-use Rattle.std.specs.Prelude.{ℕ, Bool, nat_lt, if◌then◌else◌}
-use Rattle.char_class.specs.Bits.{has_bit}
-use Rattle.pattern_needs.specs.declared.held.Held.{Held}
-
--- whether a character may be among them
-abbrev pub holds : Held → ℕ → Bool
-holds held c = if nat_lt c 256 then has_bit held.words c else held.others
