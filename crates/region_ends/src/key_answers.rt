@@ -24,6 +24,7 @@ impl KeyAnswers {
     }
 
     /// What was answered of an item at the columns with a key.
+    #[inline(always)]
     pub fn known(&self, number: u16, item: ItemId) -> Option<bool>
         ensures { (is : ℕ → ℕ → Bool) → AnswersStand is self.now → result ≡ Some true →
             is number item.0 ≡ true }

@@ -1,9 +1,15 @@
 -- Lists with an element put into them.
-use Rattle.std.proofs.Common.{sym, subst, ◌<◌, ◌≡◌, ◌⊎◌, ℕ, zero, suc, arith, inl, inr, List, [], ◌∷◌, ◌++◌, length, set, refl}
-use Rattle.std.specs.Prelude.{Some, slice_get}
+use Rattle.std.proofs.Common.{sym, subst, ap, ◌∙◌, ◌<◌, ◌≡◌, ◌⊎◌, ◌/◌, ◌%◌, ◌*◌, ◌^◌, ℕ, zero, suc, true, arith, inl, inr, List, [], ◌∷◌, ◌++◌, length, set, refl, bit_or, w64}
+use Rattle.std.specs.Prelude.{Some, slice_get, nat_eq}
+use Rattle.std.specs.Int.{bit_at}
+use Rattle.std.proofs.lemmas.Bool.{cases_eq}
+use Rattle.std.proofs.lemmas.Bool.Decides.{nat_tests}
+use Rattle.std.proofs.lemmas.Nat.Bits.{bit_at-zero, bit_at_set_other, bit_at_set_same}
+use Rattle.std.proofs.lemmas.Option.{slice_get_within}
 use Rattle.slots.specs.declared.grid.Grid.{Grid}
 use Rattle.slots.specs.declared.table.Table.{Table}
-use Rattle.slots.specs.Entries.{IsAt, IsIn, IsPut, IsPutIn}
+use Rattle.slots.specs.declared.marks.Marks.{Marks}
+use Rattle.slots.specs.Entries.{IsAt, IsIn, IsMarked, IsPut, IsPutIn}
 
 -- an element of a list with one more is one of the list, or the new one
 pub pushed : {X : Type 0} (xs : List X) (x : X) (k : ℕ) (y : X) → slice_get (xs ++ x ∷ []) k ≡ Some y → (slice_get xs k ≡ Some y) ⊎ ((k ≡ length xs) × (y ≡ x))
@@ -72,3 +78,50 @@ all_still_in {E} P old new row number entry put stands own j k e is =
       | inl h ↦ stands j k e h
       | inr h ↦ subst (λ (n : ℕ). P n k e) (sym h.0) (subst (λ (n : ℕ). P row n e) (sym h.1.0) (subst (λ (x : E). P row number x) (sym h.1.1) own))
     ]
+
+-- ---- marks
+
+pub same_number : (a b : ℕ) → nat_eq a b ≡ true → a ≡ b
+same_number a b e = grind (arith, nat_tests)
+
+abbrev pub IsSet : List ℕ → ℕ → Type 0
+IsSet words number =
+    (word : ℕ) × ((slice_get words (number / 64) ≡ Some word) × (bit_at word (number % 64) ≡ 1))
+
+-- a word of no numbers adds none
+pub marked_before : (words : List ℕ) (number : ℕ) → IsSet (words ++ 0 ∷ []) number → IsSet words number
+marked_before words number is = elim (pushed words 0 (number / 64) is.0 is.1.0) [
+  | inl before ↦ (is.0, (before, is.1.1))
+  | inr last ↦ absurd (omega (arith, bit_at-zero (number % 64), sym (ap (λ w. bit_at w (number % 64)) last.1) ∙ is.1.1))
+]
+
+-- a word with the bit of a number set
+abbrev with_bit : ℕ → ℕ → ℕ
+with_bit word number = bit_or word (1 * 2 ^ (number % 64) % 2 ^ 64)
+
+-- where a bit was set, its number is among them
+pub marked_here : (words : List ℕ) (number word : ℕ) → slice_get words (number / 64) ≡ Some word → IsSet (set words (number / 64) (with_bit word number)) number
+marked_here words number word there =
+    let bit : number % 64 < 64 = omega arith in
+    (with_bit word number, (get_set words (number / 64) _ (slice_get_within words (number / 64) word there), bit_at_set_same w64 word (number % 64) bit))
+
+-- and no other that wasn't
+pub marked_others : (words : List ℕ) (number word k : ℕ) → slice_get words (number / 64) ≡ Some word → IsSet (set words (number / 64) (with_bit word number)) k → IsSet words k ⊎ (k ≡ number)
+marked_others words number word k there is = elim (exchanged words (number / 64) _ (k / 64) is.0 is.1.0) [
+  | inl before ↦ inl (is.0, (before, is.1.1))
+  | inr here ↦ elim (cases_eq (k % 64) (number % 64)) [
+    | inl same ↦ inr (omega (arith, same, here.0))
+    | inr other ↦
+        let bit : number % 64 < 64 = omega arith in
+        let stays = bit_at_set_other w64 word (number % 64) bit (k % 64) other in
+        let was : bit_at word (k % 64) ≡ 1 = sym stays ∙ sym (ap (λ w. bit_at w (k % 64)) here.1) ∙ is.1.1 in
+        inl (word, (subst (λ i. slice_get words i ≡ Some word) (sym here.0) there, was))
+  ]
+]
+
+-- what is true of all numbers and of the new one is true of all numbers then
+pub all_marked : (P : ℕ → Type 0) (old new : Marks) (number : ℕ) → ((k : ℕ) → IsMarked new k → IsMarked old k ⊎ (k ≡ number)) → ((k : ℕ) → IsMarked old k → P k) → P number → (k : ℕ) → IsMarked new k → P k
+all_marked P old new number put all one k is = elim (put k is) [
+  | inl before ↦ all k before
+  | inr same ↦ subst P (sym same) one
+]

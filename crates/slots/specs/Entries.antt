@@ -1,6 +1,8 @@
 -- Which entry a number has.
-use Rattle.std.specs.Prelude.{◌≡◌, ◌⊎◌, ℕ, List, Some, slice_get}
+use Rattle.std.specs.Prelude.{◌≡◌, ◌⊎◌, ◌/◌, ◌%◌, ℕ, List, Some, slice_get}
+use Rattle.std.specs.Int.{bit_at}
 use Rattle.slots.specs.declared.grid.Grid.{Grid}
+use Rattle.slots.specs.declared.marks.Marks.{Marks}
 use Rattle.slots.specs.declared.slots.Slots.{Slots}
 use Rattle.slots.specs.declared.table.Table.{Table}
 
@@ -39,3 +41,8 @@ IsPutIn {E} old new row number entry =
 abbrev pub IsNoted : List ℕ → List ℕ → ℕ → Type 0
 IsNoted old new place =
     (k p : ℕ) → slice_get new k ≡ Some p → (slice_get old k ≡ Some p) ⊎ (p ≡ place)
+
+-- the bit of a number is set
+abbrev pub IsMarked : Marks → ℕ → Type 0
+IsMarked marks number =
+    (word : ℕ) × ((slice_get marks.words.items (number / 64) ≡ Some word) × (bit_at word (number % 64) ≡ 1))

@@ -26,6 +26,7 @@ impl<E: Copy> Grid<E> {
     }
 
     /// The entry of a row at a number.
+    #[inline(always)]
     pub fn get(&self, row: usize, number: usize) -> Option<E>
         ensures { IfSome result (IsIn self.now row number) }
     {

@@ -3,9 +3,11 @@
 #![tactic(auto)]
 
 mod grid;
+mod marks;
 mod slots;
 mod table;
 
 pub use grid::Grid;
+pub use marks::Marks;
 pub use slots::Slots;
 pub use table::Table;
