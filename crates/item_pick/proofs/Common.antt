@@ -23,7 +23,7 @@ pub use Rattle.paint_rules.specs.Painted.{Done, Painted, Refused, done, first_fo
 pub use Rattle.paint_rules.specs.Pick.{Picked, Starting, is_allowed, items_below, keyword_at, or_nothing, picked, start_by, match_start, region_start, Nothing, keyword_to, container_of, AWord, WordFound, Start, SkipOn, picked_allowed, start_among, waits_on}
 pub use Rattle.paint_rules.specs.Rules.{Cause, Rules, item_of, no_added, no_externals, place_at, same_item, within_budget, Matched, attempted, this_line}
 pub use Rattle.paint_rules.specs.Syntax.{context_of, attempt_by}
-pub use Rattle.pattern_needs.specs.LineNeeds.{IsLineNeedOf, LacksNeed, AreHeld}
+pub use Rattle.pattern_needs.specs.LineNeeds.{IsLineNeedOf, IsVainIn, AreHeld}
 pub use Rattle.pattern_screens.specs.Behind.{is_cheap_behind}
 pub use Rattle.pattern_screens.specs.Failing.{fails, fails_at}
 pub use Rattle.pattern_screens.specs.Following.{fails_after, takes_first}

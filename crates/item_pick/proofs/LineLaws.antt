@@ -1,5 +1,9 @@
 -- Items that start nowhere in a line.
-use Rattle.item_pick.proofs.Common.{◌≡◌, refl, sym, subst, arith, ℕ, ◌+◌, ◌≤◌, length, Result, Ok, Err, IfOk, Looked, ItemId, Place, Text, line_at, Pattern, Rules, item_of, place_at, Run, HoldsLine, HoldsLines, IsLater, IsPatternOf, IsBarren, IsLackedIn, RunStands, IsWhole}
+use Rattle.slots.specs.declared.marks.Marks.{Marks}
+use Rattle.slots.specs.Entries.{IsMarked}
+use Rattle.slots.proofs.EntryLaws.{all_marked}
+use Rattle.item_pick.proofs.Common.{◌≡◌, ◌⊎◌, item_numbered, LineStands, refl, sym, subst, arith, ℕ, ◌+◌, ◌≤◌, length, Result, Ok, Err, IfOk, Looked, ItemId, Place, Text, line_at, Pattern, Rules, item_of, place_at, Run, HoldsLine, HoldsLines, IsLater, IsPatternOf, IsBarren, IsLackedIn, RunStands, IsWhole}
+use Rattle.item_pick.specs.declared.line_known.LineKnown.{LineKnown}
 use Rattle.item_pick.proofs.NeedLaws.{IsNeedLaw, lacked_quiet}
 use Rattle.item_pick.proofs.TableLaws.{covered_quiet}
 
@@ -34,3 +38,8 @@ barren_later r t p i barren present k held pattern its col next ahead = record {
   ahead = ahead;
   idle = λ c from below within. barren p.col 0 k present held pattern its c (omega arith) within;
 }
+
+-- one item more that is barren
+pub more_barren : (r : Rules) (t : Text) (l : ℕ) (line : LineKnown) (new : Marks) (number : ℕ) → ((k : ℕ) → IsMarked new k → IsMarked line.barren k ⊎ (k ≡ number)) → LineStands r t l line → IsBarren r t l (item_numbered number) → LineStands r t l (record line { barren = new })
+more_barren r t l line new number put stands one =
+    record { keys = stands.keys; held = stands.held; runs = stands.runs; barren = all_marked (λ k. IsBarren r t l (item_numbered k)) line.barren new number put stands.barren one; ends = stands.ends }

@@ -1,5 +1,5 @@
 -- Which items of a choice may start at a column, by the key of the column.
-use Rattle.std.specs.Prelude.{◌≡◌, ◌<◌, ◌≤◌, ◌+◌, ◌-◌, ◌⊎◌, ⊤, ℕ, Bool, suc, true, not, ◌&&◌, false, get_or, nat_lt, is_none, List, length, slice_index, IfSome}
+use Rattle.std.specs.Prelude.{◌≡◌, ◌<◌, ◌≤◌, ◌+◌, ◌-◌, ◌⊎◌, ℕ, Bool, suc, true, not, ◌&&◌, false, get_or, nat_lt, is_none, List, length, slice_index, IfSome}
 use Rattle.std.specs.List.{All, list_all}
 use Rattle.std.specs.List.Sorted.{IsNonDecreasing}
 use Rattle.char_class.specs.declared.sets.Sets.{Sets}
@@ -7,13 +7,13 @@ use Rattle.vim_pattern.specs.Tree.{PatternTree}
 use Rattle.syn_base.specs.declared.looked.Looked.{Looked}
 use Rattle.syn_base.specs.declared.places.ItemId.{ItemId}
 use Rattle.syn_base.specs.declared.places.Place.{Place}
-use Rattle.slots.specs.Entries.{Has}
+use Rattle.slots.specs.Entries.{Has, IsMarked}
 use Rattle.match_rules.specs.Ways.{Text, line_at}
 use Rattle.syntax_set.specs.declared.item.ItemKind.{ItemKind}
 use Rattle.syntax_set.specs.declared.item.ItemKind.TheVariants.{Keyword, Match, Region}
 use Rattle.syntax_set.specs.declared.item.Pattern.{Pattern}
 use Rattle.paint_rules.specs.Rules.{Rules, item_of, place_at}
-use Rattle.pattern_needs.specs.LineNeeds.{AreHeld, IsLineNeedOf, LacksNeed}
+use Rattle.pattern_needs.specs.LineNeeds.{AreHeld, IsLineNeedOf, IsVainIn}
 use Rattle.pattern_needs.specs.declared.line_need.LineNeed.{LineNeed}
 use Rattle.pattern_screens.specs.Failing.{fails}
 use Rattle.pattern_screens.specs.Following.{fails_after, takes_first}
@@ -131,7 +131,7 @@ IsWanted r wanted = IsNeededBy r wanted.item wanted.need
 abbrev pub IsLackedIn : Rules → List ℕ → ItemId → Type 0
 IsLackedIn r line i =
     (pattern : Pattern) → IsPatternOf (item_of r.items i).kind pattern →
-    LacksNeed r.sets (item_of r.items i).ignore r.budget pattern.tree line
+    IsVainIn r.sets (item_of r.items i).ignore r.budget pattern.tree line
 
 -- the column is one of the line's, its end included, and its key has this number
 abbrev pub IsNumberAt : Rules → List ℕ → ℕ → ℕ → Type 0
@@ -181,7 +181,7 @@ pub record LineStands (r : Rules) (t : Text) (l : ℕ) (line : LineKnown) : Type
   pub keys : AreNumbers r.sets (line_at t l) (length (line_at t l) + 1) line.numbers.items
   pub held : AreHeld line.held (length line.numbers.items) (line_at t l)
   pub runs : (k : ℕ) (run : Run) → Has line.runs k run → RunStands r t l run
-  pub barren : (k : ℕ) (it : ⊤) → Has line.barren k it → IsBarren r t l (item_numbered k)
+  pub barren : (k : ℕ) → IsMarked line.barren k → IsBarren r t l (item_numbered k)
   pub ends : EndMemoStands r.items r.sets r.budget t l line.ends
 
 -- ---- both

@@ -10,7 +10,7 @@ use char_class::Sets;
 use pattern_needs::Held;
 use pattern_screens::number_line;
 use region_ends::EndMemo;
-use slots::Slots;
+use slots::{Marks, Slots};
 use std::alloc::Global;
 use syn_base::{ItemId, Memory};
 
@@ -24,7 +24,7 @@ pub(crate) struct LineKnown {
     /// From which columns items aren't matched, by the number of the item.
     runs: Slots<Run>,
     /// The numbers of items that start nowhere in it.
-    barren: Slots<()>,
+    barren: Marks,
     /// Where regions end.
     pub(crate) ends: EndMemo,
 }
@@ -36,7 +36,7 @@ impl LineKnown {
             numbers: Vec::new(alloc),
             held: Held::none(),
             runs: Slots::new(alloc),
-            barren: Slots::new(alloc),
+            barren: Marks::new(alloc),
             ends: EndMemo::new(alloc),
         }
     }
@@ -67,7 +67,7 @@ impl LineKnown {
     {
         let lacking = wanted.need.is_lacked(&self.held, self.numbers.len());
         if lacking {
-            self.barren.put(wanted.item.0 as usize, ())?;
+            self.barren.put(wanted.item.0 as usize)?;
         }
         Ok(lacking)
     }
@@ -118,10 +118,7 @@ impl LineKnown {
         ensures { IsTrue result → (r : Rules) (t : Text) (l : ℕ) → LineStands r t l self.now →
             IsBarren r t l (item_numbered id) }
     {
-        match self.barren.get(id as usize) {
-            Some(_) => true,
-            None => false,
-        }
+        self.barren.has(id as usize)
     }
 
     /// The run of an item that holds a column or ends there, and tells of a place.
@@ -162,7 +159,7 @@ impl LineKnown {
             return Ok(());
         }
         if run.is_whole(line, self.numbers.len()) {
-            return self.barren.put(run.item.0 as usize, ());
+            return self.barren.put(run.item.0 as usize);
         }
         self.runs.put(run.item.0 as usize, run)
     }

@@ -10,8 +10,7 @@ use pattern_screens::takes_first;
 use syn_base::Memory;
 
 impl Firsts {
-    /// Whether an item is known not to match by its first start pattern from a column, by the number of
-    /// the key one column behind.
+    /// Whether no match by an item's first start pattern begins at a column, by the key one behind.
     #[inline(always)]
     pub(crate) fn is_missed_by(
         &mut self,

@@ -81,8 +81,7 @@ impl Tables {
 }
 
 impl PickMemory {
-    /// Whether an item is known to start nowhere in the line. What it needs is found once it was asked
-    /// for often, and kept.
+    /// Whether an item is known to start nowhere in the line, also by what it needs, which is kept.
     pub(crate) fn starts_nowhere(&mut self, asked: &Asked, id: ItemId) -> Result<bool, Memory>
         requires item { IsItem (rules_by asked.now) id }
         ensures stands { (t : Text) (l : ℕ) →

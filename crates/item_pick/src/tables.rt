@@ -13,9 +13,8 @@ use slots::{Grid, Table};
 use std::alloc::Global;
 use syn_base::Memory;
 
-/// What is kept of a syntax and a budget from line to line: for what is allowed, and what stands at a
-/// column, the items that may start there, and those that can't be matched from there. It is made as
-/// it is asked.
+/// What is kept of a syntax and a budget from line to line: by what is allowed and what stands at a
+/// column, the items that may start there. It is made as it is asked.
 #[derive(Drop)]
 pub(crate) struct Tables {
     alloc: Global,
@@ -53,6 +52,7 @@ impl Tables {
     }
 
     /// The place of a row.
+    #[inline(always)]
     fn place(&self, choice: Choice, number: u16) -> Option<usize> {
         let place = self.places.get(number_of(choice), number as usize)?;
         Some(place as usize)
@@ -118,6 +118,7 @@ impl Tables {
 }
 
 /// A row, if it stands at a place of some rows.
+#[inline(always)]
 fn row_at(rows: &[Row], place: usize, choice: Choice, number: u16) -> Option<&Row>
     ensures choice { IfSome result (λ row. row.now.choice ≡ choice) }
     ensures number { IfSome result (λ row. row.now.number ≡ number) }

@@ -1,5 +1,5 @@
 use Rattle.item_pick.proofs.Common.{◌≡◌, ◌+◌, ap, arith, length, subst, sym, ℕ, List, true, All, IfOk-weaker, line_at, Sets, AreNumbers}
-use Rattle.pattern_needs.specs.Held.{holds}
+use Rattle.pattern_needs.specs.LineNeeds.{IsHeldOf}
 use Rattle.item_pick.proofs.line_known.LineKnown.enter.Goals as goal
 
 pub returns : goal.returns
@@ -8,10 +8,10 @@ returns c r t l same line =
       keys = subst (λ (sets : Sets). AreNumbers sets (line_at t l) (length (line_at t l) + 1) c.number_line.new.numbers.items) (sym same)
           (subst (λ (chars : List ℕ). AreNumbers c.args.sets.now chars (length chars + 1) c.number_line.new.numbers.items) line keys);
       held = record {
-        each = subst (All (λ k. holds c.of-self.result k ≡ true)) line c.of-self.ensures;
+        are = subst (IsHeldOf c.of-self.result) line c.of-self.ensures;
         few = omega (arith, keys.many, ap length line);
       };
       runs = λ k run has. absurd (c.clear.ensures k run has);
-      barren = λ k it has. absurd (c.clear-2.ensures k it has);
+      barren = λ k has. absurd (c.clear-2.ensures k has);
       ends = c.clear-3.ensures r.items r.sets r.budget t l;
     }) c.number_line.ensures

@@ -1,5 +1,5 @@
-use Rattle.item_pick.proofs.Common.{Has, all_still, arith, item_numbered, IsBarren, RunStands}
-use Rattle.item_pick.proofs.LineLaws.{whole_barren}
+use Rattle.item_pick.proofs.Common.{Has, all_still, arith, RunStands}
+use Rattle.item_pick.proofs.LineLaws.{more_barren, whole_barren}
 use Rattle.item_pick.proofs.line_known.LineKnown.keep.Goals as goal
 
 pub returns : goal.returns
@@ -12,11 +12,6 @@ returns c r t own line = record {
 }
 
 pub returns-then-is_whole : goal.returns-then-is_whole
-returns-then-is_whole c r t own line = record {
-  keys = line.keys;
-  held = line.held;
-  runs = line.runs;
-  barren = all_still (λ k _. IsBarren r t c.args.line (item_numbered k)) (Has c.args.self.now.barren) (Has c.put.new.self) _ _ c.put.ensures.kept line.barren
-      (whole_barren r t c.args.line c.args.run c.len.result (omega (arith, line.keys.many, c.len.ensures)) own (c.is_whole.ensures c.if-is_whole.true));
-  ends = line.ends;
-}
+returns-then-is_whole c r t own line =
+    more_barren r t c.args.line c.args.self.now c.put.new.self _ c.put.ensures.kept line
+    (whole_barren r t c.args.line c.args.run c.len.result (omega (arith, line.keys.many, c.len.ensures)) own (c.is_whole.ensures c.if-is_whole.true))
