@@ -45,8 +45,8 @@ impl Marks {
         ensures many { OnOk result (many ≤ length self.new.words.items) }
         ensures kept { (number : ℕ) → IsMarked self.new number → IsMarked self.old number }
     {
-        for _ in self.words.len()..many {
-            self.words.push(0)?;
+        if self.words.len() < many {
+            self.words.resize(many, 0)?;
         }
         Ok(())
     }

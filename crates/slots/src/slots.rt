@@ -26,13 +26,11 @@ fn note(places: &mut Vec<usize>, number: usize, place: usize) -> Result<(), Memo
     ensures here { OnOk result (slice_get places.new.items number ≡ Some place) }
     ensures kept { IsNoted places.old.items places.new.items place }
 {
-    for _ in places.len()..number {
+    if places.len() <= number {
+        places.resize(number, place)?;
         places.push(place)?;
-    }
-    if number < places.len() {
-        places[number] = place;
     } else {
-        places.push(place)?;
+        places[number] = place;
     }
     Ok(())
 }

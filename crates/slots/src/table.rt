@@ -50,8 +50,8 @@ impl<E: Copy> Table<E> {
         ensures many { OnOk result (number ≤ length self.new.entries.items) }
         ensures kept { (k : ℕ) (entry : E) → IsAt self.new k entry → IsAt self.old k entry }
     {
-        for _ in self.entries.len()..number {
-            self.entries.push(None)?;
+        if self.entries.len() < number {
+            self.entries.resize(number, None)?;
         }
         Ok(())
     }
