@@ -1,6 +1,6 @@
 //! Bytes to lines.
 ghost use Rattle.std.specs.Prelude.{◌≡◌, ◌≢◌, ◌<◌, ◌≤◌, ◌+◌, ◌++◌, [], ◌∷◌, Ok, Err, None, Some, IfOk, IfErr, drop, length, slice_range, vec_len};
-ghost use Rattle.std.specs.Str.{chars};
+ghost use Rattle.std.specs.Str.{IsAscii, chars};
 ghost use Rattle.text_buffer.specs.Reading.{lines_after, read_on};
 ghost use Rattle.text_buffer.specs.TextOfBytes.{byte_lines, line_fault, line_of, line_of_fault, most_lines, numbered, text_of};
 
@@ -100,6 +100,9 @@ impl LineFault {
 pub fn line_of_bytes(alloc: Global, bytes: &[u8]) -> Result<Result<Line, LineFault>, Memory>
     ensures { IfOk result (λ line. line ≡ line_of bytes.now) }
 {
+    if bytes.is_ascii() {
+        return ascii_line(alloc, bytes);
+    }
     let Ok(text) = simdutf8::compat::from_utf8(bytes) else {
         return Ok(Err(LineFault::NotUtf8));
     };
@@ -107,6 +110,28 @@ pub fn line_of_bytes(alloc: Global, bytes: &[u8]) -> Result<Result<Line, LineFau
         return Ok(Err(LineFault::TooLong));
     }
     Ok(Ok(List::from_chars(alloc, text)?))
+}
+
+/// The line that bytes of ASCII are, each of which is a character.
+fn ascii_line(alloc: Global, bytes: &[u8]) -> Result<Result<Line, LineFault>, Memory>
+    requires { IsAscii bytes.now }
+    ensures { IfOk result (λ line. line ≡ line_of bytes.now) }
+{
+    if bytes.len() > MOST_CHARS {
+        return Ok(Err(LineFault::TooLong));
+    }
+    Ok(Ok(List::from_vec(ascii_chars(alloc, bytes)?)))
+}
+
+/// The characters that have the codes of these bytes.
+fn ascii_chars(alloc: Global, bytes: &[u8]) -> Result<Vec<char>, Memory>
+    ensures { IfOk result (λ chars. chars.items ≡ bytes.now) }
+{
+    let mut chars = Vec::with_capacity(alloc, bytes.len())?;
+    for byte in bytes {
+        chars.push_reserved(char::from(*byte));
+    }
+    Ok(chars)
 }
 
 fn char_count(text: &str) -> usize
