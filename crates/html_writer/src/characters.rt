@@ -1,5 +1,5 @@
 //! Characters that mean something in a page.
-ghost use Rattle.std.specs.Prelude.{◌≡◌, ◌++◌, OnOk, replicate};
+ghost use Rattle.std.specs.Prelude.{◌≡◌, ◌<◌, ◌++◌, OnOk, encode_utf8, replicate};
 ghost use Rattle.std.specs.List.{flat_map};
 ghost use Rattle.html_writer.specs.Page.{character_text, entity_of_byte, line_text, title_text};
 ghost use Rattle.text_scan.specs.Characters.{space};
@@ -74,6 +74,16 @@ fn push_character(page: &mut Vec<u8>, pre: bool, c: char) -> Result<(), AllocErr
         '<' => page.extend_from_slice(b"&lt;"),
         '>' => page.extend_from_slice(b"&gt;"),
         '"' => page.extend_from_slice(b"&quot;"),
+        _ if c.is_ascii() => push_ascii(page, c),
         _ => push_char(page, c),
     }
+}
+
+/// Appends a character of ASCII, which is a byte.
+fn push_ascii(page: &mut Vec<u8>, c: char) -> Result<(), AllocError>
+    requires { c < 128 }
+    ensures { OnOk result (page.new.items ≡ page.old.items ++ encode_utf8 c) }
+{
+    page.push(c as u8)?;
+    Ok(())
 }

@@ -7,4 +7,4 @@
 mod spans;
 
 pub use command_print::{head_text, refusal_text};
-pub use spans::span_text;
+pub use spans::{push_span_text, span_text};

@@ -2,7 +2,7 @@
 ghost use Rattle.std.specs.Prelude.{◌≡◌, ◌<◌, ◌++◌, All, IfOk, OnOk};
 ghost use Rattle.span_print.specs.SpanText.{line_text, span_text, spans_text};
 
-use byte_text::{push_bytes, push_number_from_one};
+use byte_text::{push_bytes, push_number};
 use hi_links::Links;
 use std::alloc::{AllocError, Global};
 use syn_base::{List, Memory, Span};
@@ -23,14 +23,32 @@ pub fn span_text(
     ensures { IfOk result (λ bytes. bytes ≡ line_text groups.now links.now number spans.now dash) }
 {
     let mut out = Vec::new(alloc);
+    push_span_text(&mut out, number, spans, groups, links, dash)?;
+    Ok(List::from_vec(out))
+}
+
+/// Appends the same.
+pub fn push_span_text(
+    out: &mut Vec<u8>,
+    number: usize,
+    spans: &[Span],
+    groups: &Groups,
+    links: &Links,
+    dash: bool,
+) -> Result<(), AllocError>
+    requires number { number < usize.MAX }
+    requires columns { All (λ span. (span.first < usize.MAX) × (span.last < usize.MAX)) spans.now }
+    ensures { OnOk result (out.new.items ≡ out.old.items
+        ++ line_text groups.now links.now number spans.now dash) }
+{
     if spans.is_empty() && dash {
-        push_number_from_one(&mut out, number)?;
-        push_bytes(&mut out, b":-\n")?;
+        push_number(out, number + 1)?;
+        push_bytes(out, b":-\n")?;
     }
     for span in spans {
-        print_span(&mut out, number, span, groups, links)?;
+        print_span(out, number, span, groups, links)?;
     }
-    Ok(List::from_vec(out))
+    Ok(())
 }
 
 /// Appends the line of one span.
@@ -46,11 +64,11 @@ fn print_span(
     ensures { OnOk result (out.new.items ≡ out.old.items
         ++ span_text groups.now links.now number span.now) }
 {
-    push_number_from_one(out, number)?;
+    push_number(out, number + 1)?;
     push_bytes(out, b":")?;
-    push_number_from_one(out, span.first)?;
+    push_number(out, span.first + 1)?;
     push_bytes(out, b"-")?;
-    push_number_from_one(out, span.last)?;
+    push_number(out, span.last + 1)?;
     push_bytes(out, b" ")?;
     push_bytes(out, groups.name(span.group).as_bytes())?;
     push_bytes(out, b" ")?;

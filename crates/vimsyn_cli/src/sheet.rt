@@ -10,13 +10,14 @@ use crate::folds::folds_bytes;
 use crate::html::page_bytes;
 use crate::refusal::group_of;
 use crate::renewal::{read_named, renew};
-use crate::spans::{push_line, spans_at};
+use crate::spans::spans_at;
 use crate::substituting::substituted;
 use byte_text::push_bytes;
 use cause_print::push_place;
 use edit_session::{Document, Replacement, Substituted, Unedited, Untaken};
 use large_session::LargeDocument;
 use program_words::PageWords;
+use span_print::push_span_text;
 use state_cache::{EditError, Painted, Repainted};
 use std::alloc::{AllocError, Global};
 use syn_base::{Files, Ledger, Lines, List, Memory, Steps};
@@ -48,18 +49,11 @@ impl<'a> Document for Sheet<'a> {
 
     ghost shown = { λ s. s.painted.spans };
 
-    fn print_line(&self, alloc: Global, out: &mut Vec<u8>, number: usize) -> Result<(), Memory> {
+    fn print_line(&self, _alloc: Global, out: &mut Vec<u8>, number: usize) -> Result<(), Memory> {
         let syntax = self.painted.syntax();
         let spans = spans_at(&self.painted, number);
-        push_line(
-            alloc,
-            out,
-            &syntax.groups,
-            &syntax.links,
-            number,
-            spans,
-            true,
-        )
+        push_span_text(out, number, spans, &syntax.groups, &syntax.links, true)?;
+        Ok(())
     }
 
     fn page(&self, alloc: Global) -> Result<List<u8>, Memory> {

@@ -1,6 +1,5 @@
 //! What `spans` prints: a line for each span of the text (this profile).
-ghost use Rattle.std.specs.Prelude.{◌≡◌, ◌<◌, ◌++◌, All, get_or, length, IfOk, OnOk, []};
-ghost use Rattle.span_print.specs.SpanText.{line_text};
+ghost use Rattle.std.specs.Prelude.{◌≡◌, ◌<◌, All, get_or, length, IfOk, []};
 ghost use Rattle.syn_base.specs.SpansFit.{FitLines};
 ghost use Rattle.vimsyn_cli.specs.Changes.{files_between, steps_change};
 ghost use Rattle.vimsyn_cli.specs.Concealing.{IsUnreadView, IsViewFault};
@@ -11,10 +10,9 @@ ghost use Rattle.vimsyn_cli.specs.Session.{text_lines};
 use crate::concealing::Concealed;
 use crate::fault::Stop;
 use crate::picture::{Picture, read_picture};
-use byte_text::push_bytes;
 use hi_links::Links;
 use program_words::PaintWords;
-use span_print::span_text;
+use span_print::push_span_text;
 use state_cache::Painted;
 use std::alloc::Global;
 use syn_base::{Colours, Files, Ledger, Lines, List, Memory, Span, Steps};
@@ -77,7 +75,7 @@ fn spans_bytes<P: Lines + Colours>(
     let mut out = Vec::new(alloc);
     for number in 0..painting.len() {
         let spans = spans_at(painting, number);
-        push_line(alloc, &mut out, groups, links, number, spans, false)?;
+        push_span_text(&mut out, number, spans, groups, links, false)?;
     }
     Ok(List::from_vec(out))
 }
@@ -103,24 +101,4 @@ fn columns_of(line: &[char]) -> usize
     ensures few { result < usize.MAX }
 {
     line.len()
-}
-
-/// Appends the span lines of the line of this number. With `dash` a line without spans is told too.
-pub(crate) fn push_line(
-    alloc: Global,
-    out: &mut Vec<u8>,
-    groups: &Groups,
-    links: &Links,
-    number: usize,
-    spans: &[Span],
-    dash: bool,
-) -> Result<(), Memory>
-    requires number { number < usize.MAX }
-    requires columns { All (λ span. (span.first < usize.MAX) × (span.last < usize.MAX)) spans.now }
-    ensures { OnOk result (out.new.items ≡ out.old.items
-        ++ line_text groups.now links.now number spans.now dash) }
-{
-    let bytes = span_text(alloc, number, spans, groups, links, dash)?;
-    push_bytes(out, bytes.as_slice())?;
-    Ok(())
 }

@@ -12,7 +12,7 @@ loop-number-preserved g c =
     let number = c.loop-number.number in
     let within : number < length painting = omega (arith, c.loop-number-test.true, c.len-number-end.ensures.count, c.requires.as_many) in
     printed_further names links painting number (number + 1) c.loop-number.out.items _ _ (omega arith) within
-    (c.in_ok-push_line.ensures
+    (c.in_ok-push_span_text.ensures
     ∙ ap (λ (spans : List Span). c.loop-number.out.items ++ line_text names links number spans false) c.spans_at-spans.ensures.is)
     c.loop-number.invariant
 

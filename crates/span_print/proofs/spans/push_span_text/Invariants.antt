@@ -1,6 +1,6 @@
 use Rattle.std.proofs.Common.{◌≡◌, ◌++◌, take}
 use Rattle.span_print.specs.SpanText.{spans_text}
-use Rattle.span_print.proofs.spans.span_text.Given as goal
+use Rattle.span_print.proofs.spans.push_span_text.Given as goal
 
 -- the spans so far stand behind what was there
 abbrev pub invariant-loop-span : goal.invariant-loop-span
