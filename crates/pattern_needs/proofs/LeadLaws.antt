@@ -28,7 +28,7 @@ use Rattle.pattern_needs.proofs.Forwards.{Anything, IsLater, goes-forwards, ways
 
 -- ---- ways
 
-true-or : (b : Bool) → b ≡ true → b ≡ false → ⊥
+pub true-or : (b : Bool) → b ≡ true → b ≡ false → ⊥
 true-or true e f = absurd (cc)
 true-or false e f = absurd (cc)
 
@@ -37,7 +37,7 @@ ways-map P Q [] f h = tt
 ways-map P Q (Tick l ∷ marks) f h = ways-map P Q marks f h
 ways-map P Q (Reach w ∷ marks) f h = (f w h.0, ways-map P Q marks f h.1)
 
-marks-of : (P : Way → Type 0) (marks : List Mark) → AllWays P marks → AllMarks Anything P marks
+pub marks-of : (P : Way → Type 0) (marks : List Mark) → AllWays P marks → AllMarks Anything P marks
 marks-of P [] h = tt
 marks-of P (Tick l ∷ marks) h = (tt, marks-of P marks h)
 marks-of P (Reach w ∷ marks) h = (h.0, marks-of P marks h.1)
@@ -116,7 +116,7 @@ here-if : (P : Place → Type 0) (w : Way) (a : Atom) (b : Bool) → (way_behind
 here-if P w a true e h = (subst P (sym e) h, tt)
 here-if P w a false e h = tt
 
-stays-here : (P : Place → Type 0) (x : Context) (w : Way) (a : Atom) → is_plain a ≡ false → is_lined_atom a ≡ true → P w.at → AllWays (λ v. P v.at) (behind_fit w a (fits x w a))
+pub stays-here : (P : Place → Type 0) (x : Context) (w : Way) (a : Atom) → is_plain a ≡ false → is_lined_atom a ≡ true → P w.at → AllWays (λ v. P v.at) (behind_fit w a (fits x w a))
 stays-here P x w LineStart e l h = here-if P w LineStart _ refl h
 stays-here P x w LineStop e l h = here-if P w LineStop _ refl h
 stays-here P x w WordStart e l h = here-if P w WordStart _ refl h
@@ -193,7 +193,7 @@ step-if : (P : Place → Type 0) (w : Way) (a : Atom) (b : Bool) → is_plain a 
 step-if P w a true plain h = (subst P (sym (plain-at w (behind_character w.at) a plain)) (h refl), tt)
 step-if P w a false plain h = tt
 
-fit-step : (P : Place → Type 0) (sets : Sets) (ignore : Bool) (w : Way) (a : Atom) (o : Option ℕ) → is_plain a ≡ true → ((d : ℕ) → o ≡ Some d → plain_takes sets ignore a d ≡ true → P (behind_character w.at)) →
+pub fit-step : (P : Place → Type 0) (sets : Sets) (ignore : Bool) (w : Way) (a : Atom) (o : Option ℕ) → is_plain a ≡ true → ((d : ℕ) → o ≡ Some d → plain_takes sets ignore a d ≡ true → P (behind_character w.at)) →
     AllWays (λ v. P v.at) (behind_fit w a (only_if (plain_fits sets ignore o a) (behind_character w.at)))
 fit-step P sets ignore w a None plain h = tt
 fit-step P sets ignore w a (Some d) plain h = step-if P w a (plain_takes sets ignore a d) plain (λ e. h d refl e)
@@ -205,14 +205,14 @@ leads-plain sets ignore a s r plain takes x l first at c hs hi sec w h =
     (fit-step (StandsAt l first at c r) x.sets x.ignore w a (character_at x.text w.at) plain
     (λ d e taken. stands-step x.sets x.ignore a s r here (line_at x.text l) l first at c sec w.at d (λ on. subst (λ k. slice_get (line_at x.text k) w.at.col ≡ Some d) on e) taken h))
 
-either-true : (b : Bool) → (b || true) ≡ true
+pub either-true : (b : Bool) → (b || true) ≡ true
 either-true true = refl
 either-true false = refl
 
-is-same : (a b : ℕ) → nat_eq a b ≡ true → a ≡ b
+pub is-same : (a b : ℕ) → nat_eq a b ≡ true → a ≡ b
 is-same a b e = grind (arith, nat_tests)
 
-blank-taken : (f : ℕ → Bool) (d : ℕ) → f d ≡ true → is_blank d ≡ true → (f 32 || f 9) ≡ true
+pub blank-taken : (f : ℕ → Bool) (d : ℕ) → f d ≡ true → is_blank d ≡ true → (f 32 || f 9) ≡ true
 blank-taken f d e b = elim (or_cases (nat_eq d 32) (nat_eq d 9) b) [
   | inl space ↦ ap (λ t. t || f 9) (subst (λ k. f k ≡ true) (is-same d 32 space) e)
   | inr tab ↦ ap (λ t. f 32 || t) (subst (λ k. f k ≡ true) (is-same d 9 tab) e) ∙ either-true (f 32)

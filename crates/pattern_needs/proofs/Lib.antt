@@ -6,6 +6,8 @@ pub mod NeedsLaws
 pub mod AskingLaws
 pub mod RoomLaws
 pub mod LeadLaws
+pub mod EndingLaws
+pub mod SpreadLaws
 pub mod FrontLaws
 pub mod FrontWays
 pub mod LineNeedLaws

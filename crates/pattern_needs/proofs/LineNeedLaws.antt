@@ -17,22 +17,27 @@ use Rattle.match_rules.specs.Marks.{Mark, Tick, Reach}
 use Rattle.match_rules.specs.Visits.{behind_fit, visits}
 use Rattle.match_rules.proofs.MarkLaws.{AllWays}
 use Rattle.pattern_screens.proofs.Bounded.{ways_of}
+use Rattle.pattern_screens.proofs.LinedParts.{IsIn}
 use Rattle.pattern_needs.specs.Asking.{asked_of, atoms_in}
 use Rattle.pattern_needs.specs.Characters.{holds}
-use Rattle.pattern_needs.specs.Fronts.{front, front_tree, front_upto, piece_upto}
-use Rattle.pattern_needs.specs.LineNeeds.{IsOneNeeded, IsSecondNeeded}
+use Rattle.pattern_needs.specs.Endings.{IsLastOf, IsLastTold}
+use Rattle.pattern_needs.specs.Fronts.{front, front_tree, front_upto, piece_upto, stopped}
+use Rattle.pattern_needs.specs.declared.ending.Ended.{Ended}
+use Rattle.pattern_needs.specs.LineNeeds.{IsLastNeeded, IsOneNeeded, IsSecondNeeded}
 use Rattle.pattern_needs.specs.LineRooms.{is_cheap_in, room_of}
 use Rattle.pattern_needs.specs.Needs.{needed, some_takes}
 use Rattle.pattern_needs.specs.Nonblanks.{IsSecondAt, IsSecondTold, Leads, LeadsToSecond, StandsAt}
+use Rattle.pattern_needs.specs.Spreads.{IsCheapPart, Weighs, before_blank, from_kind, total}
 use Rattle.pattern_needs.specs.declared.asked.Asked.{Asked}
 use Rattle.pattern_needs.specs.declared.nonblanks.Counted.{Counted}
 use Rattle.pattern_needs.specs.declared.nonblanks.Told.{Told}
 use Rattle.pattern_needs.specs.declared.one_of.OneOf.{OneOf}
-use Rattle.pattern_needs.proofs.FrontWays.{upto-none, vain-by-front}
+use Rattle.pattern_needs.proofs.FrontWays.{upto-none, vain-by-front, vain-by-stop}
 use Rattle.pattern_needs.proofs.Lacking.{HasNone, Lacks, none-followed, none-lacking}
 use Rattle.pattern_needs.proofs.LeadLaws.{leads-seq, leads-still, ways-map}
 use Rattle.pattern_needs.proofs.LineParts.{IsFrom}
 use Rattle.pattern_needs.proofs.NeedsLaws.{room-is}
+use Rattle.pattern_needs.proofs.SpreadLaws.{cost-kind}
 
 true-or : (b : Bool) → b ≡ true → b ≡ false → ⊥
 true-or true e f = absurd (cc)
@@ -100,6 +105,28 @@ second-needed sets ignore budget tree told most is cheap line few c second apart
       | suc n ↦ subst (λ node. HasNone (visits y (front_upto told.upto node) (way_from (place l (suc n))))) (sym is.begins.1) (front-starts y told.upto is.begins.0 l n)
     ] in
     vain-by-front tree x budget told.upto most l col short inside cheap (none col)
+
+-- ---- the last character that isn't a blank
+
+none-stays : (x : Context) (l : ℕ) (marks : List Mark) → AllWays (λ v. IsIn x l v.at) marks → AllWays (λ v. v.at.line ≡ l → ⊥) marks → HasNone marks
+none-stays x l [] h k = refl
+none-stays x l (Tick s ∷ marks) h k = none-stays x l marks h k
+none-stays x l (Reach w ∷ marks) h k = absurd (k.0 h.0.on)
+
+pub last-needed : (sets : Sets) (ignore : Bool) (budget : ℕ) (tree : PatternTree) (told : Ended) (most : ℕ) → IsLastTold sets (ignores_case tree ignore) tree.node told → IsCheapPart sets (ignores_case tree ignore) most (stopped tree.node told.number) budget →
+    IsLastNeeded sets ignore budget tree (record { characters = told.characters; most = most })
+last-needed sets ignore budget tree told most is cheap line few c last apart x l col hs hi on within =
+    let y : Context = for_tree tree x in
+    let short : length (line_at x.text l) ≤ most = omega (arith, few, ap length on) in
+    let inside : col ≤ length (line_at x.text l) = omega (arith, within, ap length on) in
+    let ends : IsLastOf (line_at y.text l) c = subst (λ k. IsLastOf k c) (sym on) last in
+    let node : Shape = stopped tree.node told.number in
+    let w : Way = way_from (place l col) in
+    let at : IsIn y l w.at = record { on = refl; within = inside } in
+    let kind : Bool = before_blank y w.at in
+    let weighs : Weighs y l 0 0 (total (from_kind cheap.0 kind) 0 0) (visits y node w) = cheap.1.0 y l 0 0 hs (ap (ignores_case tree) hi) short w at in
+    vain-by-stop tree x budget told.number (total (from_kind cheap.0 kind) 0 0) l col weighs (cost-kind cheap.0 budget cheap.1.1.0 cheap.1.1.1 kind) is.ends
+    (none-stays y l (visits y node w) weighs.here (is.last y l c hs (ap (ignores_case tree) hi) ends apart w))
 
 -- ---- piece by piece
 

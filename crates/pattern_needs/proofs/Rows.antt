@@ -4,14 +4,15 @@ use Rattle.char_class.specs.Folds.{is_same}
 use Rattle.char_class.specs.declared.sets.Sets.{Sets}
 use Rattle.syn_base.specs.declared.class.Class.TheVariants.{White, Word, Lower, Ident, IdentNoDigit}
 use Rattle.pattern_items.specs.declared.atom.Atom.{Atom}
-use Rattle.pattern_items.specs.declared.atom.Atom.TheVariants.{Char, Is, Set, LineStop, MatchStart}
+use Rattle.pattern_items.specs.declared.atom.Atom.TheVariants.{Char, Is, Set, LineEnd, LineStop, MatchStart}
 use Rattle.pattern_items.specs.declared.atom.SetPart.TheVariants.{Of}
 use Rattle.pattern_items.specs.declared.item.Behind.TheVariants as behind
 use Rattle.vim_pattern.specs.Shape.{Shape, one, seq, or, group, repeat, ahead, before}
 use Rattle.vim_pattern.specs.Tree.{PatternTree}
-use Rattle.pattern_needs.specs.Fronts.{front, piece}
+use Rattle.pattern_needs.specs.Fronts.{front, piece, stopped}
 use Rattle.pattern_needs.specs.LineRooms.{is_cheap_in, room_of}
 use Rattle.pattern_needs.specs.Needs.{lacks, needed}
+use Rattle.pattern_needs.specs.Spreads.{or_spreads, over_blanks, still, then_spreads}
 
 abbrev ch : ℕ → Shape
 ch c = one (Char c)
@@ -90,6 +91,16 @@ front_of_three = refl
 pub need_of_a_front : needed (front three 1) ≡ Some (Char 121 ∷ [])
 need_of_a_front = refl
 
+-- of `x\s*\ny` the pieces before the line end, and then the place there
+abbrev over_an_end : Shape
+over_an_end = seq (ch 120) (seq (many (class (Is White false false))) (seq (one LineEnd) (ch 121)))
+
+pub pieces_before_an_end : stopped over_an_end 2 ≡ seq (ch 120) (seq (many (class (Is White false false))) (one LineStop))
+pieces_before_an_end = refl
+
+pub pieces_before_the_last : stopped (seq (ch 120) (one LineStop)) 1 ≡ seq (ch 120) (one LineStop)
+pieces_before_the_last = refl
+
 -- ---- lines
 
 pub lacking : lacks letters false (codes "xxxx") 0 (Char 121 ∷ []) ≡ true
@@ -133,3 +144,19 @@ within_a_budget = refl
 
 pub over_a_budget : is_cheap_in 200 402 (tree_of some_and_y) ≡ false
 over_a_budget = refl
+
+-- what goes over a line end isn't counted, but the pieces up to it are
+pub no_room_over_an_end : room_of 10 over_an_end ≡ None
+no_room_over_an_end = refl
+
+pub room_before_an_end : room_of 10 (stopped over_an_end 2) ≡ Some (record { ways = 11; cost = 24 })
+room_before_an_end = refl
+
+-- `\s*$`: of at most 10 blanks each is followed by a `$` that doesn't fit
+pub cost_over_blanks : then_spreads (over_blanks 10) (still 1)
+    ≡ record { blank = record { cost = 22; blanks = 10; others = 1 }; other = record { cost = 2; blanks = 0; others = 1 } }
+cost_over_blanks = refl
+
+pub cost_of_an_optional_part : or_spreads (over_blanks 10) (still 0)
+    ≡ record { blank = record { cost = 11; blanks = 11; others = 1 }; other = record { cost = 1; blanks = 0; others = 2 } }
+cost_of_an_optional_part = refl

@@ -1,6 +1,7 @@
 -- The first pieces of a pattern.
 use Rattle.std.specs.Prelude.{ℕ, zero, suc, Option, Some, None}
-use Rattle.vim_pattern.specs.Shape.{Shape, seq}
+use Rattle.pattern_items.specs.declared.atom.Atom.TheVariants.{LineStop}
+use Rattle.vim_pattern.specs.Shape.{Shape, one, seq}
 use Rattle.vim_pattern.specs.Tree.{PatternTree}
 
 -- the pieces of a sequence up to that of a number, which counts from 0
@@ -23,6 +24,12 @@ front_upto (Some k) node = front node k
 abbrev pub piece_upto : Option ℕ → Shape → Shape
 piece_upto None node = node
 piece_upto (Some k) node = piece node k
+
+-- the pieces before that of a number, and then the place at a line's end
+abbrev pub stopped : Shape → ℕ → Shape
+stopped (seq a b) zero = one LineStop
+stopped (seq a b) (suc k) = seq a (stopped b k)
+stopped node k = one LineStop
 
 abbrev pub front_tree : Option ℕ → PatternTree → PatternTree
 front_tree upto tree = record tree { node = front_upto upto tree.node }

@@ -6,6 +6,8 @@ pub mod NeedsLaw
 pub mod Characters
 pub mod Fronts
 pub mod Nonblanks
+pub mod Endings
+pub mod Spreads
 pub mod LineNeeds
 -- what only code and proofs cite
 pub mod Asking

@@ -91,6 +91,11 @@ impl Characters {
         }
     }
 
+    /// Whether each character is among them.
+    pub(crate) fn are_all(&self) -> bool {
+        self.words == [u64::MAX; 4] && self.others
+    }
+
     /// Whether a character may be in both.
     pub(crate) fn meets(&self, other: &Characters) -> bool
         ensures { result ≡ false → (c : ℕ) → holds self.now c ≡ true → holds other.now c ≡ false }

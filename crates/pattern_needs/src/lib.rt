@@ -11,6 +11,7 @@ mod asked;
 mod atoms;
 mod by;
 mod characters;
+mod ending;
 mod held;
 mod line_need;
 mod longest;
@@ -20,6 +21,8 @@ mod one_of;
 mod piece;
 mod room;
 mod rooms;
+mod spread;
+mod spreading;
 mod taken;
 
 pub use held::Held;

@@ -1,27 +1,31 @@
 //! What a line must hold so that some patterns have a way in it.
-ghost use Rattle.std.specs.Prelude.{◌≡◌, ℕ, Bool, List, IfSome, IsTrue};
+ghost use Rattle.std.specs.Prelude.{◌≡◌, ◌≤◌, ℕ, Bool, List, IfSome, IsTrue, Some, true, false};
 ghost use Rattle.char_class.specs.declared.sets.Sets.{Sets as SetsOf};
 ghost use Rattle.vim_pattern.specs.Tree.{PatternTree};
-ghost use Rattle.pattern_needs.specs.LineNeeds.{AreHeld, IsLineNeedOf, IsOneNeeded, IsSecondNeeded, IsVainIn};
+ghost use Rattle.pattern_needs.specs.LineNeeds.{AreHeld, IsLastNeeded, IsLineNeedOf, IsOneNeeded, IsSecondNeeded, IsSomeWider, IsVainIn};
+ghost use Rattle.pattern_needs.specs.Characters.{holds};
+ghost use Rattle.pattern_needs.specs.declared.one_of.OneOf.{OneOf as OneOfThem};
 
 use crate::asked::ask;
 use crate::by::By;
-use crate::characters::Characters;
+use crate::ending::told_last;
 use crate::held::Held;
 use crate::longest::longest_front;
 use crate::nonblanks::told_second;
 use crate::one_of::OneOf;
 use crate::piece::telling_front;
+use crate::spreading::longest_stop;
 use crate::taken::taken_by;
 use char_class::Sets;
 use vim_pattern::Tree;
 
-/// What a line must hold so that some patterns have a way in it: one of some characters, and one of some as
-/// the second of its characters that aren't blanks.
+/// What a line must hold so that some patterns have a way in it: one of some characters, where that is
+/// known, and one of some as the second and as the last of its characters that aren't blanks.
 #[derive(Clone, Copy)]
 pub struct LineNeed {
-    pub(crate) any: OneOf,
+    pub(crate) any: Option<OneOf>,
     pub(crate) second: OneOf,
+    pub(crate) last: OneOf,
 }
 
 impl LineNeed {
@@ -31,10 +35,17 @@ impl LineNeed {
     pub fn of(tree: &Tree, sets: &Sets, ignore: bool, budget: u64) -> Option<LineNeed>
         ensures { IfSome result (IsLineNeedOf sets.now ignore budget tree.now) }
     {
-        Some(LineNeed {
-            any: any_needed(tree, sets, ignore, budget)?,
+        let need = LineNeed {
+            any: any_needed(tree, sets, ignore, budget),
             second: second_needed(tree, sets, ignore, budget),
-        })
+            last: last_needed(tree, sets, ignore, budget),
+        };
+        if need.is_known() { Some(need) } else { None }
+    }
+
+    /// Whether some line may lack it.
+    fn is_known(&self) -> bool {
+        self.any.is_some() || self.second.most != 0 || self.last.most != 0
     }
 
     /// What each of the patterns of both needs.
@@ -45,8 +56,9 @@ impl LineNeed {
             IsLineNeedOf sets ignore budget tree other.now → IsLineNeedOf sets ignore budget tree result }
     {
         LineNeed {
-            any: self.any.or(&other.any),
+            any: any_of(&self.any, &other.any),
             second: self.second.or(&other.second),
+            last: self.last.or(&other.last),
         }
     }
 
@@ -56,7 +68,31 @@ impl LineNeed {
             (sets : SetsOf) (ignore : Bool) (budget : ℕ) (tree : PatternTree) →
             IsLineNeedOf sets ignore budget tree self.now → IsVainIn sets ignore budget tree line }
     {
-        self.any.are_missed(&held.characters, many) || self.second.is_missed(held.second, many)
+        are_missed(&self.any, held, many)
+            || self.second.is_missed(held.second, many)
+            || self.last.is_missed(held.last, many)
+    }
+}
+
+/// What is needed by each of two, where it is known of both.
+fn any_of(one: &Option<OneOf>, other: &Option<OneOf>) -> Option<OneOf>
+    ensures { IfSome result (λ more. IsSomeWider one.now more × IsSomeWider other.now more) }
+{
+    match (one, other) {
+        (Some(one), Some(other)) => Some(one.or(other)),
+        _ => None,
+    }
+}
+
+/// Whether a line of at most so many characters, of which this is held, has none of some, where these are
+/// known.
+fn are_missed(need: &Option<OneOf>, held: &Held, many: usize) -> bool
+    ensures { IsTrue result → (one : OneOfThem) × ((need.now ≡ Some one) × ((many ≤ one.most) × ((c : ℕ) →
+        holds held.now.characters c ≡ true → holds one.characters c ≡ false))) }
+{
+    match need {
+        Some(one) => one.are_missed(&held.characters, many),
+        None => false,
     }
 }
 
@@ -79,10 +115,7 @@ fn second_needed(tree: &Tree, sets: &Sets, ignore: bool, budget: u64) -> OneOf
 {
     match known_second(tree, sets, ignore, budget) {
         Some(known) => known,
-        None => OneOf {
-            characters: Characters::all(),
-            most: 0,
-        },
+        None => OneOf::untold(),
     }
 }
 
@@ -95,5 +128,30 @@ fn known_second(tree: &Tree, sets: &Sets, ignore: bool, budget: u64) -> Option<O
     Some(OneOf {
         characters: told.characters,
         most: longest_front(tree, budget, told.upto)?,
+    })
+}
+
+/// Those of which the last must be one that isn't a blank; all where nothing is known.
+fn last_needed(tree: &Tree, sets: &Sets, ignore: bool, budget: u64) -> OneOf
+    ensures { IsLastNeeded sets.now ignore budget tree.now result }
+{
+    match known_last(tree, sets, ignore, budget) {
+        Some(known) => known,
+        None => OneOf::untold(),
+    }
+}
+
+/// The same, where something is known.
+fn known_last(tree: &Tree, sets: &Sets, ignore: bool, budget: u64) -> Option<OneOf>
+    ensures { IfSome result (IsLastNeeded sets.now ignore budget tree.now) }
+{
+    let by = By::of(tree, sets, ignore);
+    let told = told_last(&tree.node, &by)?;
+    if told.characters.are_all() {
+        return None;
+    }
+    Some(OneOf {
+        characters: told.characters,
+        most: longest_stop(&tree.node, budget, told.number, &by)?,
     })
 }

@@ -7,10 +7,10 @@ use crate::rooms::front_room;
 use vim_pattern::Tree;
 
 /// Longer lines than of twice as many characters aren't tried for.
-const LONGEST_STEP: u64 = 1 << 32;
+pub(crate) const LONGEST_STEP: u64 = 1 << 32;
 
 /// How many steps there are, each half as long as the one before.
-const STEPS: u32 = 33;
+pub(crate) const STEPS: u32 = 33;
 
 /// Whether an attempt by the first pieces of a pattern, up to that of a number, is within a budget
 /// in a line of at most so many characters.

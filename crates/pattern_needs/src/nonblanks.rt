@@ -96,7 +96,7 @@ impl Counted {
 }
 
 /// Whether an atom takes blanks alone.
-fn is_blank_atom(atom: &Atom) -> bool
+pub(crate) fn is_blank_atom(atom: &Atom) -> bool
     ensures { IsTrue result → atom.now ≡ Is White false false }
 {
     match atom {
@@ -110,7 +110,7 @@ fn is_blank_atom(atom: &Atom) -> bool
 }
 
 /// The same of a part.
-fn is_blank_part(part: &Node) -> bool
+pub(crate) fn is_blank_part(part: &Node) -> bool
     ensures { IsTrue result → bare part.now ≡ one (Is White false false) }
 {
     match part {
@@ -134,7 +134,7 @@ pub(crate) fn codes_of(atom: &Atom, by: &By) -> Characters
 }
 
 /// Whether an atom takes a blank.
-fn takes_blank(atom: &Atom, by: &By) -> bool
+pub(crate) fn takes_blank(atom: &Atom, by: &By) -> bool
     ensures { result ≡ (plain_takes by.now.sets.now by.now.ignore atom.now 32
         || plain_takes by.now.sets.now by.now.ignore atom.now 9) }
 {

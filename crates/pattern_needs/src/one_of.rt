@@ -14,6 +14,16 @@ pub(crate) struct OneOf {
 }
 
 impl OneOf {
+    /// Any character.
+    pub(crate) fn untold() -> OneOf
+        ensures { (c : ℕ) → holds result.characters c ≡ true }
+    {
+        OneOf {
+            characters: Characters::all(),
+            most: 0,
+        }
+    }
+
     /// What is needed by each of two.
     pub(crate) fn or(&self, other: &OneOf) -> OneOf
         ensures most { (result.most ≤ self.now.most) × (result.most ≤ other.now.most) }
