@@ -2,8 +2,16 @@
 use Rattle.region_ends.proofs.Common.{◌≡◌, ◌∙◌, refl, sym, ap, subst, arith, ℕ, suc, ◌<◌, ◌≤◌, Bool, true, false, List, [], ◌∷◌, length, inl, inr, Option, Some, None, nat_lt, pos, reverse, nat_tests, Sets, Looked, ItemId, Place, one_line, hull_self, Text, line_at, AddedItem, ItemKind, Region, Pattern, RegionEnd, Me, Painted, Done, Refused, looked_first, ◌>>=◌, done, first_found, Cause, Matched, item_of, place_at, offset_place, columns_from, Search, Skip, NoSkip, SkipTo, SkipLine, skip_of, ends_of, skip_at, tried_at, end_at, end_made, end_from, end_in_line, Walk, EndAnswer, IsPassedOver, IsWalk, search_of, IsEnd, search_in, answer_at, left_from, HoldsLine, cases_lt, is_after, He, Re, later_place, earlier_place, end_in_present, found_from, GoesOn, IsFirst, IsSearched, ReachesEnd}
 use Rattle.std.specs.Option.{option_map}
 use Rattle.syn_base.specs.declared.places.GroupId.{GroupId}
+use Rattle.slots.specs.Entries.{IsMarked}
+use Rattle.slots.specs.declared.marks.Marks.{Marks}
 use Rattle.region_ends.specs.declared.searching.EndAnswer.TheVariants.{NotHere}
+use Rattle.paint_rules.specs.Rules.{no_externals}
+use Rattle.region_ends.specs.EndMemo.{EndMemoStands, IsKept, KnownStands}
+use Rattle.region_ends.specs.Stretches.{TellsColumns}
+use Rattle.region_ends.specs.declared.end_memo.EndMemo.{EndMemo}
+use Rattle.region_ends.specs.declared.end_memo.Known.{Known}
 use Rattle.region_ends.specs.declared.searching.Searched.{Searched}
+use Rattle.region_ends.specs.declared.searching.Searching.{Searching}
 use Rattle.region_ends.proofs.LookedLaws.{alone_before}
 use Rattle.region_ends.proofs.PassingLaws.{columns_passed}
 use Rattle.region_ends.proofs.SearchLaws.{none_left}
@@ -180,41 +188,41 @@ not_here_at looked None l e = cc
 not_here_at looked (Some x) l e = absurd (cc)
 
 -- what is left, and from which columns on searches come to the same
-pub record Reached (a : Walk) (text : Text) (looked : Looked) (first c : ℕ) : Type 0 where
+pub record Reached (a : Walk) (text : Text) (jumped : Marks) (looked : Looked) (first c : ℕ) : Type 0 where
   pub left : found_from a text a.search.from.col ≡ left_from a text looked c
   pub held : HoldsLine looked a.search.from.line
   pub at : a.search.from.col ≤ c
   pub from : a.search.from.col ≤ first
-  pub same : looked ≡ one_line (pos a.search.from.line) → (d : ℕ) → first ≤ d → d ≤ c → found_from a text d ≡ found_from a text c
+  pub same : looked ≡ one_line (pos a.search.from.line) → (d : ℕ) → first ≤ d → d ≤ c → (IsMarked jumped d → ⊥) → found_from a text d ≡ found_from a text c
 
 -- what a search came to, and from which columns it would come to the same
-record Covers (a : Walk) (text : Text) (s : Searched) : Type 0 where
+record Covers (a : Walk) (text : Text) (jumped : Marks) (s : Searched) : Type 0 where
   pub answer : IsEnd s.answer a.search.region (found_from a text a.search.from.col)
   pub from : a.search.from.col ≤ s.first
   pub same : (found : Option RegionEnd) → s.answer ≡ answer_at found a.search.from.line → (d : ℕ) →
-      s.first ≤ d → d < s.to → IsEnd s.answer a.search.region (found_from a text d)
+      s.first ≤ d → d < s.to → (IsMarked jumped d → ⊥) → IsEnd s.answer a.search.region (found_from a text d)
 
 module _ (a : Walk) (text : Text) (of : IsWalk a text) where
   abbrev one : Looked
   one = one_line (pos a.search.from.line)
 
-  pub begun : (looked : Looked) → looked ≡ one → Reached a text looked a.search.from.col a.search.from.col
-  begun looked is = record {
+  pub begun : (jumped : Marks) (looked : Looked) → looked ≡ one → Reached a text jumped looked a.search.from.col a.search.from.col
+  begun jumped looked is = record {
     left = ap (λ (k : Looked). left_from a text k a.search.from.col) (sym is);
     held = subst (λ (k : Looked). HoldsLine k a.search.from.line) (sym is) (hull_self one);
     at = omega arith;
     from = omega arith;
-    same = λ alone d low high. ap (found_from a text) (omega (arith, low, high));
+    same = λ alone d low high free. ap (found_from a text) (omega (arith, low, high));
   }
 
-  pub passed : (looked : Looked) (first c busy : ℕ) → Reached a text looked first c → c ≤ busy → busy ≤ suc (length a.line.now) → ((j : ℕ) → c ≤ j → j < busy → IsPassedOver a j) → Reached a text looked first busy
-  passed looked first c busy r more within over = record {
+  pub passed : (jumped : Marks) (looked : Looked) (first c busy : ℕ) → Reached a text jumped looked first c → c ≤ busy → busy ≤ suc (length a.line.now) → ((j : ℕ) → c ≤ j → j < busy → IsPassedOver a j) → Reached a text jumped looked first busy
+  passed jumped looked first c busy r more within over = record {
     left = r.left ∙ columns_passed a text of looked r.held c busy more within over;
     held = r.held;
     at = omega (arith, r.at);
     from = r.from;
-    same = λ alone d low high. elim (cases_lt d c) [
-      | inl before ↦ r.same alone d low (omega (arith, before)) ∙ passed_from c (omega arith) more
+    same = λ alone d low high free. elim (cases_lt d c) [
+      | inl before ↦ r.same alone d low (omega (arith, before)) free ∙ passed_from c (omega arith) more
       | inr behind ↦ passed_from d behind high
     ];
   }
@@ -222,18 +230,22 @@ module _ (a : Walk) (text : Text) (of : IsWalk a text) where
       passed_from : (d : ℕ) → c ≤ d → d ≤ busy → found_from a text d ≡ found_from a text busy
       passed_from d low high = columns_passed a text of one (hull_self one) d busy high within (λ j from below. over j (omega (arith, from, low)) below)
 
-  pub stepped : (looked after : Looked) (first busy next result : ℕ) → Reached a text looked first busy → GoesOn a text looked busy next after → IsFirst result first busy next looked after → Reached a text after result next
-  stepped looked after first busy next result r step is = record {
+  pub stepped : (jumped more : Marks) (looked after : Looked) (first busy next result : ℕ) → Reached a text jumped looked first busy → GoesOn a text looked busy next after → IsFirst result first next looked after →
+      ((d : ℕ) → IsMarked jumped d → IsMarked more d) → ((d : ℕ) → busy < d → d < next → IsMarked more d) → Reached a text more after result next
+  stepped jumped more looked after first busy next result r step is grows between = record {
     left = r.left ∙ step.same;
     held = step.held r.held;
     at = omega (arith, r.at, step.further);
     from = elim is [ inl e ↦ omega (arith, e, r.at, step.further) | inr h ↦ omega (arith, h.0, r.from) ];
-    same = λ alone d low high. elim is [
+    same = λ alone d low high free. elim is [
       | inl e ↦ ap (found_from a text) (omega (arith, e, low, high))
       | inr h ↦ elim (cases_lt d next) [
-        | inl before ↦ (let now : looked ≡ one = sym h.2 ∙ alone in
-            r.same now d (omega (arith, low, h.0)) (omega (arith, before, h.1))
-            ∙ (ap (λ (k : Looked). left_from a text k busy) (sym now) ∙ (step.same ∙ ap (λ (k : Looked). left_from a text k next) alone)))
+        | inl before ↦ elim (cases_lt busy d) [
+          | inl over ↦ absurd (free (between d over before))
+          | inr upto ↦ (let now : looked ≡ one = sym h.1 ∙ alone in
+              r.same now d (omega (arith, low, h.0)) upto (λ m. free (grows d m))
+              ∙ (ap (λ (k : Looked). left_from a text k busy) (sym now) ∙ (step.same ∙ ap (λ (k : Looked). left_from a text k next) alone)))
+        ]
         | inr behind ↦ ap (found_from a text) (omega (arith, behind, high))
       ]
     ];
@@ -259,40 +271,58 @@ module _ (a : Walk) (text : Text) (of : IsWalk a text) where
       ap (looked_first (Some one)) (by_patterns (search_in a.search text) kind (columns_from c (length (line_at text a.search.from.line))) c)
       ∙ sym (λ i. looked_first (Some one) (end_from (search_in a.search text) (Region [] (of.of.skip i) (of.of.ends i)) (columns_from c (length (of.line i))) c))
 
-  searched : (s : Searched) → Covers a text s → IsSearched a.search text s
-  searched s is = record {
+  searched : (jumped : Marks) (s : Searched) → Covers a text jumped s → IsSearched a.search text jumped s
+  searched jumped s is = record {
     answer = subst (λ p. IsEnd s.answer a.search.region p)
         (sym (ap (λ b. looked_first (Some one) (end_in_present (search_in a.search text) b)) there ∙ left_is a.search.from.col)) is.answer;
-    columns = λ found e d low high reached.
+    columns = λ found e d low high free reached.
         subst (λ (x : EndAnswer). IsEnd x a.search.region (end_in_line (search_in (record a.search { from = place_at a.search.from.line d }) text))) (sym e)
         (from_later a.search.items.now a.search.matcher.sets.now a.search.matcher.budget text a.search.region a.search.externals.now a.search.from d (omega (arith, low, is.from)) found of.may.present reached
         (subst (λ p. IsEnd (answer_at found a.search.from.line) a.search.region p) (sym (left_is d))
-        (subst (λ (x : EndAnswer). IsEnd x a.search.region (found_from a text d)) e (is.same found e d low high))));
+        (subst (λ (x : EndAnswer). IsEnd x a.search.region (found_from a text d)) e (is.same found e d low high free))));
   }
     where
       there : nat_lt a.search.from.line (length text) ≡ true
       there = grind (arith, nat_tests, of.may.present)
 
   -- past the line's end there is no column
-  pub none_found : (looked : Looked) (first c : ℕ) → Reached a text looked first c → length a.line.now < c → IsSearched a.search text (record { answer = NotHere looked; first = first; to = c })
-  none_found looked first c r past =
+  pub none_found : (jumped : Marks) (looked : Looked) (first c : ℕ) → Reached a text jumped looked first c → length a.line.now < c → IsSearched a.search text jumped (record { answer = NotHere looked; first = first; to = c })
+  none_found jumped looked first c r past =
       let none : (k : Looked) → left_from a text k c ≡ Done None (Some k) = λ k. none_left (search_in a.search text) (Region [] a.skip.now a.ends.now) c (length a.line.now) k past in
-      searched (record { answer = NotHere looked; first = first; to = c }) (record {
+      searched jumped (record { answer = NotHere looked; first = first; to = c }) (record {
         answer = r.left ∙ none looked;
         from = r.from;
-        same = λ found e d low high.
+        same = λ found e d low high free.
             let now = not_here_at looked found a.search.from.line e in
-            r.same now d low (omega (arith, high)) ∙ (none one ∙ ap (λ (k : Looked). Done None (Some k)) (sym now));
+            r.same now d low (omega (arith, high)) free ∙ (none one ∙ ap (λ (k : Looked). Done None (Some k)) (sym now));
       })
 
-  pub answered : (looked : Looked) (first busy to : ℕ) (answer : EndAnswer) → Reached a text looked first busy → to ≡ suc busy → IsEnd answer a.search.region (left_from a text looked busy) →
-      IsSearched a.search text (record { answer = answer; first = first; to = to })
-  answered looked first busy to answer r e there = searched (record { answer = answer; first = first; to = to }) (record {
+  pub answered : (jumped : Marks) (looked : Looked) (first busy to : ℕ) (answer : EndAnswer) → Reached a text jumped looked first busy → to ≡ suc busy → IsEnd answer a.search.region (left_from a text looked busy) →
+      IsSearched a.search text jumped (record { answer = answer; first = first; to = to })
+  answered jumped looked first busy to answer r e there = searched jumped (record { answer = answer; first = first; to = to }) (record {
     answer = subst (λ p. IsEnd answer a.search.region p) (sym r.left) there;
     from = r.from;
-    same = λ found is d low high.
+    same = λ found is d low high free.
         let now = alone_before looked a.search.from.line (end_from (search_in a.search text) (Region [] a.skip.now a.ends.now) (columns_from busy (length a.line.now)) busy) found r.held
         (answer_done a.search.region a.search.from.line found (left_from a text looked busy) (subst (λ (x : EndAnswer). IsEnd x a.search.region (left_from a text looked busy)) is there)) in
         subst (λ p. IsEnd answer a.search.region p)
-        (sym (r.same now d low (omega (arith, high, e)) ∙ ap (λ (k : Looked). left_from a text k busy) (sym now))) there;
+        (sym (r.same now d low (omega (arith, high, e)) free ∙ ap (λ (k : Looked). left_from a text k busy) (sym now))) there;
   })
+
+-- ---- what is remembered
+
+-- what a search came to, if it is kept
+pub kept_stands : (a : Searching) (text : Text) (jumped : Marks) (s : Searched) (known : Known) → a.externals.now ≡ no_externals → TellsColumns a text jumped s → IsKept a.region a.from.line s known →
+    KnownStands a.items.now a.matcher.sets.now a.matcher.budget text a.from.line jumped known
+kept_stands a text jumped s known none tells k c low high free reached =
+    let at : Place = place_at a.from.line c in
+    let h = tells known.end k.answer c (omega (arith, k.first, low)) (omega (arith, k.to, high)) free reached in
+    subst (λ (i : ItemId). IsEnd (answer_at known.end a.from.line) i (end_in_line (search_of a.items.now a.matcher.sets.now a.matcher.budget text i no_externals at))) (sym k.same)
+    (subst (λ e. IsEnd (answer_at known.end a.from.line) a.region (end_in_line (search_of a.items.now a.matcher.sets.now a.matcher.budget text a.region e at))) none
+    (subst (λ (x : EndAnswer). IsEnd x a.region (end_in_line (search_in (record a { from = at }) text))) k.answer h))
+
+-- it stays true where more columns were jumped over
+pub grown : (items : List AddedItem) (sets : Sets) (budget : ℕ) (text : Text) (l : ℕ) (memo : EndMemo) (more : Marks) → EndMemoStands items sets budget text l memo → ((d : ℕ) → IsMarked memo.jumped d → IsMarked more d) →
+    EndMemoStands items sets budget text l (record memo { jumped = more })
+grown items sets budget text l memo more stands grows =
+    record { known = λ k known has c low high free reached. stands.known k known has c low high (λ m. free (grows c m)) reached }

@@ -1,6 +1,7 @@
 -- What is remembered of where regions end in a line.
 use Rattle.std.specs.Prelude.{◌≡◌, ◌<◌, ◌≤◌, ℕ, List}
-use Rattle.slots.specs.Entries.{Has}
+use Rattle.slots.specs.Entries.{Has, IsMarked}
+use Rattle.slots.specs.declared.marks.Marks.{Marks}
 use Rattle.char_class.specs.declared.sets.Sets.{Sets}
 use Rattle.syn_base.specs.declared.places.ItemId.{ItemId}
 use Rattle.syn_base.specs.declared.places.Place.{Place}
@@ -14,17 +15,17 @@ use Rattle.region_ends.specs.declared.searching.Searched.{Searched}
 use Rattle.region_ends.specs.Searches.{search_of, IsEnd}
 use Rattle.region_ends.specs.Stretches.{answer_at, ReachesEnd}
 
--- the search of its region, without externals, from each of its columns that isn't behind its end
--- finds that end, or none, and looks at the line alone
-abbrev pub KnownStands : List AddedItem → Sets → ℕ → Text → ℕ → Known → Type 0
-KnownStands items sets budget text l known =
-    (c : ℕ) → known.first ≤ c → c < known.to → ReachesEnd (place_at l c) known.end →
+-- the search of its region, without externals, from each of its columns that isn't behind its end, and over
+-- which no skip jumped, finds that end, or none, and looks at the line alone
+abbrev pub KnownStands : List AddedItem → Sets → ℕ → Text → ℕ → Marks → Known → Type 0
+KnownStands items sets budget text l jumped known =
+    (c : ℕ) → known.first ≤ c → c < known.to → (IsMarked jumped c → ⊥) → ReachesEnd (place_at l c) known.end →
     IsEnd (answer_at known.end l) known.region
     (end_in_line (search_of items sets budget text known.region no_externals (place_at l c)))
 
 -- what is remembered is true of the line
 pub record EndMemoStands (items : List AddedItem) (sets : Sets) (budget : ℕ) (text : Text) (l : ℕ) (memo : EndMemo) : Type 0 where
-  pub known : (k : ℕ) (known : Known) → Has memo.searches k known → KnownStands items sets budget text l known
+  pub known : (k : ℕ) (known : Known) → Has memo.searches k known → KnownStands items sets budget text l memo.jumped known
 
 -- it tells of the search of a region from a place
 pub record TellsOf (known : Known) (region : ItemId) (from : Place) : Type 0 where

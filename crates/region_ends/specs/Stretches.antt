@@ -3,6 +3,8 @@ use Rattle.std.specs.Prelude.{◌≡◌, ◌<◌, ◌≤◌, ◌⊎◌, ℕ, suc
 use Rattle.syn_base.specs.declared.places.Place.{Place}
 use Rattle.syn_base.specs.declared.looked.Looked.{Looked}
 use Rattle.syn_base.specs.Looked.{hull_of, one_line}
+use Rattle.slots.specs.Entries.{IsMarked}
+use Rattle.slots.specs.declared.marks.Marks.{Marks}
 use Rattle.match_rules.specs.Ways.{Text, is_after}
 use Rattle.syntax_set.specs.declared.item.ItemKind.TheVariants.{Region}
 use Rattle.paint_rules.specs.declared.RegionEnd.{RegionEnd}
@@ -49,11 +51,10 @@ IsStep a text looked c (Answer found) = IsEnd found a.search.region (left_from a
 abbrev pub found_from : Walk → Text → ℕ → Painted Cause (Option RegionEnd)
 found_from a text c = left_from a text (one_line (pos a.search.from.line)) c
 
--- from this column on searches come to the same as from `next`, where those from `first` on came to
--- the same as from `busy`
-abbrev pub IsFirst : ℕ → ℕ → ℕ → ℕ → Looked → Looked → Type 0
-IsFirst from first busy next before after =
-    (from ≡ next) ⊎ ((from ≡ first) × (next ≡ suc busy) × (after ≡ before))
+-- from this column on searches come to the same as from `next`, where those from `first` on came to the
+-- same as from where a step led there, but for columns in between
+abbrev pub IsFirst : ℕ → ℕ → ℕ → Looked → Looked → Type 0
+IsFirst from first next before after = (from ≡ next) ⊎ ((from ≡ first) × (after ≡ before))
 
 -- an end or none, by a look at one line
 abbrev pub answer_at : Option RegionEnd → ℕ → EndAnswer
@@ -66,15 +67,15 @@ ReachesEnd p None = Unit {0}
 ReachesEnd p (Some e) = is_after p e.end ≡ false
 
 -- where a search looked at its line alone, searches from some columns on, unless these are behind the
--- end that it found, come to the same
-abbrev pub TellsColumns : Searching → Text → Searched → Type 0
-TellsColumns a text s =
+-- end that it found, or a skip jumped over them, come to the same
+abbrev pub TellsColumns : Searching → Text → Marks → Searched → Type 0
+TellsColumns a text jumped s =
     (found : Option RegionEnd) → s.answer ≡ answer_at found a.from.line → (d : ℕ) →
-    s.first ≤ d → d < s.to → ReachesEnd (place_at a.from.line d) found →
+    s.first ≤ d → d < s.to → (IsMarked jumped d → ⊥) → ReachesEnd (place_at a.from.line d) found →
     IsEnd s.answer a.region
     (end_in_line (search_in (record a { from = place_at a.from.line d }) text))
 
 -- what a search came to
-pub record IsSearched (a : Searching) (text : Text) (s : Searched) : Type 0 where
+pub record IsSearched (a : Searching) (text : Text) (jumped : Marks) (s : Searched) : Type 0 where
   pub answer : IsEnd s.answer a.region (end_in_line (search_in a text))
-  pub columns : TellsColumns a text s
+  pub columns : TellsColumns a text jumped s

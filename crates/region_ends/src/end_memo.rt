@@ -6,13 +6,13 @@ ghost use Rattle.char_class.specs.declared.sets.Sets.{Sets as SetsRules};
 use crate::key_answers::KeyAnswers;
 use crate::searching::{EndAnswer, Searched, Searching};
 use paint_rules::RegionEnd;
-use slots::Slots;
+use slots::{Marks, Slots};
 use std::alloc::Global;
 use syn_base::{Externals, ItemId, Lines, Looked, Memory, Place};
 
 /// Searches for the end of a region without externals, from the columns from `first` up to, and
-/// without, `to`, find this end, or none, and look at the line alone. Those from behind the end are
-/// no such searches.
+/// without, `to`, find this end, or none, and look at the line alone. Those from behind the end, and from
+/// columns that a skip jumped over, are no such searches.
 #[derive(Clone, Copy)]
 pub(crate) struct Known {
     pub(crate) region: ItemId,
@@ -26,6 +26,8 @@ pub(crate) struct Known {
 pub struct EndMemo {
     /// By the number of the region.
     searches: Slots<Known>,
+    /// The columns that the skip of some region jumped over.
+    jumped: Marks,
 }
 
 /// What a search came to, if it may be kept.
@@ -63,7 +65,7 @@ fn answer_at(end: Option<RegionEnd>, line: usize) -> EndAnswer
 }
 
 impl Known {
-    /// Whether it tells of the search of a region from a place.
+    /// Whether it tells of the search of a region from a place, if no skip jumped over that.
     fn tells_of(&self, region: ItemId, from: Place) -> bool
         ensures { IsTrue result → TellsOf self.now region from }
     {
@@ -83,6 +85,7 @@ impl EndMemo {
     {
         EndMemo {
             searches: Slots::new(alloc),
+            jumped: Marks::new(alloc),
         }
     }
 
@@ -92,6 +95,7 @@ impl EndMemo {
             EndMemoStands items sets budget t l self.new }
     {
         self.searches.clear();
+        self.jumped.clear();
     }
 
     /// The end that the search of a region from a place is known to find, or that it finds none.
@@ -102,7 +106,7 @@ impl EndMemo {
             (end_in_line (search_of items sets budget t region no_externals from))) }
     {
         let known = self.searches.get(region.0 as usize)?;
-        if known.tells_of(region, from) {
+        if known.tells_of(region, from) && !self.jumped.has(from.col) {
             Some(known.end)
         } else {
             None
@@ -113,7 +117,7 @@ impl EndMemo {
     fn keep(&mut self, known: Known) -> Result<(), Memory>
         ensures { (items : List AddedItem) (sets : SetsRules) (budget : ℕ) (t : Text) (l : ℕ) →
             EndMemoStands items sets budget t l self.old →
-            KnownStands items sets budget t l known →
+            KnownStands items sets budget t l self.old.jumped known →
             EndMemoStands items sets budget t l self.new }
     {
         self.searches.put(known.region.0 as usize, known)
@@ -153,7 +157,7 @@ impl Searching<'_> {
             Some(end) => return Ok(answer_at(end, self.from.line)),
             None => {}
         }
-        let searched = self.anew(lines, shut)?;
+        let searched = self.anew(lines, shut, &mut memo.jumped)?;
         match known_by(self.region, self.from.line, searched) {
             Some(known) => memo.keep(known)?,
             None => {}

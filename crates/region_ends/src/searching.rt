@@ -1,5 +1,6 @@
 //! The search for the end of a region in a line (`:syn-region`).
-ghost use Rattle.std.specs.Prelude.{◌≡◌, ◌<◌, ◌≤◌, ◌^◌, length, reverse, true, IfOk, Some};
+ghost use Rattle.std.specs.Prelude.{◌≡◌, ◌<◌, ◌≤◌, ◌^◌, ℕ, length, reverse, true, IfOk, OnOk, Some};
+ghost use Rattle.slots.specs.Entries.{IsMarked};
 ghost use Rattle.region_ends.specs.Common.{AreSound, IsAdded, looked_first, first_found, item_of, is_region, end_in_line, end_at, end_made, skip_at, tried_at, search_of, IsEnd, AnswersStand, is_shut_at, IsWalk, ShutStands, IsFirst, IsSearched, IsStep, TellsColumns, search_in, MaySearch, EndsBefore, seen, IsTried, IsSkip, GoesFurther};
 
 use crate::keeping::item_of;
@@ -12,6 +13,7 @@ use crate::skips::{SkipAnswer, skip_by};
 use char_class::Sets;
 use paint_rules::{RegionEnd, Which};
 use pattern_match::{Attempt, Match, Programs};
+use slots::Marks;
 use std::alloc::Global;
 use syn_base::{Externals, ItemId, Lines, List, Looked, Memory, Place};
 use syntax_set::{ItemKind, ItemSet, Pattern};
@@ -38,8 +40,8 @@ pub(crate) enum Step {
 #[derive(Clone, Copy)]
 pub(crate) struct Searched {
     pub answer: EndAnswer,
-    /// Searches from the columns from here up to, and without, `to` come to the same, if this one has
-    /// looked at its line alone.
+    /// Searches from the columns from here up to, and without, `to`, but for those that a skip jumped
+    /// over, come to the same, if this one has looked at its line alone.
     pub first: usize,
     pub to: usize,
 }
@@ -69,17 +71,24 @@ fn seen(looked: Looked, tried: Attempt) -> Attempt
     }
 }
 
-/// From where on searches come to the same as from the column where one goes on: a skip of more than
-/// one column has passed over others, and a look at another line counts for what came before alone.
-fn first_of(first: usize, busy: usize, next: usize, before: Looked, after: Looked) -> usize
-    requires { busy < 2 ^ 63 }
-    ensures { IsFirst result first busy next before after }
+/// From where on searches come to the same as from the column where one goes on: a look at another line
+/// counts for what came before alone.
+fn first_of(first: usize, next: usize, before: Looked, after: Looked) -> usize
+    ensures { IsFirst result first next before after }
 {
-    if after == before && next == busy + 1 {
-        first
-    } else {
-        next
+    if after == before { first } else { next }
+}
+
+/// Marks the columns between two, which a skip jumps over.
+fn mark_between(jumped: &mut Marks, from: usize, to: usize) -> Result<(), Memory>
+    requires { from < 2 ^ 63 }
+    ensures between { OnOk result ((d : ℕ) → from < d → d < to → IsMarked jumped.new d) }
+    ensures before { (d : ℕ) → IsMarked jumped.old d → IsMarked jumped.new d }
+{
+    for col in from + 1..to {
+        jumped.put(col)?;
     }
+    Ok(())
 }
 
 impl Walk<'_> {
@@ -205,12 +214,19 @@ impl Walk<'_> {
         }
     }
 
-    /// The search over the columns of the line. Those where nothing can fit are passed over.
-    fn search<T: Lines>(&self, lines: &T, shut: &mut KeyAnswers) -> Result<Searched, Memory>
+    /// The search over the columns of the line. Those where nothing can fit are passed over, and those
+    /// that a skip jumps over are marked.
+    fn search<T: Lines>(
+        &self,
+        lines: &T,
+        shut: &mut KeyAnswers,
+        jumped: &mut Marks,
+    ) -> Result<Searched, Memory>
         requires walk { IsWalk self.now (T.lines lines.now) }
         requires shut { ShutStands self.now.search shut.old }
         ensures shut { ShutStands self.now.search shut.new }
-        ensures searched { IfOk result (IsSearched self.now.search (T.lines lines.now)) }
+        ensures searched { IfOk result (IsSearched self.now.search (T.lines lines.now) jumped.new) }
+        ensures before { (d : ℕ) → IsMarked jumped.old d → IsMarked jumped.new d }
     {
         let last = self.line.len();
         let mut looked = Looked::one(self.search.from.line as i64);
@@ -225,7 +241,8 @@ impl Walk<'_> {
             }
             match self.answer_at(lines, busy, looked)? {
                 Step::GoOn(next, k) => {
-                    first = first_of(first, busy, next, looked, k);
+                    first = first_of(first, next, looked, k);
+                    mark_between(jumped, busy, next)?;
                     c = next;
                     looked = k;
                 }
@@ -243,18 +260,20 @@ impl Walk<'_> {
 
 impl Searching<'_> {
     /// The search for the end of the region in the line of its place. `shut` tells where no pattern of
-    /// a region fits.
+    /// a region fits. Columns that a skip jumps over are marked.
     pub(crate) fn anew<T: Lines>(
         &self,
         lines: &T,
         shut: &mut KeyAnswers,
+        jumped: &mut Marks,
     ) -> Result<Searched, Memory>
         requires may { MaySearch self.now (T.lines lines.now) }
         requires shut { ShutStands self.now shut.old }
         ensures shut { ShutStands self.now shut.new }
         ensures answer { IfOk result (λ s. IsEnd s.answer self.now.region (end_in_line
             (search_in self.now (T.lines lines.now)))) }
-        ensures columns { IfOk result (TellsColumns self.now (T.lines lines.now)) }
+        ensures columns { IfOk result (TellsColumns self.now (T.lines lines.now) jumped.new) }
+        ensures before { (d : ℕ) → IsMarked jumped.old d → IsMarked jumped.new d }
     {
         // The proof needs the bounds that this call tells of the text.
         let _count = lines.len();
@@ -269,7 +288,7 @@ impl Searching<'_> {
                     ends,
                     opening: known_opening(ends.as_slice(), item.ignore, self.externals),
                 };
-                walk.search(lines, shut)
+                walk.search(lines, shut, jumped)
             }
             ItemKind::Keyword | ItemKind::Match(_) => unreachable!(),
         }
@@ -287,7 +306,8 @@ impl Searching<'_> {
         ensures end { IfOk result (λ a. IsEnd a self.now.region (end_in_line
             (search_in self.now (T.lines lines.now)))) }
     {
-        let searched = self.anew(lines, shut)?;
+        let mut jumped = Marks::new(self.matcher.alloc);
+        let searched = self.anew(lines, shut, &mut jumped)?;
         Ok(searched.answer)
     }
 }

@@ -1,11 +1,11 @@
 -- Lists with an element put into them.
-use Rattle.std.proofs.Common.{sym, subst, ap, ◌∙◌, ◌<◌, ◌≡◌, ◌⊎◌, ◌/◌, ◌%◌, ◌*◌, ◌^◌, ℕ, zero, suc, true, arith, inl, inr, List, [], ◌∷◌, ◌++◌, length, set, refl, bit_or, w64}
+use Rattle.std.proofs.Common.{sym, subst, ap, ◌∙◌, ◌<◌, ◌≡◌, ◌⊎◌, ◌/◌, ◌%◌, ◌*◌, ◌^◌, ℕ, zero, suc, true, false, arith, inl, inr, List, [], ◌∷◌, ◌++◌, length, set, refl, bit_or, w64}
 use Rattle.std.specs.Prelude.{Some, slice_get, nat_eq}
 use Rattle.std.specs.Int.{bit_at}
 use Rattle.std.proofs.lemmas.Bool.{cases_eq}
 use Rattle.std.proofs.lemmas.Bool.Decides.{nat_tests}
-use Rattle.std.proofs.lemmas.Nat.Bits.{bit_at-zero, bit_at_set_other, bit_at_set_same}
-use Rattle.std.proofs.lemmas.Option.{slice_get_within}
+use Rattle.std.proofs.lemmas.Nat.Bits.{bit_at_set_other, bit_at_set_same}
+use Rattle.std.proofs.lemmas.Option.{same_Some, slice_get_within}
 use Rattle.slots.specs.declared.grid.Grid.{Grid}
 use Rattle.slots.specs.declared.table.Table.{Table}
 use Rattle.slots.specs.declared.marks.Marks.{Marks}
@@ -84,16 +84,12 @@ all_still_in {E} P old new row number entry put stands own j k e is =
 pub same_number : (a b : ℕ) → nat_eq a b ≡ true → a ≡ b
 same_number a b e = grind (arith, nat_tests)
 
+pub not_one : (a : ℕ) → a ≡ 1 → nat_eq a 1 ≡ false → ⊥
+not_one a e f = absurd (grind (arith, nat_tests, e, f))
+
 abbrev pub IsSet : List ℕ → ℕ → Type 0
 IsSet words number =
     (word : ℕ) × ((slice_get words (number / 64) ≡ Some word) × (bit_at word (number % 64) ≡ 1))
-
--- a word of no numbers adds none
-pub marked_before : (words : List ℕ) (number : ℕ) → IsSet (words ++ 0 ∷ []) number → IsSet words number
-marked_before words number is = elim (pushed words 0 (number / 64) is.0 is.1.0) [
-  | inl before ↦ (is.0, (before, is.1.1))
-  | inr last ↦ absurd (omega (arith, bit_at-zero (number % 64), sym (ap (λ w. bit_at w (number % 64)) last.1) ∙ is.1.1))
-]
 
 -- a word with the bit of a number set
 abbrev with_bit : ℕ → ℕ → ℕ
@@ -117,6 +113,29 @@ marked_others words number word k there is = elim (exchanged words (number / 64)
         let was : bit_at word (k % 64) ≡ 1 = sym stays ∙ sym (ap (λ w. bit_at w (k % 64)) here.1) ∙ is.1.1 in
         inl (word, (subst (λ i. slice_get words i ≡ Some word) (sym here.0) there, was))
   ]
+]
+
+-- an element that isn't exchanged
+get_other : {X : Type 0} (xs : List X) (p q : ℕ) (x : X) → (p ≡ q → ⊥) → slice_get (set xs p x) q ≡ slice_get xs q
+get_other [] p q x other = refl
+get_other (z ∷ zs) zero zero x other = absurd (other refl)
+get_other (z ∷ zs) zero (suc q) x other = refl
+get_other (z ∷ zs) (suc p) zero x other = refl
+get_other (z ∷ zs) (suc p) (suc q) x other = get_other zs p q x (λ e. other (ap suc e))
+
+-- and each that was set stays so
+pub marked_still : (words : List ℕ) (number word k : ℕ) → slice_get words (number / 64) ≡ Some word → IsSet words k → IsSet (set words (number / 64) (with_bit word number)) k
+marked_still words number word k there is = elim (cases_eq (number / 64) (k / 64)) [
+  | inr other ↦ (is.0, (get_other words (number / 64) (k / 64) _ other ∙ is.1.0, is.1.1))
+  | inl same ↦
+      let within = slice_get_within words (number / 64) word there in
+      let at = subst (λ i. slice_get (set words (number / 64) (with_bit word number)) i ≡ Some (with_bit word number)) same (get_set words (number / 64) (with_bit word number) within) in
+      let is_word : word ≡ is.0 = same_Some word is.0 (sym there ∙ (ap (slice_get words) same ∙ is.1.0)) in
+      let bit : number % 64 < 64 = omega arith in
+      elim (cases_eq (k % 64) (number % 64)) [
+        | inl alike ↦ (with_bit word number, (at, ap (bit_at (with_bit word number)) alike ∙ bit_at_set_same w64 word (number % 64) bit))
+        | inr apart ↦ (with_bit word number, (at, bit_at_set_other w64 word (number % 64) bit (k % 64) apart ∙ (ap (λ w. bit_at w (k % 64)) is_word ∙ is.1.1)))
+      ]
 ]
 
 -- what is true of all numbers and of the new one is true of all numbers then

@@ -1,5 +1,5 @@
 //! Numbers that are forgotten at once.
-ghost use Rattle.std.specs.Prelude.{◌≡◌, ◌⊎◌, ◌≤◌, ◌+◌, ◌/◌, ◌%◌, ℕ, length, IsTrue, OnOk, slice_get, Some};
+ghost use Rattle.std.specs.Prelude.{◌≡◌, ◌⊎◌, ◌≤◌, ◌+◌, ◌/◌, ◌%◌, ℕ, length, IsFalse, IsTrue, OnOk, slice_get, Some};
 ghost use Rattle.std.specs.Int.{bit_at};
 ghost use Rattle.slots.specs.Entries.{IsMarked};
 
@@ -25,7 +25,8 @@ impl Marks {
     /// Whether a number is among them.
     #[inline(always)]
     pub fn has(&self, number: usize) -> bool
-        ensures { IsTrue result → IsMarked self.now number }
+        ensures marked { IsTrue result → IsMarked self.now number }
+        ensures absent { IsFalse result → IsMarked self.now number → ⊥ }
     {
         match self.words.get(number / 64) {
             Some(word) => *word >> (number % 64) & 1 == 1,
@@ -44,6 +45,7 @@ impl Marks {
     fn fill(&mut self, many: usize) -> Result<(), Memory>
         ensures many { OnOk result (many ≤ length self.new.words.items) }
         ensures kept { (number : ℕ) → IsMarked self.new number → IsMarked self.old number }
+        ensures before { (number : ℕ) → IsMarked self.old number → IsMarked self.new number }
     {
         if self.words.len() < many {
             self.words.resize(many, 0)?;
@@ -55,6 +57,7 @@ impl Marks {
     pub fn put(&mut self, number: usize) -> Result<(), Memory>
         ensures here { OnOk result (IsMarked self.new number) }
         ensures kept { (k : ℕ) → IsMarked self.new k → IsMarked self.old k ⊎ (k ≡ number) }
+        ensures before { (k : ℕ) → IsMarked self.old k → IsMarked self.new k }
     {
         let at = number / 64;
         self.fill(at + 1)?;

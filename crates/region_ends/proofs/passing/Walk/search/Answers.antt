@@ -10,7 +10,8 @@ columns-smaller g c =
 pub columns-init : goal.columns-init
 columns-init g c = record {
   shut = c.requires.shut;
-  reached = begun c.args.self.now (g.T.Lines.lines c.args.lines.now) c.requires.walk c.one-looked.result (search rules);
+  before = λ d marked. marked;
+  reached = begun c.args.self.now (g.T.Lines.lines c.args.lines.now) c.requires.walk c.args.jumped.now c.one-looked.result (search rules);
 }
 
 pub columns-preserved : goal.columns-preserved
@@ -23,8 +24,10 @@ columns-preserved g c =
     let step = subst (IsStep a text looked busy) c.in-GoOn.is c.in_ok-next.ensures in
     record {
       shut = idle.answers;
-      reached = stepped a text c.requires.walk looked c.in-GoOn.k c.columns.first busy c.in-GoOn.next c.first_of-first.result
-          (passed a text c.requires.walk looked c.columns.first c.columns.c busy c.columns.invariant.reached idle.from idle.within idle.idle) step c.first_of-first.ensures;
+      before = λ d marked. c.mark_between.ensures.before d (c.columns.invariant.before d marked);
+      reached = stepped a text c.requires.walk c.columns.jumped c.mark_between.new.jumped looked c.in-GoOn.k c.columns.first busy c.in-GoOn.next c.first_of-first.result
+          (passed a text c.requires.walk c.columns.jumped looked c.columns.first c.columns.c busy c.columns.invariant.reached idle.from idle.within idle.idle) step c.first_of-first.ensures
+          c.mark_between.ensures.before c.in_ok-mark_between-in-GoOn.ensures.between;
     }
 
 pub returns-then-busy-last-clause-searched : goal.returns-then-busy-last-clause-searched
@@ -33,8 +36,8 @@ returns-then-busy-last-clause-searched g c =
     let text = g.T.Lines.lines c.args.lines.now in
     let idle = c.idle_until-busy.ensures in
     let busy = c.idle_until-busy.result in
-    none_found a text c.requires.walk c.columns.looked c.columns.first busy
-    (passed a text c.requires.walk c.columns.looked c.columns.first c.columns.c busy c.columns.invariant.reached idle.from idle.within idle.idle) c.if-busy-last.true
+    none_found a text c.requires.walk c.columns.jumped c.columns.looked c.columns.first busy
+    (passed a text c.requires.walk c.columns.jumped c.columns.looked c.columns.first c.columns.c busy c.columns.invariant.reached idle.from idle.within idle.idle) c.if-busy-last.true
 
 pub returns-in-Answer-clause-searched : goal.returns-in-Answer-clause-searched
 returns-in-Answer-clause-searched g c =
@@ -43,10 +46,10 @@ returns-in-Answer-clause-searched g c =
     let idle = c.idle_until-busy.ensures in
     let busy = c.idle_until-busy.result in
     let looked = c.columns.looked in
-    answered a text c.requires.walk looked c.columns.first busy _ c.in-Answer.answer
-    (passed a text c.requires.walk looked c.columns.first c.columns.c busy c.columns.invariant.reached idle.from idle.within idle.idle) (omega arith)
+    answered a text c.requires.walk c.columns.jumped looked c.columns.first busy _ c.in-Answer.answer
+    (passed a text c.requires.walk c.columns.jumped looked c.columns.first c.columns.c busy c.columns.invariant.reached idle.from idle.within idle.idle) (omega arith)
     (subst (IsStep a text looked busy) c.in-Answer.is c.in_ok-next.ensures)
 
 pub returns-clause-searched : goal.returns-clause-searched
 returns-clause-searched g c =
-    none_found c.args.self.now (g.T.Lines.lines c.args.lines.now) c.requires.walk c.columns.looked c.columns.first c.columns.c c.columns.invariant.reached c.columns-test.false
+    none_found c.args.self.now (g.T.Lines.lines c.args.lines.now) c.requires.walk c.columns.jumped c.columns.looked c.columns.first c.columns.c c.columns.invariant.reached c.columns-test.false

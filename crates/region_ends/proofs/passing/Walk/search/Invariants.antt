@@ -1,4 +1,5 @@
-use Rattle.region_ends.proofs.Common.{◌-◌, suc, ShutStands}
+use Rattle.region_ends.proofs.Common.{ℕ, ◌-◌, suc, ShutStands}
+use Rattle.slots.specs.Entries.{IsMarked}
 use Rattle.region_ends.proofs.StretchLaws.{Reached}
 use Rattle.region_ends.proofs.passing.Walk.search.Given as goal
 
@@ -6,7 +7,8 @@ use Rattle.region_ends.proofs.passing.Walk.search.Given as goal
 abbrev pub invariant-columns : goal.invariant-columns
 invariant-columns g l = record {
   shut : ShutStands l.self.search l.shut;
-  reached : Reached l.self (g.T.Lines.lines l.lines) l.looked l.first l.c;
+  reached : Reached l.self (g.T.Lines.lines l.lines) l.jumped l.looked l.first l.c;
+  before : (d : ℕ) → IsMarked l.fn.jumped d → IsMarked l.jumped d;
 }
 
 abbrev pub decreases-columns : goal.decreases-columns
