@@ -6,7 +6,7 @@ use Rattle.item_pick.specs.declared.tables.Tables.{Tables}
 
 module _ (r : Rules) (tables : Tables) (stands : AreTablesOf r tables) where
   pub with_outs : (outs : KeyAnswers) → AnswersStand (stays_out r) outs → AreTablesOf r (record tables { outs = outs })
-  with_outs outs h = record { rows = stands.rows; outs = h; firsts = stands.firsts; shut = stands.shut; wanted = stands.wanted }
+  with_outs outs h = record { rows = stands.rows; outs = h; firsts = stands.firsts; shut = stands.shut; wanted = stands.wanted; words = stands.words }
 
   pub with_firsts : (firsts : Firsts) → AreFirstsOf r firsts → AreTablesOf r (record tables { firsts = firsts })
-  with_firsts firsts h = record { rows = stands.rows; outs = stands.outs; firsts = h; shut = stands.shut; wanted = stands.wanted }
+  with_firsts firsts h = record { rows = stands.rows; outs = stands.outs; firsts = h; shut = stands.shut; wanted = stands.wanted; words = stands.words }

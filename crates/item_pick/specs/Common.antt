@@ -37,3 +37,4 @@ pub use Rattle.item_pick.specs.Tables.{AreAdmitted, AreKnown, AreTablesOf, HasTh
 pub use Rattle.item_pick.specs.Told.{EndsBefore, IsToldAfter, IsToldAs}
 pub use Rattle.item_pick.specs.Tries.{HasNoStart, IsBeside, IsNotFrom, IsSeen, match_in}
 pub use Rattle.item_pick.specs.Valid.{IsSound, MayAsk, MayBeAsked, MayPick}
+pub use Rattle.item_pick.specs.Wordless.{AllStartByWord, HasNoKeyword, IsWordless, StartsByWord}

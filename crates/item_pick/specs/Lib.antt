@@ -13,6 +13,7 @@ pub mod Standing
 pub mod Started
 pub mod Told
 pub mod Tries
+pub mod Wordless
 pub mod Tables
 pub mod Quiet
 pub mod Runs

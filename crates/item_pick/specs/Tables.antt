@@ -1,5 +1,5 @@
 -- Which items of a choice may start at a column, by the key of the column.
-use Rattle.std.specs.Prelude.{◌≡◌, ◌<◌, ◌≤◌, ◌+◌, ◌-◌, ◌⊎◌, ℕ, Bool, suc, true, not, ◌&&◌, false, get_or, nat_lt, is_none, List, length, slice_index, IfSome}
+use Rattle.std.specs.Prelude.{◌≡◌, ◌<◌, ◌≤◌, ◌+◌, ◌-◌, ◌⊎◌, ℕ, Bool, suc, true, not, ◌&&◌, false, get_or, nat_lt, is_none, List, length, slice_index, Some, IfSome}
 use Rattle.std.specs.List.{All, list_all}
 use Rattle.std.specs.List.Sorted.{IsNonDecreasing}
 use Rattle.char_class.specs.declared.sets.Sets.{Sets}
@@ -34,6 +34,7 @@ use Rattle.item_pick.specs.Screens.{HoldsLine, IsSettled}
 use Rattle.item_pick.specs.Settled.{item_wanders}
 use Rattle.item_pick.specs.Standing.{IsFirst, IsPatternOf}
 use Rattle.item_pick.specs.Started.{admits, is_free}
+use Rattle.item_pick.specs.Wordless.{AllStartByWord, IsWordless}
 
 -- whether an attempt at a column of a line isn't known to fail
 abbrev pub passes : Sets → ℕ → PatternTree → Bool → List ℕ → ℕ → Bool
@@ -116,6 +117,7 @@ pub record RowStands (r : Rules) (row : Row) : Type 0 where
   pub admitted : AreAdmitted r row.choice row.items.items
   pub resting : HasThose r false row.items.items row.resting.items
   pub wandering : IfSome row.wandering (λ those. HasThose r true row.items.items those.items)
+  pub wordless : row.wordless ≡ true → IsWordless r row.choice
 
 -- each pattern by which an item starts needs what this says
 abbrev pub IsNeededBy : Rules → ItemId → LineNeed → Type 0
@@ -153,6 +155,7 @@ pub record AreTablesOf (r : Rules) (tables : Tables) : Type 0 where
   pub firsts : AreFirstsOf r tables.firsts
   pub shut : AnswersStand (is_shut_at r.items r.sets r.budget) tables.shut
   pub wanted : All (IsWanted r) tables.wanted.items
+  pub words : tables.by_word ≡ Some true → AllStartByWord r
 
 abbrev pub TablesStand : Rules → PickMemory → Type 0
 TablesStand r memory = AreTablesOf r memory.tables

@@ -23,7 +23,7 @@ impl<T: Lines> Picking<'_, T> {
         ensures there { IfOk result (IsStartThere (rules_by self.now.asked.now).items) }
         ensures may { MayAsk T.lines self.now memory.new }
     {
-        let word = self.keyword(choice)?;
+        let word = self.keyword_by(choice, &memory.tables)?;
         match word {
             Some(starting) => Ok(Some(starting)),
             None => self.first_start(choice, looked, memory),

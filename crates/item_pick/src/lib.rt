@@ -30,6 +30,7 @@ mod tables;
 mod tried;
 mod tries;
 mod wandering;
+mod wordless;
 mod words;
 
 pub use asked::Asked;

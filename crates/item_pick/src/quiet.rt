@@ -1,6 +1,6 @@
 //! Columns at which nothing starts, by what stands there.
 ghost use Rattle.std.specs.Prelude.{◌≡◌, ◌<◌, ℕ, [], length, reverse, IfOk, IsTrue, None, true};
-ghost use Rattle.item_pick.specs.Common.{Text, line_at, Rules, place_at, keyword_at, is_free, Fits, IsQuietAt, IsQuietUntil, HoldsLine, ArePassed, AreSettled, ChoiceFits, IsNextAt, IsNumberAt, IsPlace, IsSound, MemoryStands, MayAsk, rules_by, MayBeAsked, MayPick};
+ghost use Rattle.item_pick.specs.Common.{Text, line_at, Rules, place_at, keyword_at, is_free, Fits, IsQuietAt, IsQuietUntil, HoldsLine, ArePassed, AreSettled, ChoiceFits, IsNextAt, IsNumberAt, IsPlace, IsSound, IsWordless, MemoryStands, MayAsk, rules_by, MayBeAsked, MayPick};
 ghost use Rattle.pattern_screens.specs.Keys.{key_numbered};
 ghost use Rattle.pattern_screens.specs.declared.key.Last.TheVariants as last;
 
@@ -79,19 +79,30 @@ impl<T: Lines> Picking<'_, T> {
         Ok(left == 0)
     }
 
-    /// Whether no keyword of a choice starts at a column whose key has a number.
-    fn no_keyword_starts(&self, choice: Choice, number: u16, col: usize) -> Result<bool, Memory>
+    /// Whether no keyword of a choice starts at a column whose key has a number. None does where the
+    /// choice is told to be wordless.
+    fn no_keyword_starts(
+        &self,
+        choice: Choice,
+        number: u16,
+        col: usize,
+        wordless: bool,
+    ) -> Result<bool, Memory>
         requires number { IsNumberAt (rules_by self.now.asked.now)
             (line_at (T.lines self.now.lines.now) self.now.at.line) col number }
         requires column { col < length (line_at (T.lines self.now.lines.now) self.now.at.line) }
         requires none_tried { self.now.tried.now ≡ [] }
         requires choice { ChoiceFits (rules_by self.now.asked.now) choice }
+        requires wordless { IsTrue wordless → IsWordless (rules_by self.now.asked.now) choice }
         requires valid { IsSound self.now.asked.now }
         requires place { IsPlace (T.lines self.now.lines.now) self.now.at }
         ensures { IfOk result (λ none. IsTrue none → keyword_at (rules_by self.now.asked.now)
             (is_free (rules_by self.now.asked.now) [] choice)
             (line_at (T.lines self.now.lines.now) self.now.at.line) col ≡ None) }
     {
+        if wordless {
+            return Ok(true);
+        }
         if is_after_keyword(number) {
             return Ok(true);
         }
@@ -103,13 +114,15 @@ impl<T: Lines> Picking<'_, T> {
         Ok(here.keyword(choice)?.is_none())
     }
 
-    /// Whether it is known that no item of a choice is left at a column, and no keyword starts there.
+    /// Whether it is known that no item of a choice is left at a column, and no keyword starts there:
+    /// none does where the choice is told to be wordless.
     fn is_quiet(
         &self,
         choice: Choice,
         col: usize,
         looked: Looked,
         settled: usize,
+        wordless: bool,
         memory: &mut PickMemory,
     ) -> Result<bool, Memory>
         requires column { col < length (line_at (T.lines self.now.lines.now) self.now.at.line) }
@@ -117,6 +130,7 @@ impl<T: Lines> Picking<'_, T> {
         requires choice { ChoiceFits (rules_by self.now.asked.now) choice }
         requires settled { col < settled → ArePassed (rules_by self.now.asked.now)
             (T.lines self.now.lines.now) self.now.at.line choice self.now.floor looked true col }
+        requires wordless { IsTrue wordless → IsWordless (rules_by self.now.asked.now) choice }
         requires may { MayPick T.lines self.now looked memory.old }
         ensures quiet { IfOk result (λ quiet. IsTrue quiet → IsQuietAt
             (rules_by self.now.asked.now) (T.lines self.now.lines.now) choice self.now.floor looked
@@ -133,7 +147,7 @@ impl<T: Lines> Picking<'_, T> {
         if !self.no_item_left(choice, number, col, looked, settled, memory)? {
             return Ok(false);
         }
-        self.no_keyword_starts(choice, number, col)
+        self.no_keyword_starts(choice, number, col, wordless)
     }
 
     /// Up to which column it is known that no items of a choice start that wander.
@@ -172,8 +186,9 @@ impl<T: Lines> Picking<'_, T> {
         let last = self.last();
         let end = end.min(last).max(self.at.col);
         let settled = self.settled_until(choice, looked, memory);
+        let wordless = memory.tables.is_wordless(choice);
         for col in self.at.col..end {
-            let quiet = self.is_quiet(choice, col, looked, settled, memory)?;
+            let quiet = self.is_quiet(choice, col, looked, settled, wordless, memory)?;
             if !quiet {
                 return Ok(col);
             }

@@ -1,7 +1,7 @@
 //! Which items of a choice may start at a column, by the key of the column.
 ghost use Rattle.std.specs.Prelude.{◌≡◌, ◌<◌, ℕ, length, slice_get, Some, IfOk, IfSome, IsTrue, true};
 ghost use Rattle.std.specs.List.Sorted.{IsNonDecreasing};
-ghost use Rattle.item_pick.specs.Common.{item_numbered, ChoiceFits, IsItem, admits, AnswersStand, AreAdmitted, HasThose, is_screened, Lacks, ListStands, RisesTo, RowStands, stays_out, StaysOut, rules_by};
+ghost use Rattle.item_pick.specs.Common.{item_numbered, ChoiceFits, IsItem, admits, AnswersStand, AreAdmitted, HasThose, is_screened, IsWordless, Lacks, ListStands, RisesTo, RowStands, stays_out, StaysOut, rules_by};
 ghost use Rattle.item_pick.specs.declared.choice.Choice.{Choice as ChoiceOf};
 ghost use Rattle.syntax_set.specs.declared.item.Pattern.{Pattern as PatternOf};
 
@@ -27,6 +27,8 @@ pub(crate) struct Row {
     pub(crate) resting: Vec<u32>,
     /// Those of them that do; only of the row of all items.
     pub(crate) wandering: Option<Vec<u32>>,
+    /// No word starts an item of the choice; told only of the row of all items.
+    pub(crate) wordless: bool,
 }
 
 impl Asked<'_> {
@@ -199,7 +201,8 @@ impl Asked<'_> {
         Ok(items)
     }
 
-    /// The row of these items of a choice, with those of them that wander, if they are told.
+    /// The row of these items of a choice, with those of them that wander, if they are told, and
+    /// whether no word starts an item of the choice.
     pub(crate) fn row(
         &self,
         alloc: Global,
@@ -207,12 +210,14 @@ impl Asked<'_> {
         number: u16,
         items: Vec<u32>,
         wandering: Option<Vec<u32>>,
+        wordless: bool,
     ) -> Result<Row, Memory>
         requires lists { ListStands (rules_by self.now) choice number items.items }
         requires rises { IsNonDecreasing items.items }
         requires admitted { AreAdmitted (rules_by self.now) choice items.items }
         requires those { IfSome wandering (λ those. HasThose (rules_by self.now) true items.items
             those.items) }
+        requires wordless { IsTrue wordless → IsWordless (rules_by self.now) choice }
         ensures { IfOk result (RowStands (rules_by self.now)) }
     {
         let resting = self.those(alloc, items.as_slice(), false)?;
@@ -222,6 +227,7 @@ impl Asked<'_> {
             items,
             resting,
             wandering,
+            wordless,
         })
     }
 }

@@ -32,6 +32,8 @@ pub(crate) struct Tables {
     pub(crate) wanted: Vec<Wanted>,
     /// How many times it was asked for, by the number of the item.
     pub(crate) times: Table<u8>,
+    /// Whether each word starts a keyword, once it was asked.
+    pub(crate) by_word: Option<bool>,
 }
 
 impl Tables {
@@ -48,6 +50,7 @@ impl Tables {
             firsts: Firsts::new(alloc),
             wanted: Vec::new(alloc),
             times: Table::new(alloc),
+            by_word: None,
         }
     }
 
@@ -94,7 +97,8 @@ impl Tables {
         }
         let items = asked.listed(self.alloc, choice, ANY)?;
         let wandering = asked.those(self.alloc, items.as_slice(), true)?;
-        let row = asked.row(self.alloc, choice, ANY, items, Some(wandering))?;
+        let wordless = self.has_no_word(asked, choice);
+        let row = asked.row(self.alloc, choice, ANY, items, Some(wandering), wordless)?;
         self.keep(row)
     }
 
@@ -112,7 +116,7 @@ impl Tables {
             Some(all) => asked.narrowed(self.alloc, all, number, &mut self.outs)?,
             None => return Ok(()),
         };
-        let row = asked.row(self.alloc, choice, number, items, None)?;
+        let row = asked.row(self.alloc, choice, number, items, None, false)?;
         self.keep(row)
     }
 }

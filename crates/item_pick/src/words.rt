@@ -1,11 +1,12 @@
 //! Keywords.
 ghost use Rattle.std.specs.Prelude.{◌≡◌, reverse, IfOk, IfSome};
 ghost use Rattle.std.specs.List.{find, All};
-ghost use Rattle.item_pick.specs.Common.{candidates, line_at, keyword_at, is_free, IsStartThere, ChoiceFits, IsItem, IsKeyword, IsPlace, rules_by, IsSound};
+ghost use Rattle.item_pick.specs.Common.{candidates, line_at, keyword_at, is_free, IsStartThere, AreTablesOf, ChoiceFits, IsItem, IsKeyword, IsPlace, rules_by, IsSound};
 
 use crate::choice::Choice;
 use crate::picking::Picking;
 use crate::starting::Starting;
+use crate::tables::Tables;
 use keyword_table::word_end;
 use syn_base::{ItemId, Lines, List, Memory};
 
@@ -56,5 +57,26 @@ impl<T: Lines> Picking<'_, T> {
                 }
             }
         }
+    }
+
+    /// The same by what is kept: no word is looked up where none starts an item of the choice.
+    pub(crate) fn keyword_by(
+        &self,
+        choice: Choice,
+        tables: &Tables,
+    ) -> Result<Option<Starting>, Memory>
+        requires valid { IsSound self.now.asked.now }
+        requires place { IsPlace (T.lines self.now.lines.now) self.now.at }
+        requires choice { ChoiceFits (rules_by self.now.asked.now) choice }
+        requires stands { AreTablesOf (rules_by self.now.asked.now) tables.now }
+        ensures is { IfOk result (λ found. IsKeyword found (keyword_at (rules_by self.now.asked.now)
+            (is_free (rules_by self.now.asked.now) (reverse self.now.tried.now) choice)
+            (line_at (T.lines self.now.lines.now) self.now.at.line) self.now.at.col)) }
+        ensures there { IfOk result (IsStartThere (rules_by self.now.asked.now).items) }
+    {
+        if tables.is_wordless(choice) {
+            return Ok(None);
+        }
+        self.keyword(choice)
     }
 }

@@ -1,6 +1,6 @@
 //! The keywords of a syntax.
-ghost use Rattle.std.specs.Prelude.{◌≡◌, ◌<◌, ◌≤◌, ◌↔◌, ◌++◌, [], ◌∷◌, length, Err, IfOk, OnOk, OnErr};
-ghost use Rattle.std.specs.Option.{ForSome};
+ghost use Rattle.std.specs.Prelude.{◌≡◌, ◌<◌, ◌≤◌, ◌↔◌, ◌++◌, [], ◌∷◌, length, slice_get, Err, IfOk, OnOk, OnErr};
+ghost use Rattle.std.specs.Option.{ForSome, option_map};
 ghost use Rattle.keyword_table.specs.Candidates.{candidates};
 ghost use Rattle.keyword_table.specs.Chains.{definitions, items_from, IsChained};
 
@@ -72,6 +72,15 @@ impl Keywords {
         ensures { result ≡ length self.now }
     {
         self.entries.len()
+    }
+
+    /// The item that the definition of this number starts. They are numbered from 0, in the order in
+    /// which they were added.
+    pub fn item(&self, number: usize) -> Option<ItemId>
+        ensures { result ≡ option_map (λ definition. definition.item)
+            (slice_get self.now number) }
+    {
+        Some(self.entries.get(number)?.definition.item)
     }
 
     /// Adds a definition: the word starts the item, where `ignore` says that case is ignored.

@@ -1,6 +1,12 @@
 use Rattle.item_pick.proofs.Common.{[], line_at, is_free, rules_by}
 use Rattle.item_pick.proofs.QuietPlaceLaws.{no_keyword}
+use Rattle.item_pick.proofs.WordLaws.{wordless_none}
 use Rattle.item_pick.proofs.picking.Picking.no_keyword_starts.Goals as goal
+
+pub returns-then-wordless : goal.returns-then-wordless
+returns-then-wordless g c _ =
+    let here = c.args.self.now in
+    wordless_none (rules_by here.asked.now) [] c.args.choice (c.requires.wordless c.if-wordless.true) (line_at (g.T.Lines.lines here.lines.now) here.at.line) c.args.col
 
 pub returns-then-is_after_keyword : goal.returns-then-is_after_keyword
 returns-then-is_after_keyword g c _ =

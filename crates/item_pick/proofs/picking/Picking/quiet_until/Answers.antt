@@ -2,6 +2,9 @@ use Rattle.item_pick.proofs.Common.{◌≤◌, ℕ, reverse, below_more, arith, 
 use Rattle.item_pick.proofs.QuietPlaceLaws.{nothing_picked}
 use Rattle.item_pick.proofs.picking.Picking.quiet_until.Goals as goal
 
+pub is_quiet-requires-clause-wordless : goal.is_quiet-requires-clause-wordless
+is_quiet-requires-clause-wordless g c = λ e. c.is_wordless-wordless.ensures e (rules_by c.args.self.now.asked.now) c.requires.may.ask.memory.tables
+
 pub loop-col-preserved : goal.loop-col-preserved
 loop-col-preserved g c =
     let s = c.args.self.now.asked.now in

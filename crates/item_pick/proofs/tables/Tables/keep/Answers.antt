@@ -10,4 +10,5 @@ returns c r tables row = record {
   firsts = tables.firsts;
   shut = tables.shut;
   wanted = tables.wanted;
+  words = tables.words;
 }

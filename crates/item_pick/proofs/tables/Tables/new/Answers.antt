@@ -9,4 +9,5 @@ returns c r = record {
   shut = c.new-4.ensures (is_shut_at r.items r.sets r.budget);
   firsts = c.new-5.ensures r;
   wanted = subst (All (IsWanted r)) (sym c.new-6.ensures.items) (All-nil (IsWanted r));
+  words = λ e. absurd (cc);
 }
