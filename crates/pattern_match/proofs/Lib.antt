@@ -32,5 +32,6 @@ pub mod FateLaws
 pub mod TakesLaws
 pub mod AlikeLaws
 pub mod Choosing
+mod VainLaws
 mod GlanceLaws
 mod GlanceRuns

@@ -1,15 +1,18 @@
 -- What the character at the place of a way tells of the atoms that look at its own line alone.
 use Rattle.std.proofs.Common.{◌≡◌, ℕ, Bool, true, false, length, refl, sym, ap, ◌∙◌, subst, arith}
-use Rattle.std.specs.Prelude.{Some, None, nat_eq}
+use Rattle.std.specs.Prelude.{Some, nat_eq}
 use Rattle.std.proofs.lemmas.Bool.Decides.{nat_tests}
 use Rattle.std.proofs.lemmas.Option.{slice_get_within}
 use Rattle.syn_base.specs.declared.places.Place.{Place}
 use Rattle.pattern_items.specs.declared.atom.Atom.{Atom}
-use Rattle.match_rules.specs.Ways.{Context, Way, IsPlaceOf, line_at, behind_character}
+use Rattle.match_rules.specs.Ways.{Context, Text, Way, IsPlaceOf, line_at, behind_character}
 use Rattle.match_rules.specs.Atoms.{behind_if, behind_one, behind_one_or_end, character_at, fits, is_line_end, lines_looked, only_if, own_line}
 use Rattle.pattern_match.specs.declared.standing.Standing.TheVariants.{Character}
 use Rattle.pattern_match.specs.Standing.{Stands}
-use Rattle.pattern_match.specs.Told.{IsTold, to_if}
+use Rattle.pattern_match.specs.Contexts.{context_in}
+use Rattle.pattern_match.specs.declared.context.Context.{Context as ContextOf}
+use Rattle.pattern_match.specs.declared.told.Fit.{Fit}
+use Rattle.pattern_match.specs.Told.{IsFit, IsTold, stays_if, takes_if, to_if, told_by}
 
 -- it leads to a place, if it fits
 pub told_if : (x : Context) (w : Way) (a : Atom) (b : Bool) (p : Place) → fits x w a ≡ only_if b p → lines_looked x w a ≡ own_line w → IsPlaceOf x.text p → IsTold x w a (to_if b p)
@@ -46,3 +49,19 @@ module _ (x : Context) (w : Way) (p behind : Place) (c : ℕ) (at : w.at ≡ p) 
   no_stop_is =
       let within = slice_get_within (line_at x.text w.at.line) w.at.col c character_is in
       grind (arith, nat_tests)
+
+-- ---- by the character alone
+
+pub takes-told : (b : Bool) (here behind : Place) → told_by (takes_if b) here behind ≡ to_if b behind
+takes-told true here behind = refl
+takes-told false here behind = refl
+
+pub stays-told : (b : Bool) (here behind : Place) → told_by (stays_if b) here behind ≡ to_if b here
+stays-told true here behind = refl
+stays-told false here behind = refl
+
+pub fit-tells : (context : ContextOf) (a : Atom) (c col : ℕ) (fit : Fit) → IsFit context a c col fit → (text : Text) (p behind : Place) → IsPlaceOf text p → p.col ≡ col → Stands text p (Character c behind) →
+    (w : Way) → w.at ≡ p → IsTold (context_in text context) w a (told_by fit p behind)
+fit-tells context a c col fit h text p behind on_text is stands w e =
+    subst (λ q. IsTold (context_in text context) w a (told_by fit q behind)) e
+    (h text w behind (subst (IsPlaceOf text) (sym e) on_text) (ap (λ (q : Place). q.col) e ∙ is) (subst (λ q. Stands text q (Character c behind)) (sym e) stands))

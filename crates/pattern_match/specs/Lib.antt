@@ -23,6 +23,7 @@ pub mod Walks
 pub mod Told
 pub mod Tried
 pub mod FirstAtom
+pub mod Vain
 pub mod Glance
 pub mod Programs
 pub mod ReadyParts

@@ -1,10 +1,16 @@
 -- What is told of an atom at the place of a way, where it looks at its own line alone: where it leads,
 -- or that it doesn't fit.
-use Rattle.std.specs.Prelude.{◌≡◌, Bool, true, false, Some, None}
+use Rattle.std.specs.Prelude.{◌≡◌, ℕ, Bool, true, false, Some, None}
 use Rattle.syn_base.specs.declared.places.Place.{Place}
 use Rattle.pattern_items.specs.declared.atom.Atom.{Atom}
-use Rattle.match_rules.specs.Ways.{Context, Way, IsPlaceOf}
+use Rattle.match_rules.specs.Ways.{Context, Text, Way, IsPlaceOf}
 use Rattle.match_rules.specs.Atoms.{fits, lines_looked, own_line}
+use Rattle.pattern_match.specs.Contexts.{context_in}
+use Rattle.pattern_match.specs.Standing.{Stands}
+use Rattle.pattern_match.specs.declared.context.Context.{Context as ContextOf}
+use Rattle.pattern_match.specs.declared.standing.Standing.TheVariants.{Character}
+use Rattle.pattern_match.specs.declared.told.Fit.{Fit}
+use Rattle.pattern_match.specs.declared.told.Fit.TheVariants.{Takes, Stays, Refuses, Unsure}
 use Rattle.pattern_match.specs.declared.told.Told.{Told}
 use Rattle.pattern_match.specs.declared.told.Told.TheVariants.{To, Nowhere, Nothing}
 
@@ -16,3 +22,26 @@ IsTold x w a Nothing = Unit {0}
 abbrev pub to_if : Bool → Place → Told
 to_if true p = To p
 to_if false p = Nowhere
+
+-- ---- by the character alone
+
+abbrev pub takes_if : Bool → Fit
+takes_if true = Takes
+takes_if false = Refuses
+
+abbrev pub stays_if : Bool → Fit
+stays_if true = Stays
+stays_if false = Refuses
+
+-- where an atom leads from here, or behind the character
+abbrev pub told_by : Fit → Place → Place → Told
+told_by Takes here behind = To behind
+told_by Stays here behind = To here
+told_by Refuses here behind = Nowhere
+told_by Unsure here behind = Nothing
+
+-- so much a character at a column tells of an atom, wherever its line stands
+abbrev pub IsFit : ContextOf → Atom → ℕ → ℕ → Fit → Type 0
+IsFit context a c col fit =
+    (text : Text) (w : Way) (behind : Place) → IsPlaceOf text w.at → w.at.col ≡ col → Stands text w.at (Character c behind) →
+    IsTold (context_in text context) w a (told_by fit w.at behind)

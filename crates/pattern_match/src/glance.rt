@@ -19,10 +19,12 @@ use crate::atoms::{numbered, try_plain};
 use crate::context::Context;
 use crate::runs::{less_by, run_length};
 use crate::spent::Spent;
+use crate::standing::{Standing, standing_at};
 use crate::step::{Step, Test};
 use crate::task::Turns;
-use crate::told::{Told, tell};
+use crate::told::{Fit, fit_of};
 use crate::turns::{is_after, next_turns, one_less};
+use crate::vain::{Vain, is_refused, vain_at};
 use pattern_screens::is_spent;
 use syn_base::{Lines, Looked, Place};
 
@@ -86,6 +88,9 @@ pub(crate) fn is_in_vain<T: Lines>(
     ensures within { spent.new.cost ≤ spent.new.budget }
     ensures unchanged { IsFalse result → spent.new ≡ spent.old }
 {
+    if is_refused(lines, context, step, start, spent) {
+        return true;
+    }
     let mut sight = Sight {
         at: start,
         left: NODES,
@@ -140,6 +145,24 @@ pub(crate) fn first_way<T: Lines>(
     }
 }
 
+/// Tries so many atoms of the line in vain, if the budget allows it.
+fn try_in_vain<T: Lines>(lines: &T, ticks: u64, sight: &mut Sight) -> bool
+    requires { Stands (T.lines lines.now) sight.old }
+    ensures tried { IsTrue result → sight.new ≡ record sight.old {
+      spent = spent_times sight.old.spent ticks (one_line (pos sight.old.at.line));
+    } }
+    ensures unchanged { IsFalse result → sight.new ≡ sight.old }
+    ensures goes { GoesOn (T.lines lines.now) sight.old sight.new }
+{
+    if ticks > sight.spent.budget - sight.spent.cost {
+        return false;
+    }
+    sight
+        .spent
+        .tick_times(ticks, Looked::one(numbered(lines, sight.at.line)));
+    true
+}
+
 /// Whether an atom asks for the text of a group.
 fn asks_for_group(test: &Test) -> bool
     ensures { result ≡ asks_for_group (atom_of test.now) }
@@ -162,21 +185,30 @@ fn look_at_atom<T: Lines>(lines: &T, context: &Context<'_>, test: &Test, sight: 
     if sight.spent.cost >= sight.spent.budget {
         return Saw::TooFar;
     }
-    match tell(lines, context, test, sight.at) {
-        Told::To(place) => {
+    let Standing::Character(c, behind) = standing_at(lines, sight.at) else {
+        return look_at_any_atom(lines, context, test, sight);
+    };
+    match fit_of(test, c, sight.at.col, context) {
+        Fit::Takes => {
             sight
                 .spent
                 .tick(Looked::one(numbered(lines, sight.at.line)));
-            sight.at = place;
+            sight.at = behind;
             Saw::Reached
         }
-        Told::Nowhere => {
+        Fit::Stays => {
+            sight
+                .spent
+                .tick(Looked::one(numbered(lines, sight.at.line)));
+            Saw::Reached
+        }
+        Fit::Refuses => {
             sight
                 .spent
                 .tick(Looked::one(numbered(lines, sight.at.line)));
             Saw::InVain
         }
-        Told::Nothing => look_at_any_atom(lines, context, test, sight),
+        Fit::Unsure => look_at_any_atom(lines, context, test, sight),
     }
 }
 
@@ -347,8 +379,37 @@ fn look_at_first<T: Lines>(
         sight.old sight.new result }
     ensures goes { GoesOn (T.lines lines.now) sight.old sight.new }
 {
+    if let Vain::LeftOut(ticks) = vain_at(lines, context, first, sight.at) {
+        return if try_in_vain(lines, ticks, sight) {
+            look_at(lines, context, second, rest, sight)
+        } else {
+            Saw::TooFar
+        };
+    }
     let rest = Rest::Then(&*second, &*rest);
     look_at(lines, context, first, &rest, sight)
+}
+
+/// A short look at a branch, and what follows. Mostly it is an atom.
+#[cycle(look)]
+fn look_at_branch<T: Lines>(
+    lines: &T,
+    context: &Context<'_>,
+    step: &Step,
+    rest: &Rest<'_>,
+    sight: &mut Sight,
+) -> Saw
+    requires { Stands (T.lines lines.now) sight.old }
+    ensures seen { (w : Way) → w.at ≡ sight.old.at →
+        let x = context_in (T.lines lines.now) context.now in
+        IsSeen (followed (visits x (shape_of step.now) w) (marks_behind x rest.now))
+        sight.old sight.new result }
+    ensures goes { GoesOn (T.lines lines.now) sight.old sight.new }
+{
+    match step {
+        Step::One(test) => look_at_one(lines, context, test, rest, sight),
+        step => look_at(lines, context, step, rest, sight),
+    }
 }
 
 /// A short look at one part or the other.
@@ -370,7 +431,7 @@ fn look_at_either<T: Lines>(
     ensures goes { GoesOn (T.lines lines.now) sight.old sight.new }
 {
     let from = sight.at;
-    match look_at(lines, context, first, rest, sight) {
+    match look_at_branch(lines, context, first, rest, sight) {
         Saw::InVain => {
             sight.at = from;
             look_at(lines, context, second, rest, sight)
@@ -507,12 +568,7 @@ fn turns_at_once<T: Lines>(
 {
     let left = sight.spent.budget - sight.spent.cost;
     match turns.part {
-        Step::One(test) => {
-            if let Told::Nowhere = tell(lines, context, test, sight.at) {
-                return 0;
-            }
-            run_length(lines, context, test, turns.most, sight.at, left)
-        }
+        Step::One(test) => run_length(lines, context, test, turns.most, sight.at, left),
         _ => 0,
     }
 }

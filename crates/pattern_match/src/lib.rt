@@ -33,6 +33,7 @@ mod task;
 mod tick;
 mod told;
 mod turns;
+mod vain;
 mod walks;
 mod ways;
 mod words;

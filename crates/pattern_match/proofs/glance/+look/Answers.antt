@@ -1,5 +1,7 @@
 use Rattle.std.proofs.Common.{◌≡◌, ◌-◌, suc, [], ◌∷◌, ◌++◌, refl, sym, ap, ◌∙◌, subst, rules, arith, append-nil}
-use Rattle.std.specs.Prelude.{true, false, Some, None}
+use Rattle.std.specs.Prelude.{true, false, Some, None, pos}
+use Rattle.syn_base.specs.Looked.{one_line}
+use Rattle.syn_base.specs.declared.places.Place.{Place}
 use Rattle.vim_pattern.specs.Shape.{Shape, one, ahead}
 use Rattle.pattern_items.specs.declared.atom.Atom.{Atom}
 use Rattle.match_rules.specs.Ways.{Context as AnyContext, Way, IsPlaceOf, is_after, with_capture}
@@ -20,6 +22,7 @@ use Rattle.pattern_match.specs.Spending.{spent_times}
 use Rattle.pattern_match.specs.Ways.{columns_on}
 use Rattle.pattern_match.specs.Glance.{stops_of, turns_of}
 use Rattle.pattern_match.proofs.GlanceRuns.{greedy_seen, turns_less, way_on, lazy_stops, lazy_ends, lazy_misses, lazy_stays, lazy_goes, none_then, went_back, went_on, went_to}
+use Rattle.pattern_match.proofs.VainLaws.{left-out-seen}
 use Rattle.pattern_match.proofs.glance.+look.Goals as goal
 
 pub look_at-returns-in-Empty-clause-seen : goal.look_at-returns-in-Empty-clause-seen
@@ -131,31 +134,50 @@ pub look_at_first-returns-clause-seen : goal.look_at_first-returns-clause-seen
 look_at_first-returns-clause-seen g t c =
     let x : AnyContext = context_in (g.T.Lines.lines c.args.lines.now) c.args.context.now in
     let f = marks_behind x c.args.rest.now in
-    λ w e. seen_as _ _ c.args.sight.now c.look_at.new.sight c.look_at.result
+    λ w e. seen_as _ _ c.args.sight.now c.look_at-2.new.sight c.look_at-2.result
     (both_is x (shape_of c.args.first.now) (shape_of c.args.second.now) w f)
-    (c.look_at.ensures.seen w e)
+    (c.look_at-2.ensures.seen w e)
+
+pub look_at_first-returns-then-try_in_vain-clause-seen : goal.look_at_first-returns-then-try_in_vain-clause-seen
+look_at_first-returns-then-try_in_vain-clause-seen g t c =
+    let x : AnyContext = context_in (g.T.Lines.lines c.args.lines.now) c.args.context.now in
+    let f = marks_behind x c.args.rest.now in
+    let old : Sight = c.args.sight.now in
+    let mid : Sight = c.try_in_vain.new.sight in
+    let n = c.in-LeftOut.ticks in
+    let tried : mid ≡ record old { spent = spent_times old.spent n (one_line (pos old.at.line)) } = c.try_in_vain.ensures.tried c.if-try_in_vain.true in
+    λ w e.
+    seen_as _ _ old c.look_at.new.sight c.look_at.result
+    (both_is x (shape_of c.args.first.now) (shape_of c.args.second.now) w f)
+    (left-out-seen (visits x (shape_of c.args.first.now)) (λ v. followed (visits x (shape_of c.args.second.now) v) f) w n old mid c.look_at.new.sight c.look_at.result
+    (rw c.in-LeftOut.is at c.vain_at.ensures w e)
+    (tried ∙ ap (λ (p : Place). record old { spent = spent_times old.spent n (one_line (pos p.line)) }) (sym e))
+    (c.look_at.ensures.seen w (e ∙ sym (ap (λ (s : Sight). s.at) tried))))
+
+pub look_at_branch-returns-in-One-clause-seen : goal.look_at_branch-returns-in-One-clause-seen
+look_at_branch-returns-in-One-clause-seen g t c = λ w e. rw c.in-One.is (c.look_at_one.ensures.seen w e)
 
 pub look_at_either-returns-in-InVain-clause-seen : goal.look_at_either-returns-in-InVain-clause-seen
 look_at_either-returns-in-InVain-clause-seen g t c =
     let x : AnyContext = context_in (g.T.Lines.lines c.args.lines.now) c.args.context.now in
     let f = marks_behind x c.args.rest.now in
-    λ w e. seen_as _ _ c.args.sight.now c.look_at-in-InVain.new.sight c.look_at-in-InVain.result
+    λ w e. seen_as _ _ c.args.sight.now c.look_at.new.sight c.look_at.result
     (either_is x (shape_of c.args.first.now) (shape_of c.args.second.now) w f)
-    (vain_then (followed (visits x (shape_of c.args.first.now) w) f) (followed (visits x (shape_of c.args.second.now) w) f) c.args.sight.now c.look_at.new.sight
-    (record c.look_at.new.sight { at = c.args.sight.now.at }) c.look_at-in-InVain.new.sight
-    c.look_at-in-InVain.result refl (rw c.in-InVain.is at c.look_at.ensures.seen w e)
-    (c.look_at-in-InVain.ensures.seen w e))
+    (vain_then (followed (visits x (shape_of c.args.first.now) w) f) (followed (visits x (shape_of c.args.second.now) w) f) c.args.sight.now c.look_at_branch.new.sight
+    (record c.look_at_branch.new.sight { at = c.args.sight.now.at }) c.look_at.new.sight
+    c.look_at.result refl (rw c.in-InVain.is at c.look_at_branch.ensures.seen w e)
+    (c.look_at.ensures.seen w e))
 
 pub look_at_either-returns-in_default : goal.look_at_either-returns-in_default
 look_at_either-returns-in_default g t c =
     let x : AnyContext = context_in (g.T.Lines.lines c.args.lines.now) c.args.context.now in
     let f = marks_behind x c.args.rest.now in
     record {
-      seen = λ w e. seen_as _ _ c.args.sight.now c.look_at.new.sight c.look_at.result
+      seen = λ w e. seen_as _ _ c.args.sight.now c.look_at_branch.new.sight c.look_at_branch.result
           (either_is x (shape_of c.args.first.now) (shape_of c.args.second.now) w f)
-          (first_stops (followed (visits x (shape_of c.args.first.now) w) f) (followed (visits x (shape_of c.args.second.now) w) f) c.args.sight.now c.look_at.new.sight c.look_at.result
-          c.in_default.not-InVain (c.look_at.ensures.seen w e));
-      goes = c.look_at.ensures.goes;
+          (first_stops (followed (visits x (shape_of c.args.first.now) w) f) (followed (visits x (shape_of c.args.second.now) w) f) c.args.sight.now c.look_at_branch.new.sight c.look_at_branch.result
+          c.in_default.not-InVain (c.look_at_branch.ensures.seen w e));
+      goes = c.look_at_branch.ensures.goes;
     }
 
 pub look_at_optional-returns-in-InVain-clause-seen : goal.look_at_optional-returns-in-InVain-clause-seen

@@ -29,7 +29,10 @@ abbrev pub decreases-look_at_other : goal.decreases-look_at_other
 decreases-look_at_other g l = 8 * l.sight.now.left + 5
 
 abbrev pub decreases-look_at_either : goal.decreases-look_at_either
-decreases-look_at_either g l = 8 * l.sight.now.left + 1
+decreases-look_at_either g l = 8 * l.sight.now.left + 3
+
+abbrev pub decreases-look_at_branch : goal.decreases-look_at_branch
+decreases-look_at_branch g l = 8 * l.sight.now.left + 2
 
 abbrev pub decreases-look_at_optional : goal.decreases-look_at_optional
 decreases-look_at_optional g l = 8 * l.sight.now.left + 1

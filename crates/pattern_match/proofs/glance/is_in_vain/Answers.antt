@@ -7,6 +7,7 @@ use Rattle.match_rules.proofs.MarkLaws.{followed-reach}
 use Rattle.pattern_match.specs.Contexts.{context_in}
 use Rattle.pattern_match.specs.Steps.{shape_of}
 use Rattle.pattern_match.proofs.GlanceLaws.{followed-wanted}
+use Rattle.pattern_match.proofs.VainLaws.{refused-tells}
 use Rattle.pattern_match.proofs.glance.is_in_vain.Goals as goal
 use Rattle.pattern_match.proofs.glance.is_in_vain.Goals.{in-None, in-Some}
 
@@ -14,7 +15,7 @@ pub returns-in-InVain-clause-seen : goal.returns-in-InVain-clause-seen
 returns-in-InVain-clause-seen g c = λ yes w e.
     let x : AnyContext = context_in (g.T.Lines.lines c.args.lines.now) c.args.context.now in
     let marks : List Mark = visits x (shape_of c.args.step.now) w in
-    let h = rw c.in-InVain.is at c.look_at.ensures.seen w e in
+    let h = rw (c.in-InVain.is, c.is_refused.ensures.unchanged c.if-is_refused.false) at c.look_at.ensures.seen w e in
     elim c.match-wanted.branch [
       | in-None b ↦ rw b.in-None.is
           (ap (answer_from c.args.spent.now.cost c.args.spent.now.looked) (sym (followed-reach marks))
@@ -24,3 +25,8 @@ returns-in-InVain-clause-seen g c = λ yes w e.
           (sym (followed-wanted b.in-Some.place marks))
           ∙ (rw b.rest-is at h))
     ]
+
+pub returns-then-is_refused-clause-seen : goal.returns-then-is_refused-clause-seen
+returns-then-is_refused-clause-seen g c = λ yes w e.
+    let x : AnyContext = context_in (g.T.Lines.lines c.args.lines.now) c.args.context.now in
+    refused-tells (visits x (shape_of c.args.step.now)) c.args.start c.args.spent.now c.is_refused.new.spent (c.is_refused.ensures.refused c.if-is_refused.true) c.args.wanted w e

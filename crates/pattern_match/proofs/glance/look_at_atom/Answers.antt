@@ -1,20 +1,22 @@
 use Rattle.std.proofs.Common.{◌≡◌, [], ◌∷◌, sym, ap, refl, ◌∙◌, arith, rules}
 use Rattle.std.specs.Prelude.{pos}
 use Rattle.syn_base.specs.Looked.{one_line}
-use Rattle.match_rules.specs.Ways.{Context as AnyContext, way_from}
+use Rattle.match_rules.specs.Ways.{way_from}
 use Rattle.match_rules.specs.Marks.{Tick}
-use Rattle.pattern_match.specs.Contexts.{context_in}
 use Rattle.pattern_match.specs.Spending.{spent_on}
 use Rattle.pattern_match.specs.Steps.{atom_of}
+use Rattle.pattern_match.proofs.ToldLaws.{fit-tells}
 use Rattle.pattern_match.proofs.glance.look_at_atom.Goals as goal
 
-pub returns-in-To : goal.returns-in-To
-returns-in-To g c =
+pub returns-in-Takes : goal.returns-in-Takes
+returns-in-Takes g c =
+    let text = g.T.Lines.lines c.args.lines.now in
+    let told = fit-tells c.args.context.now (atom_of c.args.test.now) c.in-Character.c c.args.sight.now.at.col c.fit_of.result c.fit_of.ensures text c.args.sight.now.at c.in-Character.behind c.requires.on_text refl (rw c.in-Character.is at c.standing_at.ensures) in
     let looked : c.one.result ≡ one_line (pos c.args.sight.now.at.line) = search rules in
-    let here = rw c.in-To.is at c.tell.ensures (way_from c.args.sight.now.at) refl in
+    let here = rw c.in-Takes.is at told (way_from c.args.sight.now.at) refl in
     record {
       seen = λ w e.
-          let h = rw c.in-To.is at c.tell.ensures w e in
+          let h = rw c.in-Takes.is at told w e in
           record {
             place_is = h.0;
             spent =
@@ -29,15 +31,39 @@ returns-in-To g c =
       };
     }
 
-pub returns-in-Nowhere-clause-seen : goal.returns-in-Nowhere-clause-seen
-returns-in-Nowhere-clause-seen g c =
-    let looked : c.one-in-Nowhere.result ≡ one_line (pos c.args.sight.now.at.line) = search rules in
+pub returns-in-Stays : goal.returns-in-Stays
+returns-in-Stays g c =
+    let text = g.T.Lines.lines c.args.lines.now in
+    let told = fit-tells c.args.context.now (atom_of c.args.test.now) c.in-Character.c c.args.sight.now.at.col c.fit_of.result c.fit_of.ensures text c.args.sight.now.at c.in-Character.behind c.requires.on_text refl (rw c.in-Character.is at c.standing_at.ensures) in
+    let looked : c.one-in-Stays.result ≡ one_line (pos c.args.sight.now.at.line) = search rules in
+    record {
+      seen = λ w e.
+          let h = rw c.in-Stays.is at told w e in
+          record {
+            place_is = h.0;
+            spent =
+                c.tick-in-Stays.ensures
+                ∙ ap (λ l. spent_on c.args.sight.now.spent (Tick l ∷ []))
+                (looked ∙ sym (ap (λ p. one_line (pos p.line)) e) ∙ sym h.1);
+          };
+      goes = record {
+        stands = record { on_text = c.requires.on_text; within = rw c.tick-in-Stays.ensures (omega arith) };
+        left = omega arith;
+        budget = rw c.tick-in-Stays.ensures refl;
+      };
+    }
+
+pub returns-in-Refuses-clause-seen : goal.returns-in-Refuses-clause-seen
+returns-in-Refuses-clause-seen g c =
+    let text = g.T.Lines.lines c.args.lines.now in
+    let told = fit-tells c.args.context.now (atom_of c.args.test.now) c.in-Character.c c.args.sight.now.at.col c.fit_of.result c.fit_of.ensures text c.args.sight.now.at c.in-Character.behind c.requires.on_text refl (rw c.in-Character.is at c.standing_at.ensures) in
+    let looked : c.one-in-Refuses.result ≡ one_line (pos c.args.sight.now.at.line) = search rules in
     λ w e.
-    let h = rw c.in-Nowhere.is at c.tell.ensures w e in
+    let h = rw c.in-Refuses.is at told w e in
     record {
       place_is = h.0;
       spent =
-          c.tick-in-Nowhere.ensures
+          c.tick-in-Refuses.ensures
           ∙ ap (λ l. spent_on c.args.sight.now.spent (Tick l ∷ []))
           (looked ∙ sym (ap (λ p. one_line (pos p.line)) e) ∙ sym h.1);
     }

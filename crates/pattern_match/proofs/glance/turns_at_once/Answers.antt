@@ -10,12 +10,3 @@ returns-in_default g c =
       fits = λ some. absurd (omega arith);
       within = omega arith;
     }
-
-pub returns-in-Nowhere : goal.returns-in-Nowhere
-returns-in-Nowhere g c =
-    let col = c.requires.on_text.col in
-    record {
-      taken = record { run = λ some. absurd (omega arith); allowed = none-allowed c.args.turns.now.most; within = omega arith };
-      fits = λ some. absurd (omega arith);
-      within = omega arith;
-    }

@@ -1,0 +1,172 @@
+//! Parts that are tried in vain: the character here fits none of the atoms that they begin with, and so
+//! they come to a number of ticks.
+ghost use Rattle.std.specs.Prelude.{◌≡◌, ◌≤◌, IsFalse, IsTrue, List, false};
+ghost use Rattle.match_rules.specs.Counts.{is_spent};
+ghost use Rattle.match_rules.specs.Marks.{Mark, followed};
+ghost use Rattle.match_rules.specs.Visits.{tried, visits};
+ghost use Rattle.match_rules.specs.Ways.{IsPlaceOf, Way};
+ghost use Rattle.pattern_match.specs.Contexts.{context_in};
+ghost use Rattle.pattern_match.specs.Steps.{atom_of, shape_of};
+ghost use Rattle.pattern_match.specs.declared.vain.Vain.{Vain as AnyVain};
+ghost use Rattle.pattern_match.specs.Vain.{IsRefused, IsThen, IsVain, left_out};
+
+use crate::atoms::numbered;
+use crate::context::Context;
+use crate::spent::Spent;
+use crate::step::{Step, Test};
+use crate::told::{Told, tell};
+use pattern_screens::is_spent;
+use syn_base::{Lines, Looked, Place};
+
+/// What the character at a place tells of a part.
+#[derive(Clone, Copy)]
+pub(crate) enum Vain {
+    /// It tries so many atoms in vain, and has no way.
+    Refused(u64),
+    /// It tries so many atoms in vain, and its one way stays here.
+    LeftOut(u64),
+    /// Nothing.
+    Unsure,
+}
+
+impl Vain {
+    /// What is told of a part and one behind it.
+    fn then(self, next: Vain) -> Vain
+        ensures { IsThen self next result }
+    {
+        match (self, next) {
+            (Vain::LeftOut(ticks), Vain::Refused(more)) => match ticks.checked_add(more) {
+                Some(all) => Vain::Refused(all),
+                None => Vain::Unsure,
+            },
+            (Vain::LeftOut(ticks), Vain::LeftOut(more)) => match ticks.checked_add(more) {
+                Some(all) => Vain::LeftOut(all),
+                None => Vain::Unsure,
+            },
+            (Vain::Refused(ticks), _) => Vain::Refused(ticks),
+            _ => Vain::Unsure,
+        }
+    }
+
+    /// Whether nothing is decided yet, so that what stands behind is asked.
+    fn is_left_out(&self) -> bool
+        ensures { IsFalse result → (next : AnyVain) → IsThen self.now next self.now }
+    {
+        match self {
+            Vain::LeftOut(_) => true,
+            _ => false,
+        }
+    }
+
+    /// What is told of a part that need not be there.
+    fn left_out(self) -> Vain
+        ensures { result ≡ left_out self }
+    {
+        match self {
+            Vain::Refused(ticks) => Vain::LeftOut(ticks),
+            _ => Vain::Unsure,
+        }
+    }
+}
+
+/// What the character at a place tells of an atom.
+fn vain_atom<T: Lines>(lines: &T, context: &Context<'_>, test: &Test, at: Place) -> Vain
+    requires { IsPlaceOf (T.lines lines.now) at }
+    ensures { (w : Way) → w.at ≡ at → IsVain (tried (context_in (T.lines lines.now) context.now) w
+        (atom_of test.now)) w result }
+{
+    match tell(lines, context, test, at) {
+        Told::Nowhere => Vain::Refused(1),
+        _ => Vain::Unsure,
+    }
+}
+
+/// Whether a count takes as many turns as it can, and none where it can't.
+fn is_free(least: u32, most: Option<u32>, lazy: bool) -> bool
+    ensures { IsTrue result → (least ≡ 0) × ((lazy ≡ false) × (is_spent most ≡ false)) }
+{
+    least == 0 && !lazy && !is_spent(most)
+}
+
+/// What the character at a place tells of a node.
+#[cycle(vain)]
+pub(crate) fn vain_at<T: Lines>(lines: &T, context: &Context<'_>, step: &Step, at: Place) -> Vain
+    requires { IsPlaceOf (T.lines lines.now) at }
+    ensures { (w : Way) → w.at ≡ at → IsVain (visits (context_in (T.lines lines.now) context.now)
+        (shape_of step.now) w) w result }
+{
+    match step {
+        Step::One(test) => vain_atom(lines, context, test, at),
+        Step::Seq(first, second) => {
+            let known = vain_at(lines, context, first, at);
+            vain_pieces(lines, context, known, second, at)
+        }
+        Step::Optional(part) => vain_at(lines, context, part, at).left_out(),
+        Step::Repeat {
+            part,
+            least,
+            most,
+            lazy,
+        } => if is_free(*least, *most, *lazy) {
+            vain_at(lines, context, part, at).left_out()
+        } else {
+            Vain::Unsure
+        },
+        _ => Vain::Unsure,
+    }
+}
+
+/// The same of a part, of which this is known, and a node behind it, piece by piece.
+#[cycle(vain)]
+fn vain_pieces<T: Lines>(
+    lines: &T,
+    context: &Context<'_>,
+    first: Vain,
+    node: &Step,
+    at: Place,
+) -> Vain
+    requires { IsPlaceOf (T.lines lines.now) at }
+    ensures { (w : Way) → w.at ≡ at → (marks : List Mark) → IsVain marks w first → IsVain
+        (followed marks (visits (context_in (T.lines lines.now) context.now) (shape_of node.now)))
+        w result }
+{
+    let mut known = first;
+    let mut rest = node;
+    while let Step::Seq(a, b) = rest {
+        if !known.is_left_out() {
+            return known;
+        }
+        known = known.then(vain_at(lines, context, a, at));
+        rest = b;
+    }
+    if !known.is_left_out() {
+        return known;
+    }
+    known.then(vain_at(lines, context, rest, at))
+}
+
+/// Whether the character at a place tells that a node has no way from there. Then its ticks are spent.
+pub(crate) fn is_refused<T: Lines>(
+    lines: &T,
+    context: &Context<'_>,
+    step: &Step,
+    start: Place,
+    spent: &mut Spent,
+) -> bool
+    requires on_text { IsPlaceOf (T.lines lines.now) start }
+    requires within { spent.old.cost ≤ spent.old.budget }
+    ensures refused { IsTrue result → IsRefused
+        (visits (context_in (T.lines lines.now) context.now) (shape_of step.now)) start spent.old
+        spent.new }
+    ensures budget { spent.new.budget ≡ spent.old.budget }
+    ensures within { spent.new.cost ≤ spent.new.budget }
+    ensures unchanged { IsFalse result → spent.new ≡ spent.old }
+{
+    match vain_at(lines, context, step, start) {
+        Vain::Refused(ticks) if ticks <= spent.budget - spent.cost => {
+            spent.tick_times(ticks, Looked::one(numbered(lines, start.line)));
+            true
+        }
+        _ => false,
+    }
+}
