@@ -10,6 +10,7 @@ use crate::reading::read;
 use cause_print::counts_text;
 use program_words::CheckWords;
 use std::alloc::Global;
+use std::mem::forget;
 use syn_base::{Files, List, Memory};
 use syn_reader::Syntax;
 
@@ -26,14 +27,16 @@ pub(crate) fn check<F: Files>(
     Ok(print_counts(alloc, syntax)?)
 }
 
-/// The counts of a syntax, which isn't needed behind them.
+/// The counts of a syntax, which isn't needed behind them. The program ends then, and so it isn't taken apart.
 fn print_counts(alloc: Global, syntax: Syntax) -> Result<List<u8>, Memory>
     ensures { IfOk result (λ bytes. bytes ≡ syntax_counts syntax) }
 {
-    counts_text(
+    let counts = counts_text(
         alloc,
         syntax.items.len(),
         syntax.keywords.len(),
         syntax.clusters.len(),
-    )
+    );
+    forget(syntax);
+    counts
 }

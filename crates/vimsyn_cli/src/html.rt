@@ -13,6 +13,7 @@ use html_writer::{PageOptions, page};
 use program_words::PageWords;
 use state_cache::Painted;
 use std::alloc::Global;
+use std::mem::forget;
 use syn_base::{Files, Ledger, List, Memory, Steps};
 
 /// The page of the text.
@@ -30,12 +31,17 @@ pub(crate) fn print_page<F: Files, L: Ledger>(
     Ok(print_picture(alloc, words, picture)?)
 }
 
-/// The page of a text, which isn't needed behind it.
+/// The page of a text, which isn't needed behind it. The program ends then, and so what was painted isn't
+/// taken apart.
 fn print_picture(alloc: Global, words: &PageWords<'_>, picture: Picture) -> Result<List<u8>, Memory>
     ensures { IfOk result (λ bytes. bytes ≡ picture_page words.now picture) }
 {
     match picture {
-        Picture::Shown(painted) => page_bytes(alloc, words, &painted),
+        Picture::Shown(painted) => {
+            let bytes = page_bytes(alloc, words, &painted);
+            forget(painted);
+            bytes
+        }
         Picture::Concealed(text) => seen_page(alloc, words, &text),
     }
 }

@@ -15,6 +15,7 @@ use program_words::PaintWords;
 use span_print::push_span_text;
 use state_cache::Painted;
 use std::alloc::Global;
+use std::mem::forget;
 use syn_base::{Colours, Files, Ledger, Lines, List, Memory, Span, Steps};
 use syntax_set::Groups;
 
@@ -33,12 +34,17 @@ pub(crate) fn print_spans<F: Files, L: Ledger>(
     Ok(print_picture(alloc, picture)?)
 }
 
-/// The span lines of a text, which isn't needed behind them.
+/// The span lines of a text, which isn't needed behind them. The program ends then, and so what was
+/// painted isn't taken apart.
 fn print_picture(alloc: Global, picture: Picture) -> Result<List<u8>, Memory>
     ensures { IfOk result (λ bytes. bytes ≡ picture_bytes picture) }
 {
     match picture {
-        Picture::Shown(painted) => shown_bytes(alloc, &painted),
+        Picture::Shown(painted) => {
+            let bytes = shown_bytes(alloc, &painted);
+            forget(painted);
+            bytes
+        }
         Picture::Concealed(text) => seen_bytes(alloc, &text),
     }
 }

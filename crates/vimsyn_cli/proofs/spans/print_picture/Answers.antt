@@ -6,8 +6,8 @@ use Rattle.vimsyn_cli.proofs.spans.print_picture.Goals as goal
 
 pub returns-in-Shown : goal.returns-in-Shown
 returns-in-Shown c =
-    let P : Picture → Type 0 = λ p. IfOk c.shown_bytes.result (λ bytes. bytes ≡ picture_bytes p) in
-    subst P (sym c.in-Shown.is) c.shown_bytes.ensures
+    let P : Picture → Type 0 = λ p. IfOk c.shown_bytes-bytes.result (λ bytes. bytes ≡ picture_bytes p) in
+    subst P (sym c.in-Shown.is) c.shown_bytes-bytes.ensures
 
 pub returns-in-Concealed : goal.returns-in-Concealed
 returns-in-Concealed c =
