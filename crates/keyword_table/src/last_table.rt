@@ -1,5 +1,5 @@
 //! The keys of a table of keywords, and the last definition that each key finds.
-ghost use Rattle.std.specs.Prelude.{◌≡◌, ◌<◌, ℕ, List, nat_eq, Some, OnOk, OnErr, IfOk, if◌then◌else◌};
+ghost use Rattle.std.specs.Prelude.{◌≡◌, ◌<◌, ℕ, List, nat_eq, IsTrue, Some, OnOk, OnErr, IfOk, if◌then◌else◌};
 ghost use Rattle.std.specs.Cmp.Lexicographic.{pointwise};
 ghost use Rattle.unicode.specs.CaseFolding.{simple_fold};
 ghost use Rattle.keyword_table.specs.Candidates.{folded};
@@ -32,6 +32,29 @@ pub(crate) fn put_last(
         → last_at table.new other ≡ last_at table.old other) }
 {
     table.insert(key, place)
+}
+
+/// The place of the last definition that the word's fold finds. A word that is its own fold is looked
+/// up as it stands.
+pub(crate) fn last_at_fold(
+    table: &LastTable,
+    alloc: Global,
+    word: &[char],
+) -> Result<Option<usize>, AllocError>
+    ensures { IfOk result (λ place. place ≡ last_at table.now (folded word.now)) }
+{
+    if is_folded(word) {
+        return Ok(last_at(table, word));
+    }
+    let key = fold_word(alloc, word)?;
+    Ok(last_at(table, key.as_slice()))
+}
+
+/// Whether each character is its own fold.
+fn is_folded(word: &[char]) -> bool
+    ensures { IsTrue result → folded word.now ≡ word.now }
+{
+    word.iter().all(|c| fold_one(*c) == *c)
 }
 
 /// The word with each character folded.

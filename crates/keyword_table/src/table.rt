@@ -5,7 +5,7 @@ ghost use Rattle.keyword_table.specs.Candidates.{candidates};
 ghost use Rattle.keyword_table.specs.Chains.{definitions, items_from, IsChained};
 
 use crate::KeywordError;
-use crate::last_table::{LastTable, fold_word, last_at, put_last};
+use crate::last_table::{LastTable, fold_word, last_at, last_at_fold, put_last};
 use std::alloc::Global;
 use std::collections::HashMap;
 use std::marker::Model;
@@ -123,12 +123,8 @@ impl Keywords {
         if self.by_fold.is_empty() {
             return Ok(items);
         }
-        let key = fold_word(alloc, word)?;
-        push_chain(
-            &self.entries,
-            last_at(&self.by_fold, key.as_slice()),
-            &mut items,
-        )?;
+        let last = last_at_fold(&self.by_fold, alloc, word)?;
+        push_chain(&self.entries, last, &mut items)?;
         Ok(items)
     }
 }

@@ -1,7 +1,6 @@
-use Rattle.std.proofs.Common.{None, ap, refl, sym, ◌∙◌}
+use Rattle.std.proofs.Common.{None, refl, sym}
 use Rattle.std.proofs.lemmas.List.{append-nil}
 use Rattle.keyword_table.specs.Candidates.{folded}
-use Rattle.keyword_table.specs.Chains.{last_at}
 use Rattle.keyword_table.proofs.ChainLaws.{candidates-chains, fold-within, word-within}
 use Rattle.keyword_table.proofs.KeyLaws.{last_at-empty}
 use Rattle.keyword_table.proofs.table.Keywords.candidates.Goals as goal
@@ -13,15 +12,14 @@ push_chain-requires-clause-within c =
 pub push_chain-requires-2-clause-within : goal.push_chain-requires-2-clause-within
 push_chain-requires-2-clause-within c =
     rw c.deref-2.ensures.value
-    (fold-within c.self.inside.entries.items c.self.inside.by_word c.self.inside.by_fold c.self.invariant c.in_ok-key.key.items c.last_at-2.result
-    (c.last_at-2.ensures ∙ ap (last_at c.self.inside.by_fold) c.as_slice.ensures.value))
+    (fold-within c.self.inside.entries.items c.self.inside.by_word c.self.inside.by_fold c.self.invariant (folded c.args.word.now) c.in_ok-last.last c.in_ok-last.ensures)
 
 pub returns : goal.returns
 returns c =
     rw (← c.self.view_is)
-    (candidates-chains c.self.inside.entries.items c.self.inside.by_word c.self.inside.by_fold c.self.invariant c.args.word.now c.in_ok-key.key.items
-    c.last_at.result c.last_at-2.result c.push_chain.new.items c.push_chain-2.new.items
-    c.in_ok-key.ensures c.last_at.ensures (c.last_at-2.ensures ∙ ap (last_at c.self.inside.by_fold) c.as_slice.ensures.value)
+    (candidates-chains c.self.inside.entries.items c.self.inside.by_word c.self.inside.by_fold c.self.invariant c.args.word.now (folded c.args.word.now)
+    c.last_at.result c.in_ok-last.last c.push_chain.new.items c.push_chain-2.new.items
+    refl c.last_at.ensures c.in_ok-last.ensures
     (rw (c.deref.ensures.value, c.new-items.ensures) at c.in_ok-push_chain.ensures)
     (rw c.deref-2.ensures.value at c.in_ok-push_chain-2.ensures))
 
