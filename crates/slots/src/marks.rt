@@ -1,5 +1,5 @@
 //! Numbers that are forgotten at once.
-ghost use Rattle.std.specs.Prelude.{◌≡◌, ◌⊎◌, ◌≤◌, ◌+◌, ◌/◌, ◌%◌, ℕ, length, IsFalse, IsTrue, OnOk, slice_get, Some};
+ghost use Rattle.std.specs.Prelude.{◌≡◌, ◌⊎◌, ◌<◌, ◌≤◌, ◌+◌, ◌/◌, ◌%◌, ℕ, length, IsFalse, IsTrue, OnOk, slice_get, Some};
 ghost use Rattle.std.specs.Int.{bit_at};
 ghost use Rattle.slots.specs.Entries.{IsMarked};
 
@@ -42,18 +42,32 @@ impl Marks {
     }
 
     /// Makes so many words.
+    #[inline(always)]
     fn fill(&mut self, many: usize) -> Result<(), Memory>
         ensures many { OnOk result (many ≤ length self.new.words.items) }
         ensures kept { (number : ℕ) → IsMarked self.new number → IsMarked self.old number }
         ensures before { (number : ℕ) → IsMarked self.old number → IsMarked self.new number }
     {
         if self.words.len() < many {
-            self.words.resize(many, 0)?;
+            self.grow(many)?;
         }
         Ok(())
     }
 
+    /// Makes so many words where there are fewer.
+    #[inline(never)]
+    fn grow(&mut self, many: usize) -> Result<(), Memory>
+        requires { length self.old.words.items < many }
+        ensures many { OnOk result (many ≤ length self.new.words.items) }
+        ensures kept { (number : ℕ) → IsMarked self.new number → IsMarked self.old number }
+        ensures before { (number : ℕ) → IsMarked self.old number → IsMarked self.new number }
+    {
+        self.words.resize(many, 0)?;
+        Ok(())
+    }
+
     /// Puts a number among them. For want of memory no other is there than before.
+    #[inline(always)]
     pub fn put(&mut self, number: usize) -> Result<(), Memory>
         ensures here { OnOk result (IsMarked self.new number) }
         ensures kept { (k : ℕ) → IsMarked self.new k → IsMarked self.old k ⊎ (k ≡ number) }
