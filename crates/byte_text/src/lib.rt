@@ -4,7 +4,7 @@
 //! costs what it writes.
 #![tactic(auto)]
 
-ghost use Rattle.std.specs.Prelude.{◌≡◌, ◌+◌, ◌++◌, decimal, encode_utf8, encode_utf8_all, length, OnOk};
+ghost use Rattle.std.specs.Prelude.{◌≡◌, ◌<◌, ◌+◌, ◌++◌, decimal, encode_utf8, encode_utf8_all, length, OnOk};
 
 use itoa::Buffer;
 use std::alloc::AllocError;
@@ -18,6 +18,30 @@ pub fn push_bytes(out: &mut Vec<u8>, bytes: &[u8]) -> Result<(), AllocError>
 
 /// Appends a number in decimal digits.
 pub fn push_number(out: &mut Vec<u8>, number: usize) -> Result<(), AllocError>
+    ensures { OnOk result (out.new.items ≡ out.old.items ++ decimal number) }
+{
+    if number < 100 {
+        push_short(out, number)
+    } else {
+        push_long(out, number)
+    }
+}
+
+/// Appends a number of one digit or two.
+fn push_short(out: &mut Vec<u8>, number: usize) -> Result<(), AllocError>
+    requires { number < 100 }
+    ensures { OnOk result (out.new.items ≡ out.old.items ++ decimal number) }
+{
+    let last = b'0' + (number % 10) as u8;
+    if number < 10 {
+        return out.extend_from_slice(&[last]);
+    }
+    out.extend_from_slice(&[b'0' + (number / 10) as u8, last])
+}
+
+/// Appends any number.
+#[inline(never)]
+fn push_long(out: &mut Vec<u8>, number: usize) -> Result<(), AllocError>
     ensures { OnOk result (out.new.items ≡ out.old.items ++ decimal number) }
 {
     out.extend_from_slice(Buffer::new().format(number).as_bytes())
