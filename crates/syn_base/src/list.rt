@@ -110,6 +110,11 @@ impl List<char> {
     pub fn from_chars(alloc: Global, text: &str) -> Result<List<char>, Memory>
         ensures { IfOk result (λ list. list ≡ chars text.now) }
     {
-        Ok(List::from_vec(text.chars().collect(alloc)?))
+        let mut characters = Vec::with_capacity(alloc, text.len())?;
+        characters.extend(text.chars())?;
+        if characters.len() < text.len() {
+            characters.shrink_to_fit();
+        }
+        Ok(List::from_vec(characters))
     }
 }
