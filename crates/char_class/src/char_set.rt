@@ -1,6 +1,7 @@
 //! A set of characters, as a bit set of its members below 256.
-ghost use Rattle.std.specs.Prelude.{◌≡◌, ◌==◌, ◌&&◌, ℕ, not, [], if◌then◌else◌};
+ghost use Rattle.std.specs.Prelude.{◌≡◌, ◌==◌, ◌&&◌, ◌||◌, ℕ, not, [], if◌then◌else◌};
 ghost use Rattle.std.specs.Str.{chars};
+ghost use Rattle.unicode.specs.Binary.{is_alphabetic};
 ghost use Rattle.char_class.specs.Bits.{has_code};
 ghost use Rattle.char_class.specs.CharSet.{is_member, is_numeric, set_has, set_where};
 ghost use Rattle.char_class.specs.OptionValue.{is_named, set_of, with_part};
@@ -44,13 +45,14 @@ impl CharSet {
     }
 
     /// Whether the set has `c`. Which characters it has from 256 on is this profile's.
+    #[inline(always)]
     #[tactic(auto, unfolding(crate::specs::CharSet::set_has))]
     pub fn has(&self, c: char) -> bool
         ensures { result ≡ set_has self.now c }
     {
         match u8::try_from(c) {
             Ok(code) => self.has_code(code),
-            Err(_) => is_alphabetic(c) || is_number(c),
+            Err(_) => is_other_member(c),
         }
     }
 
@@ -88,6 +90,14 @@ fn apply_to(codes: &mut Codes, part: Part, code: u8)
     if part.members.have(code) {
         codes.set(code, !part.taken_out);
     }
+}
+
+/// Whether a set has the character, which isn't below 256.
+#[inline(never)]
+fn is_other_member(c: char) -> bool
+    ensures { result ≡ (is_alphabetic c || is_numeric c) }
+{
+    is_alphabetic(c) || is_number(c)
 }
 
 fn is_number(c: char) -> bool

@@ -1,4 +1,4 @@
-use Rattle.std.proofs.Common.{◌<◌, sym, ◌∙◌, arith}
+use Rattle.std.proofs.Common.{◌<◌, arith}
 use Rattle.char_class.proofs.SetLaws.{is_member-members_in}
 use Rattle.char_class.proofs.char_set.CharSet.has_code.Goals as goal
 
