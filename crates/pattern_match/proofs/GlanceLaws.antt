@@ -16,9 +16,9 @@ use Rattle.match_rules.specs.Visits.{visits, noted, noted_external}
 use Rattle.match_rules.proofs.Kept.{visits-kept}
 use Rattle.match_rules.proofs.MarkLaws.{followed-append, followed-assoc}
 use Rattle.match_rules.proofs.TurnLaws.{turns-spent, turns-free, turns-forced, after_turn-took, after_turn-empty, after_turn-dropped}
-use Rattle.pattern_match.specs.declared.glance.Saw.{Saw}
-use Rattle.pattern_match.specs.declared.glance.Saw.TheVariants.{Reached, InVain, TooFar}
-use Rattle.pattern_match.specs.declared.glance.Sight.{Sight}
+use Rattle.pattern_match.specs.declared.sight.Saw.{Saw}
+use Rattle.pattern_match.specs.declared.sight.Saw.TheVariants.{Reached, InVain, TooFar}
+use Rattle.pattern_match.specs.declared.sight.Sight.{Sight}
 use Rattle.pattern_match.specs.declared.task.Turns.{Turns}
 use Rattle.pattern_match.specs.Steps.{shape_of}
 use Rattle.pattern_match.specs.Glance.{IsSeen, IsAtomSeen, AreTurnsLeft, turns_of, turns_behind, turn_of}

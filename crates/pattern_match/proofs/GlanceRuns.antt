@@ -9,9 +9,9 @@ use Rattle.match_rules.specs.Attempt.{answer_from}
 use Rattle.match_rules.specs.Counts.{one_less, less_by, is_spent}
 use Rattle.match_rules.specs.Marks.{Mark, Tick, Reach, followed}
 use Rattle.match_rules.specs.Visits.{visits}
-use Rattle.pattern_match.specs.declared.glance.Saw.{Saw}
-use Rattle.pattern_match.specs.declared.glance.Saw.TheVariants.{Reached, InVain}
-use Rattle.pattern_match.specs.declared.glance.Sight.{Sight}
+use Rattle.pattern_match.specs.declared.sight.Saw.{Saw}
+use Rattle.pattern_match.specs.declared.sight.Saw.TheVariants.{Reached, InVain}
+use Rattle.pattern_match.specs.declared.sight.Sight.{Sight}
 use Rattle.pattern_match.specs.declared.spent.Spent.{Spent}
 use Rattle.pattern_match.specs.declared.task.Turns.{Turns}
 use Rattle.pattern_match.specs.Glance.{AreTaken, GoesOn, IsAtomSeen, IsSeen, stops_of, turns_of, turns_behind, turn_of}

@@ -33,5 +33,6 @@ pub mod TakesLaws
 pub mod AlikeLaws
 pub mod Choosing
 mod VainLaws
+mod RestLaws
 mod GlanceLaws
 mod GlanceRuns

@@ -11,11 +11,11 @@ use Rattle.match_rules.specs.Counts.{after_turn, turns}
 use Rattle.match_rules.specs.Looks.{ending_at}
 use Rattle.match_rules.specs.Attempt.{answer_from}
 use Rattle.match_rules.specs.Visits.{visits, noted, noted_external}
-use Rattle.pattern_match.specs.declared.glance.Rest.{Rest}
-use Rattle.pattern_match.specs.declared.glance.Rest.TheVariants as rest
-use Rattle.pattern_match.specs.declared.glance.Saw.{Saw}
-use Rattle.pattern_match.specs.declared.glance.Saw.TheVariants.{Reached, InVain, TooFar}
-use Rattle.pattern_match.specs.declared.glance.Sight.{Sight}
+use Rattle.pattern_match.specs.declared.sight.Rest.{Rest}
+use Rattle.pattern_match.specs.declared.sight.Rest.TheVariants as rest
+use Rattle.pattern_match.specs.declared.sight.Saw.{Saw}
+use Rattle.pattern_match.specs.declared.sight.Saw.TheVariants.{Reached, InVain, TooFar}
+use Rattle.pattern_match.specs.declared.sight.Sight.{Sight}
 use Rattle.pattern_match.specs.declared.spent.Spent.{Spent}
 use Rattle.pattern_match.specs.declared.task.Turns.{Turns}
 use Rattle.pattern_match.specs.Spending.{spent_on}

@@ -1,12 +1,16 @@
 -- Parts that the character at a place tells to be tried in vain.
-use Rattle.std.specs.Prelude.{◌≡◌, ℕ, zero, suc, pos, List, [], ◌∷◌, ◌++◌}
+use Rattle.std.specs.Prelude.{◌≡◌, ℕ, zero, suc, pos, Bool, true, false, List, [], ◌∷◌, ◌++◌}
 use Rattle.syn_base.specs.declared.looked.Looked.{Looked}
 use Rattle.syn_base.specs.declared.places.Place.{Place}
 use Rattle.syn_base.specs.Looked.{one_line}
 use Rattle.match_rules.specs.Atoms.{own_line}
 use Rattle.match_rules.specs.Marks.{Mark, Tick, Reach, followed}
-use Rattle.match_rules.specs.Ways.{Way}
+use Rattle.match_rules.specs.Ways.{Context, IsPlaceOf, Text, Way}
+use Rattle.pattern_match.specs.Contexts.{context_in}
 use Rattle.pattern_match.specs.Spending.{spent_times}
+use Rattle.pattern_match.specs.Standing.{Stands}
+use Rattle.pattern_match.specs.declared.context.Context.{Context as ContextOf}
+use Rattle.pattern_match.specs.declared.standing.Standing.TheVariants.{Character}
 use Rattle.pattern_match.specs.declared.spent.Spent.{Spent}
 use Rattle.pattern_match.specs.declared.vain.Vain.{Vain}
 use Rattle.pattern_match.specs.declared.vain.Vain.TheVariants.{Refused, LeftOut, Unsure}
@@ -16,17 +20,41 @@ abbrev pub ticks : ℕ → Looked → List Mark
 ticks zero looked = []
 ticks (suc count) looked = Tick looked ∷ ticks count looked
 
--- what a way tries and reaches is so many atoms that look at its own line, and no way, or one that stays
+-- what a way tries and reaches is so many atoms that look at its own line, and no way, or one at its place
 abbrev pub IsVain : List Mark → Way → Vain → Type 0
 IsVain marks w (Refused count) = marks ≡ ticks count (own_line w)
-IsVain marks w (LeftOut count) = marks ≡ ticks count (own_line w) ++ Reach w ∷ []
+IsVain marks w (LeftOut count) =
+    (v : Way) × ((v.at ≡ w.at) × (marks ≡ ticks count (own_line w) ++ Reach v ∷ []))
 IsVain marks w Unsure = Unit {0}
+
+-- so much a character at a column tells of a part, wherever its line stands
+abbrev pub IsVainBy : ContextOf → (Context → Way → List Mark) → ℕ → ℕ → Vain → Type 0
+IsVainBy context part c col vain =
+    (text : Text) (w : Way) (behind : Place) → IsPlaceOf text w.at → w.at.col ≡ col →
+    Stands text w.at (Character c behind) → IsVain (part (context_in text context) w) w vain
 
 -- what is told of a part and of one behind it tells of both
 abbrev pub IsThen : Vain → Vain → Vain → Type 0
 IsThen first next both =
-    (w : Way) (marks : List Mark) (f : Way → List Mark) →
-    IsVain marks w first → IsVain (f w) w next → IsVain (followed marks f) w both
+    (w : Way) (marks : List Mark) (f : Way → List Mark) → IsVain marks w first →
+    ((v : Way) → v.at ≡ w.at → IsVain (f v) v next) → IsVain (followed marks f) w both
+
+-- of one part or another
+abbrev pub IsEither : Vain → Vain → Vain → Type 0
+IsEither first second either =
+    (w : Way) (marks more : List Mark) → IsVain marks w first → IsVain more w second →
+    IsVain (marks ++ more) w either
+
+-- of an atom that takes a character of the line, and what is told behind it
+abbrev pub IsBehindOne : Vain → Vain → Type 0
+IsBehindOne next both =
+    (w v : Way) (marks : List Mark) → v.at.line ≡ w.at.line → IsVain marks v next →
+    IsVain (Tick (own_line w) ∷ marks) w both
+
+-- whether there is no way
+abbrev pub is_refused : Vain → Bool
+is_refused (Refused count) = true
+is_refused _ = false
 
 -- of a part that need not be there
 abbrev pub left_out : Vain → Vain

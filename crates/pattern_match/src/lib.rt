@@ -9,6 +9,7 @@
 mod answer;
 mod atoms;
 mod behind;
+mod beyond;
 mod bounds;
 mod cases;
 mod collection;
@@ -25,6 +26,7 @@ mod ready;
 mod runs;
 mod screens;
 mod search;
+mod sight;
 mod spent;
 mod standing;
 mod step;

@@ -4,17 +4,18 @@ ghost use Rattle.std.specs.Prelude.{◌≡◌, ◌≤◌, IsFalse, IsTrue, List,
 ghost use Rattle.match_rules.specs.Counts.{is_spent};
 ghost use Rattle.match_rules.specs.Marks.{Mark, followed};
 ghost use Rattle.match_rules.specs.Visits.{tried, visits};
-ghost use Rattle.match_rules.specs.Ways.{IsPlaceOf, Way};
+ghost use Rattle.match_rules.specs.Ways.{Context as AnyContext, IsPlaceOf, Way};
 ghost use Rattle.pattern_match.specs.Contexts.{context_in};
 ghost use Rattle.pattern_match.specs.Steps.{atom_of, shape_of};
 ghost use Rattle.pattern_match.specs.declared.vain.Vain.{Vain as AnyVain};
-ghost use Rattle.pattern_match.specs.Vain.{IsRefused, IsThen, IsVain, left_out};
+ghost use Rattle.pattern_match.specs.Vain.{IsBehindOne, IsEither, IsRefused, IsThen, IsVain, IsVainBy, is_refused, left_out};
 
 use crate::atoms::numbered;
 use crate::context::Context;
 use crate::spent::Spent;
+use crate::standing::{Standing, standing_at};
 use crate::step::{Step, Test};
-use crate::told::{Told, tell};
+use crate::told::{Fit, fit_of};
 use pattern_screens::is_spent;
 use syn_base::{Lines, Looked, Place};
 
@@ -31,7 +32,7 @@ pub(crate) enum Vain {
 
 impl Vain {
     /// What is told of a part and one behind it.
-    fn then(self, next: Vain) -> Vain
+    pub(crate) fn then(self, next: Vain) -> Vain
         ensures { IsThen self next result }
     {
         match (self, next) {
@@ -49,12 +50,48 @@ impl Vain {
     }
 
     /// Whether nothing is decided yet, so that what stands behind is asked.
-    fn is_left_out(&self) -> bool
+    pub(crate) fn is_left_out(&self) -> bool
         ensures { IsFalse result → (next : AnyVain) → IsThen self.now next self.now }
     {
         match self {
             Vain::LeftOut(_) => true,
             _ => false,
+        }
+    }
+
+    /// Whether there is no way.
+    pub(crate) fn is_refused(&self) -> bool
+        ensures { result ≡ is_refused self.now }
+    {
+        match self {
+            Vain::Refused(_) => true,
+            _ => false,
+        }
+    }
+
+    /// What is told of one part or another.
+    pub(crate) fn or(self, second: Vain) -> Vain
+        ensures { IsEither self second result }
+    {
+        match (self, second) {
+            (Vain::Refused(ticks), Vain::Refused(more)) => match ticks.checked_add(more) {
+                Some(all) => Vain::Refused(all),
+                None => Vain::Unsure,
+            },
+            _ => Vain::Unsure,
+        }
+    }
+
+    /// What is told behind an atom that takes a character of the line, of both.
+    pub(crate) fn one_more(self) -> Vain
+        ensures { IsBehindOne self result }
+    {
+        match self {
+            Vain::Refused(ticks) => match ticks.checked_add(1) {
+                Some(all) => Vain::Refused(all),
+                None => Vain::Unsure,
+            },
+            _ => Vain::Unsure,
         }
     }
 
@@ -69,14 +106,13 @@ impl Vain {
     }
 }
 
-/// What the character at a place tells of an atom.
-fn vain_atom<T: Lines>(lines: &T, context: &Context<'_>, test: &Test, at: Place) -> Vain
-    requires { IsPlaceOf (T.lines lines.now) at }
-    ensures { (w : Way) → w.at ≡ at → IsVain (tried (context_in (T.lines lines.now) context.now) w
-        (atom_of test.now)) w result }
+/// What a character at a column tells of an atom.
+fn vain_atom(context: &Context<'_>, test: &Test, c: char, col: usize) -> Vain
+    ensures { IsVainBy context.now (λ x w. tried x w (atom_of test.now)) c col result }
 {
-    match tell(lines, context, test, at) {
-        Told::Nowhere => Vain::Refused(1),
+    match fit_of(test, c, col, context) {
+        Fit::Refuses => Vain::Refused(1),
+        Fit::Stays => Vain::LeftOut(1),
         _ => Vain::Unsure,
     }
 }
@@ -88,27 +124,33 @@ fn is_free(least: u32, most: Option<u32>, lazy: bool) -> bool
     least == 0 && !lazy && !is_spent(most)
 }
 
-/// What the character at a place tells of a node.
+/// What a character at a column tells of a node.
 #[cycle(vain)]
-pub(crate) fn vain_at<T: Lines>(lines: &T, context: &Context<'_>, step: &Step, at: Place) -> Vain
-    requires { IsPlaceOf (T.lines lines.now) at }
-    ensures { (w : Way) → w.at ≡ at → IsVain (visits (context_in (T.lines lines.now) context.now)
-        (shape_of step.now) w) w result }
+pub(crate) fn vain_by(context: &Context<'_>, step: &Step, c: char, col: usize) -> Vain
+    ensures { IsVainBy context.now (λ x. visits x (shape_of step.now)) c col result }
 {
     match step {
-        Step::One(test) => vain_atom(lines, context, test, at),
+        Step::One(test) => vain_atom(context, test, c, col),
         Step::Seq(first, second) => {
-            let known = vain_at(lines, context, first, at);
-            vain_pieces(lines, context, known, second, at)
+            let known = vain_by(context, first, c, col);
+            vain_pieces(context, known, second, c, col)
         }
-        Step::Optional(part) => vain_at(lines, context, part, at).left_out(),
+        Step::Or(first, second) => {
+            let known = vain_by(context, first, c, col);
+            if known.is_refused() {
+                known.or(vain_by(context, second, c, col))
+            } else {
+                Vain::Unsure
+            }
+        }
+        Step::Optional(part) => vain_by(context, part, c, col).left_out(),
         Step::Repeat {
             part,
             least,
             most,
             lazy,
         } => if is_free(*least, *most, *lazy) {
-            vain_at(lines, context, part, at).left_out()
+            vain_by(context, part, c, col).left_out()
         } else {
             Vain::Unsure
         },
@@ -118,17 +160,10 @@ pub(crate) fn vain_at<T: Lines>(lines: &T, context: &Context<'_>, step: &Step, a
 
 /// The same of a part, of which this is known, and a node behind it, piece by piece.
 #[cycle(vain)]
-fn vain_pieces<T: Lines>(
-    lines: &T,
-    context: &Context<'_>,
-    first: Vain,
-    node: &Step,
-    at: Place,
-) -> Vain
-    requires { IsPlaceOf (T.lines lines.now) at }
-    ensures { (w : Way) → w.at ≡ at → (marks : List Mark) → IsVain marks w first → IsVain
-        (followed marks (visits (context_in (T.lines lines.now) context.now) (shape_of node.now)))
-        w result }
+fn vain_pieces(context: &Context<'_>, first: Vain, node: &Step, c: char, col: usize) -> Vain
+    ensures { (part : AnyContext → Way → List Mark) → IsVainBy context.now part c col first →
+        IsVainBy context.now (λ x w. followed (part x w) (visits x (shape_of node.now))) c col
+        result }
 {
     let mut known = first;
     let mut rest = node;
@@ -136,13 +171,26 @@ fn vain_pieces<T: Lines>(
         if !known.is_left_out() {
             return known;
         }
-        known = known.then(vain_at(lines, context, a, at));
+        known = known.then(vain_by(context, a, c, col));
         rest = b;
     }
     if !known.is_left_out() {
         return known;
     }
-    known.then(vain_at(lines, context, rest, at))
+    known.then(vain_by(context, rest, c, col))
+}
+
+/// What the character at a place tells of a node.
+#[inline(always)]
+pub(crate) fn vain_at<T: Lines>(lines: &T, context: &Context<'_>, step: &Step, at: Place) -> Vain
+    requires { IsPlaceOf (T.lines lines.now) at }
+    ensures { (w : Way) → w.at ≡ at → IsVain (visits (context_in (T.lines lines.now) context.now)
+        (shape_of step.now) w) w result }
+{
+    match standing_at(lines, at) {
+        Standing::Character(c, _) => vain_by(context, step, c, at.col),
+        _ => Vain::Unsure,
+    }
 }
 
 /// Whether the character at a place tells that a node has no way from there. Then its ticks are spent.

@@ -12,9 +12,9 @@ use Rattle.match_rules.proofs.MarkLaws.{followed-reach}
 use Rattle.pattern_match.specs.Contexts.{context_in}
 use Rattle.pattern_match.specs.Steps.{shape_of, atom_of}
 use Rattle.pattern_match.specs.Glance.{GoesOn, IsSeen, marks_behind, turns_behind, turn_of}
-use Rattle.pattern_match.specs.declared.glance.Sight.{Sight}
+use Rattle.pattern_match.specs.declared.sight.Sight.{Sight}
 use Rattle.pattern_match.specs.declared.task.Turns.{Turns}
-use Rattle.pattern_match.specs.declared.glance.Saw.TheVariants.{Reached, InVain}
+use Rattle.pattern_match.specs.declared.sight.Saw.TheVariants.{Reached, InVain}
 use Rattle.pattern_match.proofs.GlanceLaws.{atom_then, atom_stops, vain_then, first_stops, seen_as, seen_behind, either_is, optional_is, both_is, group_is, external_is, spent_is, forced_is, lazy_is, greedy_is, turn_is, ahead_is}
 use Rattle.match_rules.specs.Atoms.{own_line}
 use Rattle.match_rules.specs.Counts.{is_spent}
@@ -22,7 +22,7 @@ use Rattle.pattern_match.specs.Spending.{spent_times}
 use Rattle.pattern_match.specs.Ways.{columns_on}
 use Rattle.pattern_match.specs.Glance.{stops_of, turns_of}
 use Rattle.pattern_match.proofs.GlanceRuns.{greedy_seen, turns_less, way_on, lazy_stops, lazy_ends, lazy_misses, lazy_stays, lazy_goes, none_then, went_back, went_on, went_to}
-use Rattle.pattern_match.proofs.VainLaws.{left-out-seen}
+use Rattle.pattern_match.proofs.VainLaws.{left-out-seen, refused-seen}
 use Rattle.pattern_match.proofs.glance.+look.Goals as goal
 
 pub look_at-returns-in-Empty-clause-seen : goal.look_at-returns-in-Empty-clause-seen
@@ -149,10 +149,10 @@ look_at_first-returns-then-try_in_vain-clause-seen g t c =
     λ w e.
     seen_as _ _ old c.look_at.new.sight c.look_at.result
     (both_is x (shape_of c.args.first.now) (shape_of c.args.second.now) w f)
-    (left-out-seen (visits x (shape_of c.args.first.now)) (λ v. followed (visits x (shape_of c.args.second.now) v) f) w n old mid c.look_at.new.sight c.look_at.result
+    (left-out-seen (visits x (shape_of c.args.first.now) w) (λ v. followed (visits x (shape_of c.args.second.now) v) f) w n old mid c.look_at.new.sight c.look_at.result
     (rw c.in-LeftOut.is at c.vain_at.ensures w e)
     (tried ∙ ap (λ (p : Place). record old { spent = spent_times old.spent n (one_line (pos p.line)) }) (sym e))
-    (c.look_at.ensures.seen w (e ∙ sym (ap (λ (s : Sight). s.at) tried))))
+    (λ v h. c.look_at.ensures.seen v (h ∙ e ∙ sym (ap (λ (s : Sight). s.at) tried))))
 
 pub look_at_branch-returns-in-One-clause-seen : goal.look_at_branch-returns-in-One-clause-seen
 look_at_branch-returns-in-One-clause-seen g t c = λ w e. rw c.in-One.is (c.look_at_one.ensures.seen w e)
@@ -212,6 +212,16 @@ pub go_on-returns-in-AfterTurn-clause-seen : goal.go_on-returns-in-AfterTurn-cla
 go_on-returns-in-AfterTurn-clause-seen g t c =
     let x : AnyContext = context_in (g.T.Lines.lines c.args.lines.now) c.args.context.now in
     λ w e. rw c.in-AfterTurn.is (c.look_after_turn.ensures.seen w e)
+
+pub go_on_beyond-returns-then-try_in_vain-clause-seen : goal.go_on_beyond-returns-then-try_in_vain-clause-seen
+go_on_beyond-returns-then-try_in_vain-clause-seen g t c =
+    let x : AnyContext = context_in (g.T.Lines.lines c.args.lines.now) c.args.context.now in
+    let old : Sight = c.args.sight.now in
+    let mid : Sight = c.try_in_vain.new.sight in
+    let n = c.in-Refused.ticks in
+    let tried : mid ≡ record old { spent = spent_times old.spent n (one_line (pos old.at.line)) } = c.try_in_vain.ensures.tried c.if-try_in_vain.true in
+    λ w e. refused-seen (marks_behind x c.args.rest.now w) w n old mid (rw c.in-Refused.is at c.vain_beyond.ensures w e)
+    (tried ∙ ap (λ (p : Place). record old { spent = spent_times old.spent n (one_line (pos p.line)) }) (sym e))
 
 pub look_after_turn-returns-in-Some-clause-seen : goal.look_after_turn-returns-in-Some-clause-seen
 look_after_turn-returns-in-Some-clause-seen g t c =
@@ -334,7 +344,7 @@ look_at_stops-stops-preserved g t c =
     let old : Sight = c.args.sight.now in
     let cur : Sight = c.stops.sight in
     let here : Sight = record cur { at = c.columns_on-sight.result } in
-    let new : Sight = c.go_on.new.sight in
+    let new : Sight = c.go_on_beyond.new.sight in
     let n = c.stops.left - 1 in
     let one_more : c.stops.left ≡ suc n = omega arith in
     let within = c.stops.invariant.within in
@@ -343,11 +353,11 @@ look_at_stops-stops-preserved g t c =
     let goes : GoesOn text old here = went_to text old cur here.at c.stops.invariant.goes on_text in
     record {
       within = omega arith;
-      goes = went_on text old here new goes c.go_on.ensures.goes;
+      goes = went_on text old here new goes c.go_on_beyond.ensures.goes;
       seen = λ w e. c.stops.invariant.seen w e
           ∙ ap (λ m. answer_from cur.spent.cost cur.spent.looked (stops_of f w m)) one_more
           ∙ none_then (f (way_on w n)) (stops_of f w n) here new
-          (rw c.in-InVain.is at c.go_on.ensures.seen (way_on w n) (ap (λ p. columns_on p n) e ∙ sym c.columns_on-sight.ensures));
+          (rw c.in-InVain.is at c.go_on_beyond.ensures.seen (way_on w n) (ap (λ p. columns_on p n) e ∙ sym c.columns_on-sight.ensures));
     }
 
 pub look_at_stops-returns-in_default : goal.look_at_stops-returns-in_default
@@ -358,7 +368,7 @@ look_at_stops-returns-in_default g t c =
     let old : Sight = c.args.sight.now in
     let cur : Sight = c.stops.sight in
     let here : Sight = record cur { at = c.columns_on-sight.result } in
-    let new : Sight = c.go_on.new.sight in
+    let new : Sight = c.go_on_beyond.new.sight in
     let n = c.stops.left - 1 in
     let one_more : c.stops.left ≡ suc n = omega arith in
     let within = c.stops.invariant.within in
@@ -366,11 +376,11 @@ look_at_stops-returns-in_default g t c =
     let on_text : IsPlaceOf text here.at = rw c.columns_on-sight.ensures (record { line = c.requires.from.line; col = omega arith }) in
     let goes : GoesOn text old here = went_to text old cur here.at c.stops.invariant.goes on_text in
     record {
-      seen = λ w e. seen_behind (stops_of f w c.args.count) (f (way_on w n) ++ stops_of f w n) old cur here new c.go_on.result refl
+      seen = λ w e. seen_behind (stops_of f w c.args.count) (f (way_on w n) ++ stops_of f w n) old cur here new c.go_on_beyond.result refl
           (c.stops.invariant.seen w e ∙ ap (λ m. answer_from cur.spent.cost cur.spent.looked (stops_of f w m)) one_more)
-          (first_stops (f (way_on w n)) (stops_of f w n) here new c.go_on.result c.in_default.not-InVain
-          (c.go_on.ensures.seen (way_on w n) (ap (λ p. columns_on p n) e ∙ sym c.columns_on-sight.ensures)));
-      goes = went_on text old here new goes c.go_on.ensures.goes;
+          (first_stops (f (way_on w n)) (stops_of f w n) here new c.go_on_beyond.result c.in_default.not-InVain
+          (c.go_on_beyond.ensures.seen (way_on w n) (ap (λ p. columns_on p n) e ∙ sym c.columns_on-sight.ensures)));
+      goes = went_on text old here new goes c.go_on_beyond.ensures.goes;
     }
 
 pub look_at_stops-returns-clause-seen : goal.look_at_stops-returns-clause-seen
@@ -391,12 +401,12 @@ look_at_lazy_atoms-returns-in_default g t c =
     let u : Turns = record t { most = c.loop.most } in
     let old : Sight = c.args.sight.now in
     let cur : Sight = c.loop.sight in
-    let new : Sight = c.go_on.new.sight in
+    let new : Sight = c.go_on_beyond.new.sight in
     let goes = c.loop.invariant.goes in
     record {
-      seen = lazy_stops x f t u old cur c.loop.invariant.comes goes.stands.on_text c.requires.free c.requires.lazy new c.go_on.result
-          c.in_default.not-InVain c.go_on.ensures.seen;
-      goes = went_on text old cur new goes c.go_on.ensures.goes;
+      seen = lazy_stops x f t u old cur c.loop.invariant.comes goes.stands.on_text c.requires.free c.requires.lazy new c.go_on_beyond.result
+          c.in_default.not-InVain c.go_on_beyond.ensures.seen;
+      goes = went_on text old cur new goes c.go_on_beyond.ensures.goes;
     }
 
 pub look_at_lazy_atoms-returns-then-is_spent-clause-seen : goal.look_at_lazy_atoms-returns-then-is_spent-clause-seen
@@ -408,9 +418,9 @@ look_at_lazy_atoms-returns-then-is_spent-clause-seen g t c =
     let u : Turns = record t { most = c.loop.most } in
     let old : Sight = c.args.sight.now in
     let cur : Sight = c.loop.sight in
-    let new : Sight = c.go_on.new.sight in
+    let new : Sight = c.go_on_beyond.new.sight in
     let goes = c.loop.invariant.goes in
-    let vain : (v : Way) → v.at ≡ cur.at → IsSeen (f v) cur new InVain = λ v e. rw c.in-InVain.is at c.go_on.ensures.seen v e in
+    let vain : (v : Way) → v.at ≡ cur.at → IsSeen (f v) cur new InVain = λ v e. rw c.in-InVain.is at c.go_on_beyond.ensures.seen v e in
     let spent : is_spent c.loop.most ≡ true = sym c.is_spent.ensures ∙ c.if-is_spent.true in
     lazy_ends x f t u old cur c.loop.invariant.comes goes.stands.on_text c.requires.free c.requires.lazy new vain spent
 
@@ -423,9 +433,9 @@ look_at_lazy_atoms-returns-in_default-look_at_atom g t c =
     let u : Turns = record t { most = c.loop.most } in
     let old : Sight = c.args.sight.now in
     let cur : Sight = c.loop.sight in
-    let new : Sight = c.go_on.new.sight in
+    let new : Sight = c.go_on_beyond.new.sight in
     let goes = c.loop.invariant.goes in
-    let vain : (v : Way) → v.at ≡ cur.at → IsSeen (f v) cur new InVain = λ v e. rw c.in-InVain.is at c.go_on.ensures.seen v e in
+    let vain : (v : Way) → v.at ≡ cur.at → IsSeen (f v) cur new InVain = λ v e. rw c.in-InVain.is at c.go_on_beyond.ensures.seen v e in
     let a : Atom = atom_of c.args.test.now in
     let from : Sight = record new { at = cur.at } in
     let mid : Sight = c.look_at_atom.new.sight in
@@ -433,7 +443,7 @@ look_at_lazy_atoms-returns-in_default-look_at_atom g t c =
     record {
       seen = lazy_misses x f t u old cur c.loop.invariant.comes goes.stands.on_text c.requires.free c.requires.lazy new vain a c.requires.atom unspent from refl refl mid c.look_at_atom.result
           c.in_default-look_at_atom.not-Reached c.look_at_atom.ensures.seen;
-      goes = went_on text old from mid (went_back text old cur new goes c.go_on.ensures.goes) c.look_at_atom.ensures.goes;
+      goes = went_on text old from mid (went_back text old cur new goes c.go_on_beyond.ensures.goes) c.look_at_atom.ensures.goes;
     }
 
 pub look_at_lazy_atoms-returns-then-not-is_after-clause-seen : goal.look_at_lazy_atoms-returns-then-not-is_after-clause-seen
@@ -445,9 +455,9 @@ look_at_lazy_atoms-returns-then-not-is_after-clause-seen g t c =
     let u : Turns = record t { most = c.loop.most } in
     let old : Sight = c.args.sight.now in
     let cur : Sight = c.loop.sight in
-    let new : Sight = c.go_on.new.sight in
+    let new : Sight = c.go_on_beyond.new.sight in
     let goes = c.loop.invariant.goes in
-    let vain : (v : Way) → v.at ≡ cur.at → IsSeen (f v) cur new InVain = λ v e. rw c.in-InVain.is at c.go_on.ensures.seen v e in
+    let vain : (v : Way) → v.at ≡ cur.at → IsSeen (f v) cur new InVain = λ v e. rw c.in-InVain.is at c.go_on_beyond.ensures.seen v e in
     let a : Atom = atom_of c.args.test.now in
     let from : Sight = record new { at = cur.at } in
     let mid : Sight = c.look_at_atom.new.sight in
@@ -465,16 +475,16 @@ look_at_lazy_atoms-loop-preserved g t c =
     let u : Turns = record t { most = c.loop.most } in
     let old : Sight = c.args.sight.now in
     let cur : Sight = c.loop.sight in
-    let new : Sight = c.go_on.new.sight in
+    let new : Sight = c.go_on_beyond.new.sight in
     let goes = c.loop.invariant.goes in
-    let vain : (v : Way) → v.at ≡ cur.at → IsSeen (f v) cur new InVain = λ v e. rw c.in-InVain.is at c.go_on.ensures.seen v e in
+    let vain : (v : Way) → v.at ≡ cur.at → IsSeen (f v) cur new InVain = λ v e. rw c.in-InVain.is at c.go_on_beyond.ensures.seen v e in
     let a : Atom = atom_of c.args.test.now in
     let from : Sight = record new { at = cur.at } in
     let mid : Sight = c.look_at_atom.new.sight in
     let unspent : is_spent c.loop.most ≡ false = sym c.is_spent.ensures ∙ c.if-is_spent.false in
     let moves : is_after mid.at cur.at ≡ true = sym c.is_after.ensures ∙ c.if-not-is_after.false in
     record {
-      goes = went_on text old from mid (went_back text old cur new goes c.go_on.ensures.goes) c.look_at_atom.ensures.goes;
+      goes = went_on text old from mid (went_back text old cur new goes c.go_on_beyond.ensures.goes) c.look_at_atom.ensures.goes;
       comes = rw c.one_less-most.ensures (lazy_goes x f t u old cur c.loop.invariant.comes goes.stands.on_text c.requires.free c.requires.lazy new vain a c.requires.atom unspent from refl refl mid
           (λ v e. rw c.in-Reached.is at c.look_at_atom.ensures.seen v e) moves);
     }

@@ -13,6 +13,9 @@ decreases-look_at g l = 8 * l.sight.now.left
 abbrev pub decreases-go_on : goal.decreases-go_on
 decreases-go_on g l = 8 * l.sight.now.left
 
+abbrev pub decreases-go_on_beyond : goal.decreases-go_on_beyond
+decreases-go_on_beyond g l = 8 * l.sight.now.left + 1
+
 abbrev pub decreases-look_after_turn : goal.decreases-look_after_turn
 decreases-look_after_turn g l = 8 * l.sight.now.left
 

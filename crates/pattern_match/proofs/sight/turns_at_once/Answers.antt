@@ -1,6 +1,6 @@
 use Rattle.std.proofs.Common.{arith}
 use Rattle.pattern_match.proofs.RunLaws.{none-allowed}
-use Rattle.pattern_match.proofs.glance.turns_at_once.Goals as goal
+use Rattle.pattern_match.proofs.sight.turns_at_once.Goals as goal
 
 pub returns-in_default : goal.returns-in_default
 returns-in_default g c =

@@ -6,7 +6,7 @@ use Rattle.match_rules.specs.Marks.{Tick}
 use Rattle.pattern_match.specs.Spending.{spent_on}
 use Rattle.pattern_match.specs.Steps.{atom_of}
 use Rattle.pattern_match.proofs.ToldLaws.{fit-tells}
-use Rattle.pattern_match.proofs.glance.look_at_atom.Goals as goal
+use Rattle.pattern_match.proofs.sight.look_at_atom.Goals as goal
 
 pub returns-in-Takes : goal.returns-in-Takes
 returns-in-Takes g c =

@@ -7,7 +7,7 @@ use Rattle.pattern_match.specs.Contexts.{context_in}
 use Rattle.pattern_match.specs.Glance.{asks_for_group}
 use Rattle.pattern_match.specs.Spending.{spent_on}
 use Rattle.pattern_match.specs.Steps.{atom_of}
-use Rattle.pattern_match.proofs.glance.look_at_any_atom.Goals as goal
+use Rattle.pattern_match.proofs.sight.look_at_any_atom.Goals as goal
 
 pub returns-in-None-clause-seen : goal.returns-in-None-clause-seen
 returns-in-None-clause-seen g c =
