@@ -11,8 +11,12 @@ use Rattle.pattern_match.specs.declared.context.Context.{Context as ContextOf}
 use Rattle.pattern_match.specs.declared.standing.Standing.TheVariants.{Character}
 use Rattle.pattern_match.specs.declared.told.Fit.{Fit}
 use Rattle.pattern_match.specs.declared.told.Fit.TheVariants.{Takes, Stays, Refuses, Unsure}
-use Rattle.pattern_match.specs.declared.told.Told.{Told}
-use Rattle.pattern_match.specs.declared.told.Told.TheVariants.{To, Nowhere, Nothing}
+
+-- that an atom which looks at its own line alone leads to a place, that it doesn't fit, or nothing
+pub data Told : Type 0 where
+  To : (place : Place) → Told
+  Nowhere : Told
+  Nothing : Told
 
 abbrev pub IsTold : Context → Way → Atom → Told → Type 0
 IsTold x w a (To p) = (fits x w a ≡ Some p) × (lines_looked x w a ≡ own_line w) × IsPlaceOf x.text p

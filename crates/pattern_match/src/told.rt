@@ -1,28 +1,13 @@
-//! What the character at a place tells of an atom, without its being tried.
+//! What a character tells of an atom, without its being tried.
 ghost use Rattle.std.specs.Prelude.{◌≡◌};
-ghost use Rattle.match_rules.specs.Ways.{IsPlaceOf, Way};
 ghost use Rattle.match_rules.specs.Atoms.{turned_round};
-ghost use Rattle.pattern_match.specs.Contexts.{context_in};
 ghost use Rattle.pattern_match.specs.Steps.{atom_of};
-ghost use Rattle.pattern_match.specs.Told.{IsFit, IsTold, stays_if, takes_if, told_by};
+ghost use Rattle.pattern_match.specs.Told.{IsFit, stays_if, takes_if};
 
 use crate::cases::is_one;
 use crate::context::Context;
-use crate::standing::{Standing, standing_at};
 use crate::step::Test;
 use char_class::class_has;
-use syn_base::{Lines, Place};
-
-/// What is told of an atom that looks at its own line alone.
-#[derive(Clone, Copy)]
-pub(crate) enum Told {
-    /// It leads to this place.
-    To(Place),
-    /// It doesn't fit.
-    Nowhere,
-    /// Nothing: the atom looks at more, or no character stands here.
-    Nothing,
-}
 
 /// Whether a class holds, or its opposite.
 #[inline(always)]
@@ -59,18 +44,6 @@ impl Fit {
     {
         if fits { Fit::Stays } else { Fit::Refuses }
     }
-
-    /// Where the atom leads from here, or behind the character.
-    fn told(self, here: Place, behind: Place) -> Told
-        ensures { result ≡ told_by self here behind }
-    {
-        match self {
-            Fit::Takes => Told::To(behind),
-            Fit::Stays => Told::To(here),
-            Fit::Refuses => Told::Nowhere,
-            Fit::Unsure => Told::Nothing,
-        }
-    }
 }
 
 /// What the character at a column tells of an atom.
@@ -92,18 +65,5 @@ pub(crate) fn fit_of(test: &Test, c: char, col: usize, context: &Context<'_>) ->
         Test::MatchStart => Fit::Stays,
         Test::MatchStop => Fit::Stays,
         _ => Fit::Unsure,
-    }
-}
-
-/// What the character at a place tells of an atom.
-#[inline(always)]
-pub(crate) fn tell<T: Lines>(lines: &T, context: &Context<'_>, test: &Test, at: Place) -> Told
-    requires { IsPlaceOf (T.lines lines.now) at }
-    ensures { (w : Way) → w.at ≡ at →
-        IsTold (context_in (T.lines lines.now) context.now) w (atom_of test.now) result }
-{
-    match standing_at(lines, at) {
-        Standing::Character(c, behind) => fit_of(test, c, at.col, context).told(at, behind),
-        _ => Told::Nothing,
     }
 }
