@@ -6,4 +6,4 @@ pub mod Kinds
 pub mod Frames
 pub mod KindLists
 pub mod Settled
-pub mod Marks
+pub mod SameFrames

@@ -3,7 +3,7 @@ ghost use Rattle.std.specs.Prelude.{◌≡◌, ◌↔◌, IfOk, IsTrue};
 ghost use Rattle.paint_rules.specs.States.{nearer, nearer_frame};
 ghost use Rattle.std.specs.Option.{option_map};
 ghost use Rattle.state_stack.specs.Settled.{is_past, is_past_end, is_settled};
-ghost use Rattle.state_stack.specs.Marks.{marks_of};
+ghost use Rattle.state_stack.specs.SameFrames.{SameEnds, SameHead};
 
 use paint_rules::{Part, Spot};
 use std::marker::Model;
@@ -33,21 +33,6 @@ pub struct Frame {
     pub search: Spot,
     /// The texts of the external groups of its start (`:syn-ext-match`).
     pub externals: Rc<Externals>,
-}
-
-/// A frame without its externals.
-#[derive(Clone, Copy, PartialEq, Eq)]
-struct Marks {
-    item: ItemId,
-    part: Part,
-    shows: GroupId,
-    known_end: Option<Spot>,
-    high_from: Spot,
-    high_to: Option<Spot>,
-    area_end: Option<Spot>,
-    area_high: Option<Spot>,
-    area_shows: Option<GroupId>,
-    search: Spot,
 }
 
 impl Model for Frame {
@@ -95,24 +80,29 @@ impl Frame {
     pub fn same(&self, other: &Frame) -> bool
         ensures { IsTrue result ↔ (self.now ≡ other.now) }
     {
-        same_marks(self.marks(), other.marks()) && self.externals.same(&other.externals)
+        self.same_head(other) && self.same_ends(other) && self.externals.same(&other.externals)
     }
 
-    fn marks(&self) -> Marks
-        ensures { result ≡ marks_of self.now }
+    #[inline(always)]
+    fn same_head(&self, other: &Frame) -> bool
+        ensures { IsTrue result ↔ SameHead self.now other.now }
     {
-        Marks {
-            item: self.item,
-            part: self.part,
-            shows: self.shows,
-            known_end: self.known_end,
-            high_from: self.high_from,
-            high_to: self.high_to,
-            area_end: self.area_end,
-            area_high: self.area_high,
-            area_shows: self.area_shows,
-            search: self.search,
-        }
+        self.item == other.item
+            && self.part == other.part
+            && self.shows == other.shows
+            && self.high_from == other.high_from
+            && self.search == other.search
+    }
+
+    #[inline(always)]
+    fn same_ends(&self, other: &Frame) -> bool
+        ensures { IsTrue result ↔ SameEnds self.now other.now }
+    {
+        self.known_end == other.known_end
+            && self.high_to == other.high_to
+            && self.area_end == other.area_end
+            && self.area_high == other.area_high
+            && self.area_shows == other.area_shows
     }
 
     /// Whether each of its spots is past, so that it is the same before the next line.
@@ -140,40 +130,6 @@ impl Frame {
         frame.search = nearer(self.search);
         Ok(frame)
     }
-}
-
-fn same_marks(a: Marks, b: Marks) -> bool
-    ensures { IsTrue result ↔ (a ≡ b) }
-{
-    if !same_head(a, b) || !same_end(a.known_end, b.known_end) {
-        return false;
-    }
-    if !same_end(a.high_to, b.high_to) || !same_end(a.area_end, b.area_end) {
-        return false;
-    }
-    same_end(a.area_high, b.area_high) && same_group(a.area_shows, b.area_shows)
-}
-
-fn same_head(a: Marks, b: Marks) -> bool
-    ensures { IsTrue result ↔ ((a.item ≡ b.item) × (a.part ≡ b.part) × (a.shows ≡ b.shows)
-        × (a.high_from ≡ b.high_from) × (a.search ≡ b.search)) }
-{
-    if a.item != b.item || a.part != b.part || a.shows != b.shows {
-        return false;
-    }
-    a.high_from == b.high_from && a.search == b.search
-}
-
-fn same_end(a: Option<Spot>, b: Option<Spot>) -> bool
-    ensures { IsTrue result ↔ (a ≡ b) }
-{
-    a == b
-}
-
-fn same_group(a: Option<GroupId>, b: Option<GroupId>) -> bool
-    ensures { IsTrue result ↔ (a ≡ b) }
-{
-    a == b
 }
 
 fn is_past(spot: Spot) -> bool
