@@ -20,6 +20,7 @@ pub(crate) fn stack_or(stays: &Stack, anew: Option<Stack>) -> Result<Stack, Memo
 }
 
 /// A stack of which the top frame, or frames below it, were made anew; none where it stays.
+#[inline(never)]
 fn remade(
     alloc: Global,
     top: &Frame,
@@ -69,6 +70,9 @@ pub(crate) fn top_searched<S: Site>(
         None => Ok(None),
         Some((top, below)) => {
             let frame = searched(site, memory, top, on, looked)?;
+            if frame.is_none() && rest.is_none() {
+                return Ok(None);
+            }
             Ok(remade(site.alloc(), top, below, frame, rest)?)
         }
     }
