@@ -166,12 +166,15 @@ pub(crate) fn open_area<S: Site>(
     Ok(frame)
 }
 
-/// The externals of a match, for its frames to share.
-pub(crate) fn shared(alloc: Global, m: Match) -> Result<Rc<Externals>, Memory>
+/// The externals of a match, for its frames to share: where it has none, those of the line.
+pub(crate) fn shared<S: Site>(site: &S, m: Match) -> Result<Rc<Externals>, Memory>
     ensures { IfOk result (λ r. r.value ≡ m.externals) }
 {
     let Match { externals, .. } = m;
-    Ok(Rc::new(alloc, externals)?)
+    if externals.same(site.no_externals()) {
+        return shared_again(site.no_externals());
+    }
+    Ok(Rc::new(site.alloc(), externals)?)
 }
 
 pub(crate) fn shared_again(externals: &Rc<Externals>) -> Result<Rc<Externals>, Memory>

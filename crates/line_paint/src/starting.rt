@@ -102,13 +102,13 @@ impl Standing {
         let open = open_body(site, c, &by)?;
         match pattern.matchgroup {
             None => {
-                let body = with_externals(open, shared(site.alloc(), m)?);
+                let body = with_externals(open, shared(site, m)?);
                 let body = body_ended(site, body, end)?;
                 self.start_one(site.alloc(), c, item, body)
             }
             Some(group) => {
                 let area = open_area(site, c, &by, group)?;
-                let externals = shared(site.alloc(), m)?;
+                let externals = shared(site, m)?;
                 let body = with_externals(open, shared_again(&externals)?);
                 let body = body_ended(site, body, end)?;
                 self.start_two(site.alloc(), c, item, body, with_externals(area, externals))
