@@ -38,6 +38,15 @@ impl<'a, T: Lines> AtHand<'a, T> {
             line: lines.line(number),
         }
     }
+
+    /// A line that may be another one than that at hand.
+    #[inline(never)]
+    fn other_line(&self, i: usize) -> &[char]
+        requires { i < length self.now }
+        ensures { Some result.now ≡ slice_get self.now i }
+    {
+        self.lines.line(i)
+    }
 }
 
 impl<T: Lines> Lines for AtHand<'_, T> {
@@ -47,11 +56,12 @@ impl<T: Lines> Lines for AtHand<'_, T> {
         self.count
     }
 
+    #[inline(always)]
     fn line(&self, i: usize) -> &[char] {
         if i == self.number {
             self.line
         } else {
-            self.lines.line(i)
+            self.other_line(i)
         }
     }
 }
