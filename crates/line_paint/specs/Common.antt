@@ -6,7 +6,7 @@ pub use Rattle.item_pick.specs.Starts.{IsStarting}
 pub use Rattle.item_pick.specs.Tables.{TablesStand}
 pub use Rattle.keyword_table.specs.ItemNumbers.{AreItemsBelow}
 pub use Rattle.match_rules.specs.Ways.{line_at}
-pub use Rattle.paint_rules.specs.Close.{close_once, closed, closing_of, container_goes_on, end_area_of, frames_after, goes_beyond, has_line_end, is_open, is_reached, is_region, is_region_body, is_region_body_on, line_end_counts, line_start, search_col, waiting_after, with_end}
+pub use Rattle.paint_rules.specs.Close.{close_once, closed, closing_of, container_goes_on, end_area_of, frames_after, goes_beyond, has_line_end, is_open, is_reached, is_region, is_region_body, is_region_body_on, line_end_counts, line_start, search_col, searched, waiting_after, with_end}
 pub use Rattle.paint_rules.specs.EndInLine.{end_in_line, search_from}
 pub use Rattle.paint_rules.specs.KeptEnd.{has_keepend, is_before}
 pub use Rattle.paint_rules.specs.Line.{at_col, column, holds, is_clear, joined, painted_from, painted_line, turns}

@@ -1,6 +1,6 @@
 //! The searches of frames for their ends.
-ghost use Rattle.std.specs.Prelude.{◌≡◌, ◌<◌, IfOk, IsTrue, None, length};
-ghost use Rattle.line_paint.specs.Common.{is_region, is_region_body, with_end, search_col, is_open, line_end_if, search_column, searched_from, searched_on, FrameComes, frame_or};
+ghost use Rattle.std.specs.Prelude.{◌≡◌, ◌<◌, IfOk, IsTrue, None, length, true};
+ghost use Rattle.line_paint.specs.Common.{is_region, is_region_body, with_end, search_col, is_open, line_end_if, search_column, searched, searched_from, searched_on, FrameComes, frame_or};
 
 use crate::spots::spot_of;
 use crate::{Site, Stop};
@@ -160,6 +160,35 @@ fn search_column<S: Site>(site: &S, on: Occasion, frame: &Frame) -> Option<usize
     }
 }
 
+/// The body of a region that searches its end in this line from a column; none where it stays.
+#[inline(never)]
+fn searched_at<S: Site>(
+    site: &S,
+    memory: &mut PickMemory,
+    frame: &Frame,
+    c: usize,
+    looked: &mut Looked,
+) -> Result<Option<Frame>, Stop>
+    requires memory { S.stands site.now memory.old }
+    requires is_item { (frame.now.item).0 < length (S.here site.now).rules.items }
+    requires is_region { is_region_body (S.here site.now).rules frame.now ≡ true }
+    ensures comes { FrameComes frame.now result looked.old looked.new
+        (searched (S.here site.now) frame.now c) }
+    ensures memory { S.stands site.now memory.new }
+{
+    match site.find_end(memory, frame, c)? {
+        EndAnswer::Ends(end, seen) => {
+            *looked = looked.join(seen);
+            Ok(ended_anew(site, frame, Some(end))?)
+        }
+        EndAnswer::NotHere(seen) => {
+            *looked = looked.join(seen);
+            Ok(ended_anew(site, frame, None)?)
+        }
+        EndAnswer::TooCostly => Err(Stop::TooCostly(frame.item)),
+    }
+}
+
 /// A frame that searches its end in this line from a column, if there is one and it is the body of a
 /// region; none where it stays.
 fn searched_from<S: Site>(
@@ -176,19 +205,7 @@ fn searched_from<S: Site>(
     ensures memory { S.stands site.now memory.new }
 {
     match from {
-        Some(c) if is_region_body(site, frame) => {
-            match site.find_end(memory, frame, c)? {
-                EndAnswer::Ends(end, seen) => {
-                    *looked = looked.join(seen);
-                    Ok(ended_anew(site, frame, Some(end))?)
-                }
-                EndAnswer::NotHere(seen) => {
-                    *looked = looked.join(seen);
-                    Ok(ended_anew(site, frame, None)?)
-                }
-                EndAnswer::TooCostly => Err(Stop::TooCostly(frame.item)),
-            }
-        }
+        Some(c) if is_region_body(site, frame) => searched_at(site, memory, frame, c, looked),
         _ => Ok(None),
     }
 }
