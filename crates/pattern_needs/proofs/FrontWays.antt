@@ -1,6 +1,7 @@
 -- The first pieces of a pattern, where they have no way.
 use Rattle.std.proofs.Common.{◌≡◌, ◌≤◌, ℕ, zero, suc, ◌∙◌, ap, inl, inr, Bool, List, [], ◌∷◌, length, refl, sym, arith, subst}
 use Rattle.std.specs.Prelude.{Option, Some, None, true, false, ◌&&◌, nat_eq, nat_lt}
+use Rattle.std.proofs.lemmas.Bool.{and_parts}
 use Rattle.syn_base.specs.declared.places.Place.{Place}
 use Rattle.pattern_items.specs.declared.atom.Atom.TheVariants.{LineEnd, LineStop}
 use Rattle.vim_pattern.specs.Shape.{Shape, empty, one, seq, or, and, group, external, repeat, ahead, before, whole}
@@ -17,12 +18,11 @@ use Rattle.pattern_screens.proofs.InVain.{in-vain}
 use Rattle.pattern_screens.proofs.LinedParts.{IsIn, Lined}
 use Rattle.pattern_needs.specs.Endings.{IsEndOfLine}
 use Rattle.pattern_needs.specs.Fronts.{front, front_tree, front_upto, piece, piece_upto, stopped}
-use Rattle.pattern_needs.specs.LineRooms.{is_cheap_in, room_of, then_room}
+use Rattle.pattern_needs.specs.LineCosts.{is_cheap_in, stays}
 use Rattle.pattern_needs.specs.Spreads.{Weighs}
-use Rattle.pattern_needs.specs.declared.room.Room.{Room}
-use Rattle.pattern_needs.proofs.Lacking.{HasNone, none-after, ways-from}
-use Rattle.pattern_needs.proofs.LineParts.{IsFrom, both-are, in-line, room-lined}
-use Rattle.pattern_needs.proofs.NeedsLaws.{room-is}
+use Rattle.pattern_needs.proofs.Lacking.{HasNone, none-after}
+use Rattle.pattern_needs.proofs.LineParts.{IsFrom, ways-from}
+use Rattle.pattern_needs.proofs.NeedsLaws.{bounded-vain, cheap-is}
 use Rattle.pattern_needs.proofs.SpreadLaws.{ticks-weigh}
 
 -- ---- where the first pieces have no way, the whole does the same
@@ -69,14 +69,10 @@ pub vain-by-front : (tree : PatternTree) (x : Context) (budget : ℕ) (upto : Op
     IsInVain (place line col) budget false (attempt tree x (place line col))
 vain-by-front tree x budget upto most line col short within cheap none =
     let y : Context = for_tree tree x in
-    let start : Place = place line col in
     let node : Shape = front_upto upto tree.node in
-    let marks : List Mark = visits y node (way_from start) in
-    let room = room-is budget (room_of most node) cheap in
-    let at : IsFrom y line 0 start = record { on = refl; within = within; from = omega arith } in
-    let lined : Lined y line room.0.ways room.0.cost marks = room-lined y line most short node room.0 room.1.0 (way_from start) (in-line y line 0 start at) in
-    vain-as tree x budget node line col (record { here = lined.here; few = omega (arith, none); cheap = omega (arith, lined.cheap, room.1.1); seen = lined.seen })
-    (upto-same y upto tree.node (way_from start) none)
+    let within-budget = cheap-is most budget (front_tree upto tree) cheap in
+    vain-as tree x budget node line col (bounded-vain y node most budget line col short within within-budget.0 within-budget.1 none)
+    (upto-same y upto tree.node (way_from (place line col)) none)
 
 -- ---- where pieces don't come to a line's end, the whole does the same
 
@@ -123,26 +119,26 @@ vain-by-stop tree x budget number cost line col weighs cheap ends none =
 
 -- ---- where one piece has no way, the pieces up to it haven't
 
-module _ (x : Context) (line most : ℕ) (few : length (line_at x.text line) ≤ most) where
+module _ (x : Context) (line : ℕ) where
   abbrev HasNoneAt : Shape → Type 0
   HasNoneAt part =
-      (room : Room) → room_of most part ≡ Some room → (v : Way) → IsFrom x line 0 v.at → HasNone (visits x part v)
+      stays part ≡ true → (v : Way) → IsFrom x line 0 v.at → HasNone (visits x part v)
 
   front-none : (node : Shape) (k : ℕ) → HasNoneAt (piece node k) → HasNoneAt (front node k)
-  front-none (seq a b) zero h room e w at = h room e w at
-  front-none (seq a b) (suc k) h room e w at =
-      let t = both-are then_room (room_of most a) (room_of most (front b k)) room e in
-      none-after (λ v. IsFrom x line 0 v.at) (visits x a w) (visits x (front b k)) (ways-from x line 0 most few a t.0 t.1.1.0 w at) (λ v i. front-none b k h t.1.0 t.1.1.1.0 v i)
-  front-none empty k h room e w at = h room e w at
-  front-none (one a) k h room e w at = h room e w at
-  front-none (or a b) k h room e w at = h room e w at
-  front-none (and a b) k h room e w at = h room e w at
-  front-none (group part number) k h room e w at = h room e w at
-  front-none (external part number) k h room e w at = h room e w at
-  front-none (repeat part least count lazy) k h room e w at = h room e w at
-  front-none (ahead part negative) k h room e w at = h room e w at
-  front-none (before part negative limit) k h room e w at = h room e w at
-  front-none (whole part) k h room e w at = h room e w at
+  front-none (seq a b) zero h e w at = h e w at
+  front-none (seq a b) (suc k) h e w at =
+      let t = and_parts (stays a) (stays (front b k)) e in
+      none-after (λ v. IsFrom x line 0 v.at) (visits x a w) (visits x (front b k)) (ways-from x line 0 a t.0 w at) (λ v i. front-none b k h t.1 v i)
+  front-none empty k h e w at = h e w at
+  front-none (one a) k h e w at = h e w at
+  front-none (or a b) k h e w at = h e w at
+  front-none (and a b) k h e w at = h e w at
+  front-none (group part number) k h e w at = h e w at
+  front-none (external part number) k h e w at = h e w at
+  front-none (repeat part least count lazy) k h e w at = h e w at
+  front-none (ahead part negative) k h e w at = h e w at
+  front-none (before part negative limit) k h e w at = h e w at
+  front-none (whole part) k h e w at = h e w at
 
   pub upto-none : (upto : Option ℕ) (node : Shape) → HasNoneAt (piece_upto upto node) → HasNoneAt (front_upto upto node)
   upto-none None node h = h

@@ -1,7 +1,7 @@
 -- A part that needs what a line lacks has no way in that line.
 use Rattle.std.proofs.Common.{◌≡◌, ℕ, ◌≤◌, Bool, true, false, List, [], ◌∷◌, ◌++◌, length, refl, sym, ap, ◌∙◌, arith, subst, inl, inr, ◌⊎◌}
 use Rattle.std.specs.Prelude.{Option, Some, None, ◌&&◌, not, slice_get, if◌then◌else◌}
-use Rattle.std.proofs.lemmas.Bool.{or_parts}
+use Rattle.std.proofs.lemmas.Bool.{and_parts, or_parts}
 use Rattle.std.proofs.lemmas.Bool.Decides.{nat_tests}
 use Rattle.std.proofs.lemmas.Option.{same_Some, none-some}
 use Rattle.syn_base.specs.declared.places.Place.{Place}
@@ -19,11 +19,9 @@ use Rattle.pattern_screens.specs.FirstAtoms.{is_forced}
 use Rattle.pattern_screens.specs.PlainAtoms.{is_plain, plain_fits, plain_takes}
 use Rattle.pattern_screens.proofs.FirstScreens.{any-append, cond-some, fits-told, forced-parts, lists-are}
 use Rattle.pattern_screens.proofs.Bounded.{ended-ways, first-none, followed-none, followed-ways, ways-append, ways_of}
-use Rattle.pattern_needs.specs.LineRooms.{look_then, or_room, room_of, then_room}
+use Rattle.pattern_needs.specs.LineCosts.{stays}
 use Rattle.pattern_needs.specs.Needs.{are_characters, needed, rather, some_takes}
-use Rattle.pattern_needs.specs.declared.room.Room.{Room}
-use Rattle.pattern_needs.proofs.Forwards.{goes-forwards}
-use Rattle.pattern_needs.proofs.LineParts.{IsFrom, both-are, counted-is, first-is, from-later, in-line, room-lined}
+use Rattle.pattern_needs.proofs.LineParts.{IsFrom, look-stays, ways-from}
 
 -- ---- marks without a way
 
@@ -41,16 +39,6 @@ none-looked w marks h = ended-ways (look_end false w) marks None (first-none mar
 
 none-whole : (marks : List Mark) → HasNone marks → HasNone (ticks_first marks ++ reach_if (first_way marks))
 none-whole marks h = ended-ways reach_if marks None (first-none marks h)
-
--- the ways behind a look are where it stands
-looked-at : (P : Place → Type 0) (w : Way) (o : Option Way) → P w.at → AllWays (λ v. P v.at) (look_end false w o)
-looked-at P w None h = tt
-looked-at P w (Some v) h = (h, tt)
-
-ticks-then : (P : Way → Type 0) (a b : List Mark) → AllWays P b → AllWays P (ticks_first a ++ b)
-ticks-then P [] b h = h
-ticks-then P (Tick l ∷ a) b h = ticks-then P a b h
-ticks-then P (Reach w ∷ a) b h = h
 
 -- ---- which list is needed
 
@@ -86,65 +74,54 @@ module _ (x : Context) (line from : ℕ) where
 
   -- ---- parts
 
-  module _ (most : ℕ) (few : length (line_at x.text line) ≤ most) where
-    -- the ways of a part from the column on are in the line, from the column on
-    pub ways-from : (node : Shape) (room : Room) → room_of most node ≡ Some room → (w : Way) → IsFrom x line from w.at → AllWays (λ v. IsFrom x line from v.at) (visits x node w)
-    ways-from node room e w at =
-        from-later x line from w (visits x node w) at (room-lined x line most few node room e w (in-line x line from w.at at)).here (goes-forwards x node w)
+  abbrev Needing : Shape → Type 0
+  Needing node =
+      stays node ≡ true → (atoms : List Atom) → needed node ≡ Some atoms → Lacks atoms → (w : Way) → IsFrom x line from w.at → HasNone (visits x node w)
 
-    abbrev Needing : Shape → Type 0
-    Needing node =
-        (room : Room) → room_of most node ≡ Some room → (atoms : List Atom) → needed node ≡ Some atoms → Lacks atoms → (w : Way) → IsFrom x line from w.at → HasNone (visits x node w)
+  seq-none : (a b : Shape) → Needing a → Needing b → Needing (seq a b)
+  seq-none a b h k e atoms n lack w at =
+      let t = and_parts (stays a) (stays b) e in
+      elim (rather-is (needed a) (needed b) atoms n) [
+        | inl first ↦ none-followed (visits x a w) (visits x b) (h t.0 atoms first lack w at)
+        | inr second ↦ none-after (λ v. IsFrom x line from v.at) (visits x a w) (visits x b) (ways-from x line from a t.0 w at) (λ v i. k t.1 atoms second lack v i)
+      ]
 
-    seq-none : (a b : Shape) → Needing a → Needing b → Needing (seq a b)
-    seq-none a b h k room e atoms n lack w at =
-        let t = both-are then_room (room_of most a) (room_of most b) room e in
-        elim (rather-is (needed a) (needed b) atoms n) [
-          | inl first ↦ none-followed (visits x a w) (visits x b) (h t.0 t.1.1.0 atoms first lack w at)
-          | inr second ↦ none-after (λ v. IsFrom x line from v.at) (visits x a w) (visits x b) (ways-from a t.0 t.1.1.0 w at) (λ v i. k t.1.0 t.1.1.1.0 atoms second lack v i)
-        ]
+  or-none : (a b : Shape) → Needing a → Needing b → Needing (or a b)
+  or-none a b h k e atoms n lack w at =
+      let t = and_parts (stays a) (stays b) e in
+      let l = lists-are (needed a) (needed b) atoms n in
+      let both : (i c : ℕ) → from ≤ i → slice_get (line_at x.text line) i ≡ Some c → (some_takes x.sets x.ignore l.0 c ≡ false) × (some_takes x.sets x.ignore l.1.0 c ≡ false) = λ i c later is.
+      any-append (λ a. plain_takes x.sets x.ignore a c) l.0 l.1.0 (subst (λ r. some_takes x.sets x.ignore r c ≡ false) (sym l.1.1.2) (lack i c later is)) in
+      let one : HasNone (visits x a w) = h t.0 l.0 l.1.1.0 (λ i c later is. (both i c later is).0) w at in
+      let other : HasNone (visits x b w) = k t.1 l.1.0 l.1.1.1 (λ i c later is. (both i c later is).1) w at in
+      ways-append (visits x a w) (visits x b w) ∙ omega (arith, one, other)
 
-    or-none : (a b : Shape) → Needing a → Needing b → Needing (or a b)
-    or-none a b h k room e atoms n lack w at =
-        let t = both-are or_room (room_of most a) (room_of most b) room e in
-        let l = lists-are (needed a) (needed b) atoms n in
-        let both : (i c : ℕ) → from ≤ i → slice_get (line_at x.text line) i ≡ Some c → (some_takes x.sets x.ignore l.0 c ≡ false) × (some_takes x.sets x.ignore l.1.0 c ≡ false) = λ i c later is.
-        any-append (λ a. plain_takes x.sets x.ignore a c) l.0 l.1.0 (subst (λ r. some_takes x.sets x.ignore r c ≡ false) (sym l.1.1.2) (lack i c later is)) in
-        let one : HasNone (visits x a w) = h t.0 t.1.1.0 l.0 l.1.1.0 (λ i c later is. (both i c later is).0) w at in
-        let other : HasNone (visits x b w) = k t.1.0 t.1.1.1.0 l.1.0 l.1.1.1 (λ i c later is. (both i c later is).1) w at in
-        ways-append (visits x a w) (visits x b w) ∙ omega (arith, one, other)
+  and-none : (a b : Shape) → Needing a → Needing b → Needing (and a b)
+  and-none a b h k e atoms n lack w at =
+      let t = and_parts (stays a) (stays b) e in
+      elim (rather-is (needed a) (needed b) atoms n) [
+        | inl first ↦ none-followed (look false w (visits x a w)) (visits x b) (none-looked w (visits x a w) (h t.0 atoms first lack w at))
+        | inr second ↦ none-after (λ v. IsFrom x line from v.at) (look false w (visits x a w)) (visits x b) (look-stays (IsFrom x line from) w (visits x a w) at) (λ v i. k t.1 atoms second lack v i)
+      ]
 
-    and-none : (a b : Shape) → Needing a → Needing b → Needing (and a b)
-    and-none a b h k room e atoms n lack w at =
-        let t = both-are look_then (room_of most a) (room_of most b) room e in
-        elim (rather-is (needed a) (needed b) atoms n) [
-          | inl first ↦ none-followed (look false w (visits x a w)) (visits x b) (none-looked w (visits x a w) (h t.0 t.1.1.0 atoms first lack w at))
-          | inr second ↦ none-after (λ v. IsFrom x line from v.at) (look false w (visits x a w)) (visits x b)
-              (ticks-then (λ v. IsFrom x line from v.at) (visits x a w) (look_end false w (first_way (visits x a w))) (looked-at (IsFrom x line from) w (first_way (visits x a w)) at))
-              (λ v i. k t.1.0 t.1.1.1.0 atoms second lack v i)
-        ]
-
-    pub none-lacking : (node : Shape) → Needing node
-    none-lacking empty room e atoms n lack w at = absurd (none-some atoms n)
-    none-lacking (one a) room e atoms n lack w at =
-        let t = cond-some (is_plain a) (Some (a ∷ [])) atoms n in
-        one-none a t.0 (subst Lacks (sym (same_Some (a ∷ []) atoms t.1)) lack) w at
-    none-lacking (seq a b) room e atoms n lack w at = seq-none a b (none-lacking a) (none-lacking b) room e atoms n lack w at
-    none-lacking (or a b) room e atoms n lack w at = or-none a b (none-lacking a) (none-lacking b) room e atoms n lack w at
-    none-lacking (and a b) room e atoms n lack w at = and-none a b (none-lacking a) (none-lacking b) room e atoms n lack w at
-    none-lacking (group part number) room e atoms n lack w at = none-followed (visits x part w) (noted number w.at) (none-lacking part room e atoms n lack w at)
-    none-lacking (external part number) room e atoms n lack w at = none-followed (visits x part w) (noted_external number w.at) (none-lacking part room e atoms n lack w at)
-    none-lacking (repeat part least count lazy) room e atoms n lack w at =
-        let t = counted-is most (room_of most part) least count room e in
-        let c = cond-some (is_forced least count) (needed part) atoms n in
-        let forced = forced-parts least count c.0 in
-        ap ways_of (turns-forced x.text (visits x part) lazy least count w forced.1 (grind (arith, nat_tests, forced.0)))
-        ∙ none-followed (visits x part w) (after_turn x.text (visits x part) lazy least count w.at) (none-lacking part t.0 t.1.0 atoms c.1 lack w at)
-    none-lacking (ahead part negative) room e atoms n lack w at =
-        let t = first-is (room_of most part) room e in
-        let c = not-if negative (needed part) atoms n in
-        subst (λ (b : Bool). HasNone (look b w (visits x part w))) (sym c.0) (none-looked w (visits x part w) (none-lacking part t.0 t.1.0 atoms c.1 lack w at))
-    none-lacking (before part negative limit) room e atoms n lack w at = absurd (none-some atoms n)
-    none-lacking (whole part) room e atoms n lack w at =
-        let t = first-is (room_of most part) room e in
-        none-whole (visits x part w) (none-lacking part t.0 t.1.0 atoms n lack w at)
+  pub none-lacking : (node : Shape) → Needing node
+  none-lacking empty e atoms n lack w at = absurd (none-some atoms n)
+  none-lacking (one a) e atoms n lack w at =
+      let t = cond-some (is_plain a) (Some (a ∷ [])) atoms n in
+      one-none a t.0 (subst Lacks (sym (same_Some (a ∷ []) atoms t.1)) lack) w at
+  none-lacking (seq a b) e atoms n lack w at = seq-none a b (none-lacking a) (none-lacking b) e atoms n lack w at
+  none-lacking (or a b) e atoms n lack w at = or-none a b (none-lacking a) (none-lacking b) e atoms n lack w at
+  none-lacking (and a b) e atoms n lack w at = and-none a b (none-lacking a) (none-lacking b) e atoms n lack w at
+  none-lacking (group part number) e atoms n lack w at = none-followed (visits x part w) (noted number w.at) (none-lacking part e atoms n lack w at)
+  none-lacking (external part number) e atoms n lack w at = none-followed (visits x part w) (noted_external number w.at) (none-lacking part e atoms n lack w at)
+  none-lacking (repeat part least count lazy) e atoms n lack w at =
+      let c = cond-some (is_forced least count) (needed part) atoms n in
+      let forced = forced-parts least count c.0 in
+      ap ways_of (turns-forced x.text (visits x part) lazy least count w forced.1 (grind (arith, nat_tests, forced.0)))
+      ∙ none-followed (visits x part w) (after_turn x.text (visits x part) lazy least count w.at) (none-lacking part e atoms c.1 lack w at)
+  none-lacking (ahead part negative) e atoms n lack w at =
+      let c = not-if negative (needed part) atoms n in
+      subst (λ (b : Bool). HasNone (look b w (visits x part w))) (sym c.0) (none-looked w (visits x part w) (none-lacking part e atoms c.1 lack w at))
+  none-lacking (before part negative limit) e atoms n lack w at = absurd (none-some atoms n)
+  none-lacking (whole part) e atoms n lack w at =
+      none-whole (visits x part w) (none-lacking part e atoms n lack w at)

@@ -4,7 +4,9 @@ pub mod Lacking
 pub mod HeldLaws
 pub mod NeedsLaws
 pub mod AskingLaws
-pub mod RoomLaws
+pub mod CostLaws
+pub mod CostWays
+pub mod GrowthLaws
 pub mod LeadLaws
 pub mod EndingLaws
 pub mod SpreadLaws

@@ -24,7 +24,7 @@ use Rattle.pattern_needs.specs.Endings.{IsLastOf, IsLastTold}
 use Rattle.pattern_needs.specs.Fronts.{front, front_tree, front_upto, piece_upto, stopped}
 use Rattle.pattern_needs.specs.declared.ending.Ended.{Ended}
 use Rattle.pattern_needs.specs.LineNeeds.{IsLastNeeded, IsOneNeeded, IsSecondNeeded}
-use Rattle.pattern_needs.specs.LineRooms.{is_cheap_in, room_of}
+use Rattle.pattern_needs.specs.LineCosts.{is_cheap_in}
 use Rattle.pattern_needs.specs.Needs.{needed, some_takes}
 use Rattle.pattern_needs.specs.Nonblanks.{IsSecondAt, IsSecondTold, Leads, LeadsToSecond, StandsAt}
 use Rattle.pattern_needs.specs.Spreads.{IsCheapPart, Weighs, before_blank, from_kind, total}
@@ -36,7 +36,7 @@ use Rattle.pattern_needs.proofs.FrontWays.{upto-none, vain-by-front, vain-by-sto
 use Rattle.pattern_needs.proofs.Lacking.{HasNone, Lacks, none-followed, none-lacking}
 use Rattle.pattern_needs.proofs.LeadLaws.{leads-seq, leads-still, ways-map}
 use Rattle.pattern_needs.proofs.LineParts.{IsFrom}
-use Rattle.pattern_needs.proofs.NeedsLaws.{room-is}
+use Rattle.pattern_needs.proofs.NeedsLaws.{cheap-is}
 use Rattle.pattern_needs.proofs.SpreadLaws.{cost-kind}
 
 true-or : (b : Bool) → b ≡ true → b ≡ false → ⊥
@@ -69,10 +69,10 @@ one-needed sets ignore budget tree upto part need is known taken cheap line few 
     let apart : holds need.characters c ≡ false = each-of (λ d. holds need.characters d ≡ false) line none i c (subst (λ k. slice_get k i ≡ Some c) on e) in
     let here : some_takes sets (ignores_case tree ignore) atoms c ≡ false = false-if _ (λ t. true-or _ (taken c t) apart) in
     subst (λ s. some_takes s y.ignore atoms c ≡ false) (sym hs) (subst (λ b. some_takes sets (ignores_case tree b) atoms c ≡ false) (sym hi) here) in
-    let room = room-is budget (room_of need.most (front_upto upto tree.node)) cheap in
+    let stay = (cheap-is need.most budget (front_tree upto tree) cheap).0 in
     let at : IsFrom y l 0 (place l col) = record { on = refl; within = inside; from = omega arith } in
     vain-by-front tree x budget upto need.most l col short inside cheap
-    (upto-none y l need.most short upto tree.node (λ r e v from. none-lacking y l 0 need.most short (piece_upto upto tree.node) r e atoms (subst (λ p. needed p ≡ Some atoms) is known) lack v from) room.0 room.1.0 (way_from (place l col)) at)
+    (upto-none y l upto tree.node (λ e v from. none-lacking y l 0 (piece_upto upto tree.node) e atoms (subst (λ p. needed p ≡ Some atoms) is known) lack v from) stay (way_from (place l col)) at)
 
 -- ---- the second character that isn't a blank
 

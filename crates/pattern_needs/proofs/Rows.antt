@@ -1,5 +1,5 @@
 -- Worked rows: what patterns need, which lines lack it, and what an attempt costs in them.
-use Rattle.std.specs.Prelude.{◌≡◌, ℕ, true, false, List, [], ◌∷◌, Some, None, codes, refl}
+use Rattle.std.specs.Prelude.{◌≡◌, ◌*◌, ℕ, true, false, List, [], ◌∷◌, Some, None, codes, refl}
 use Rattle.char_class.specs.Folds.{is_same}
 use Rattle.char_class.specs.declared.sets.Sets.{Sets}
 use Rattle.syn_base.specs.declared.class.Class.TheVariants.{White, Word, Lower, Ident, IdentNoDigit}
@@ -10,7 +10,8 @@ use Rattle.pattern_items.specs.declared.item.Behind.TheVariants as behind
 use Rattle.vim_pattern.specs.Shape.{Shape, one, seq, or, group, repeat, ahead, before}
 use Rattle.vim_pattern.specs.Tree.{PatternTree}
 use Rattle.pattern_needs.specs.Fronts.{front, piece, stopped}
-use Rattle.pattern_needs.specs.LineRooms.{is_cheap_in, room_of}
+use Rattle.pattern_needs.specs.LineCosts.{cost_of, is_cheap_in, nothing, stays}
+use Rattle.pattern_needs.specs.Growths.{chosen, grown, once}
 use Rattle.pattern_needs.specs.Needs.{lacks, needed}
 use Rattle.pattern_needs.specs.Spreads.{or_spreads, over_blanks, still, then_spreads}
 
@@ -127,30 +128,51 @@ holding_in_any_case = refl
 
 -- ---- costs in a line of at most 200 characters
 
-pub room_of_a_count : room_of 200 some_and_y ≡ Some (record { ways = 201; cost = 403 })
-room_of_a_count = refl
+pub cost_of_a_count : cost_of some_and_y nothing 200 ≡ 402
+cost_of_a_count = refl
 
--- `a\{2,}b`
-pub room_of_two_turns : room_of 200 (seq (repeat (ch 97) 2 None false) (ch 98)) ≡ Some (record { ways = 201; cost = 403 })
-room_of_two_turns = refl
+-- `a\{2,}b`, of which one turn may be in vain
+pub cost_of_two_turns : cost_of (seq (repeat (ch 97) 2 None false) (ch 98)) nothing 200 ≡ 403
+cost_of_two_turns = refl
+
+-- `a*a*b`: each place of the first is one where the second begins, with fewer left
+pub cost_of_two_counts : cost_of (seq (many (ch 97)) (seq (many (ch 97)) (ch 98))) nothing 20 ≡ 21 * 23
+cost_of_two_counts = refl
+
+-- `\%(a\|a\)\{5}b`: no turn may be left out
+pub cost_of_five_turns : cost_of (seq (repeat (or (ch 97) (ch 97)) 5 (Some 5) false) (ch 98)) nothing 20 ≡ 94
+cost_of_five_turns = refl
+
+-- `\%(a\|a\)\{3,5}b`: two of them may
+pub cost_of_three_to_five_turns : cost_of (seq (repeat (or (ch 97) (ch 97)) 3 (Some 5) false) (ch 98)) nothing 20 ≡ 118
+cost_of_three_to_five_turns = refl
 
 -- `\s*\zs\I\i*\s*:$`
-pub room_of_a_label : room_of 10 (seq (many (class (Is White false false))) (seq (one MatchStart) (seq (class (Is IdentNoDigit false false)) (seq (many (class (Is Ident false false))) (seq (many (class (Is White false false))) (seq (ch 58) (one LineStop)))))))
-    ≡ Some (record { ways = 1331; cost = 4280 })
-room_of_a_label = refl
+pub cost_of_a_label : cost_of (seq (many (class (Is White false false))) (seq (one MatchStart) (seq (class (Is IdentNoDigit false false)) (seq (many (class (Is Ident false false))) (seq (many (class (Is White false false))) (seq (ch 58) (one LineStop))))))) nothing 10
+    ≡ 957
+cost_of_a_label = refl
 
-pub within_a_budget : is_cheap_in 200 403 (tree_of some_and_y) ≡ true
+pub within_a_budget : is_cheap_in 200 402 (tree_of some_and_y) ≡ true
 within_a_budget = refl
 
-pub over_a_budget : is_cheap_in 200 402 (tree_of some_and_y) ≡ false
+pub over_a_budget : is_cheap_in 200 401 (tree_of some_and_y) ≡ false
 over_a_budget = refl
 
--- what goes over a line end isn't counted, but the pieces up to it are
-pub no_room_over_an_end : room_of 10 over_an_end ≡ None
-no_room_over_an_end = refl
+-- what goes over a line end doesn't stay, but the pieces up to it do
+pub goes_over_an_end : stays over_an_end ≡ false
+goes_over_an_end = refl
 
-pub room_before_an_end : room_of 10 (stopped over_an_end 2) ≡ Some (record { ways = 11; cost = 24 })
-room_before_an_end = refl
+pub stays_before_an_end : stays (stopped over_an_end 2) ≡ true
+stays_before_an_end = refl
+
+-- ---- growths
+
+-- 3 + 5 for each + 2 for each two, and one more chosen of those left
+pub growth_of_two_counts : grown (3 ∷ 5 ∷ 2 ∷ []) once 20 ≡ 21 * 23
+growth_of_two_counts = refl
+
+pub two_of_five : chosen 2 5 ≡ 10
+two_of_five = refl
 
 -- `\s*$`: of at most 10 blanks each is followed by a `$` that doesn't fit
 pub cost_over_blanks : then_spreads (over_blanks 10) (still 1)

@@ -23,14 +23,18 @@ use Rattle.pattern_screens.proofs.FirstScreens.{fits-told}
 use Rattle.pattern_screens.proofs.LinedParts.{IsIn, Lined, lined}
 use Rattle.pattern_screens.proofs.Stands.{LooksAt}
 use Rattle.pattern_needs.specs.Fronts.{stopped}
-use Rattle.pattern_needs.specs.LineRooms.{room_of}
+use Rattle.pattern_needs.specs.Growths.{IsRoomOf, grown, once as single, total as room_total}
+use Rattle.pattern_needs.specs.LineCosts.{Cost, cost_of}
 use Rattle.pattern_needs.specs.Nonblanks.{is_blank}
 use Rattle.pattern_needs.specs.Spreads.{IsSpread, Weighs, anywhere, before_blank, from_kind, has_blank, of_kind, or_spread, or_spreads, over_blanks, still, then_spread, then_spreads, total, weight}
 use Rattle.pattern_needs.specs.declared.room.Room.{Room}
 use Rattle.pattern_needs.specs.declared.spread.Spread.{Spread}
 use Rattle.pattern_needs.specs.declared.spread.Spreads.{Spreads}
 use Rattle.pattern_needs.proofs.LeadLaws.{blank-taken, fit-step, stays-here, true-or}
-use Rattle.pattern_needs.proofs.LineParts.{room-lined}
+use Rattle.pattern_needs.proofs.CostLaws.{cost-below, same-below}
+use Rattle.pattern_needs.proofs.CostWays.{by_left, cost-light, left_at, weight as weight_by}
+use Rattle.pattern_needs.proofs.GrowthLaws.{grown-same, grown-times}
+use Rattle.pattern_needs.proofs.LineParts.{stay-looks, stay-ways}
 
 -- ---- weights
 
@@ -133,16 +137,31 @@ spread-group sets ignore most part number s f x l b o hs hi few w h =
 
 -- ---- parts of a room
 
-pub spread-room : (sets : Sets) (ignore : Bool) (most : ℕ) (node : Shape) (room : Room) → room_of most node ≡ Some room → IsSpread sets ignore most node (record { blank = anywhere room.ways room.cost; other = anywhere room.ways room.cost })
-spread-room sets ignore most node room e x l b o hs hi few w h =
+-- a weight by kinds is no more than one that is the same for both
+weight-kinds : (x : Context) (b o : ℕ) (f : Way → ℕ) (a : List Mark) → ((w : Way) → of_kind b o (before_blank x w.at) ≤ f w) → weight x b o a ≤ weight_by f a
+weight-kinds x b o f [] h = omega arith
+weight-kinds x b o f (Tick l ∷ a) h = omega (arith, weight-kinds x b o f a h)
+weight-kinds x b o f (Reach w ∷ a) h = omega (arith, weight-kinds x b o f a h, h w)
+
+-- so many ways, each of which costs as much
+grown-flat : (p : List ℕ) (t : ℕ) (left : ℕ) → grown p (λ _. t) left ≡ grown p single left * t
+grown-flat p t left = grown-same p (λ _. t) (λ i. 1 * t) (λ i. omega arith) left ∙ grown-times p single t left
+
+pub spread-room : (sets : Sets) (ignore : Bool) (most : ℕ) (node : Shape) (room : Room) (ways cost : ℕ) → IsRoomOf node room → ways ≡ grown room.ways.by single most → cost ≡ grown room.cost.by single most →
+    IsSpread sets ignore most node (record { blank = anywhere ways cost; other = anywhere ways cost })
+spread-room sets ignore most node room ways cost is many ticks x l b o hs hi few w h =
     let a = visits x node w in
-    let fits : Lined x l room.ways room.cost a = room-lined x l most few node room e w h in
-    let known = weighs-lined x l room.ways room.cost b o (b + o) a fits (each-way _ a (λ v. either-kind b o (before_blank x v.at))) in
-    lighter known (by (before_blank x w.at) (ways_of a) (ticks_of a) fits.few fits.cheap)
+    let flat : Cost = λ _. b + o in
+    let same : room_total room flat most ≡ cost_of node flat most = ap (λ (t : Cost → Cost). t flat most) is.same in
+    let all : ways * (b + o) ≡ grown room.ways.by single most * (b + o) = ap (λ n. n * (b + o)) many in
+    let light : weight x b o a ≤ cost + ways * (b + o) = omega (arith, weight-kinds x b o (by_left x l flat) a (λ v. either-kind b o (before_blank x v.at)),
+    cost-light x l node is.stay flat (same-below (b + o) (b + o) (omega arith)) w h,
+    cost-below node flat flat (same-below (b + o) (b + o) (omega arith)) (left_at x l w.at) most (omega (arith, few)), same, grown-flat room.ways.by (b + o) most, all, ticks) in
+    lighter (record { here = stay-ways x l node is.stay w h; light = light; seen = stay-looks x l node is.stay w h }) (by (before_blank x w.at))
   where
-    by : (k : Bool) (m c : ℕ) → m ≤ room.ways → c ≤ room.cost → c + m * (b + o) ≤ total (from_kind (record { blank = anywhere room.ways room.cost; other = anywhere room.ways room.cost }) k) b o
-    by true m c f g = let more : m * (b + o) ≤ room.ways * (b + o) = mul-le-mul_right (b + o) f in omega (arith, more, g)
-    by false m c f g = let more : m * (b + o) ≤ room.ways * (b + o) = mul-le-mul_right (b + o) f in omega (arith, more, g)
+    by : (k : Bool) → cost + ways * (b + o) ≤ total (from_kind (record { blank = anywhere ways cost; other = anywhere ways cost }) k) b o
+    by true = omega arith
+    by false = omega arith
 
 pub spread-still : (sets : Sets) (ignore : Bool) (most : ℕ) (a : Atom) → is_plain a ≡ false → is_lined_atom a ≡ true → IsSpread sets ignore most (one a) (still 1)
 spread-still sets ignore most a plain stays x l b o hs hi few w h =

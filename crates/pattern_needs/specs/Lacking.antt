@@ -4,7 +4,7 @@ use Rattle.char_class.specs.declared.sets.Sets.{Sets}
 use Rattle.pattern_items.specs.declared.atom.Atom.{Atom}
 use Rattle.vim_pattern.specs.Tree.{PatternTree}
 use Rattle.match_rules.specs.Attempt.{ignores_case}
-use Rattle.pattern_needs.specs.LineRooms.{is_cheap_in}
+use Rattle.pattern_needs.specs.LineCosts.{is_cheap_in}
 use Rattle.pattern_needs.specs.Needs.{lacks, needed}
 
 -- what is looked for, by which sets and whether case is ignored, and in lines of how many characters at

@@ -12,6 +12,7 @@ mod atoms;
 mod by;
 mod characters;
 mod ending;
+mod growth;
 mod held;
 mod line_need;
 mod longest;

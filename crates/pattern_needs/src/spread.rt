@@ -5,8 +5,6 @@
 ghost use Rattle.std.specs.Prelude.{◌≡◌, ◌+◌, ◌*◌, Some, IfSome};
 ghost use Rattle.pattern_needs.specs.Spreads.{anywhere, or_spread, or_spreads, over_blanks, still, then_spread, then_spreads};
 
-use crate::room::Room;
-
 /// From one kind of places: ticks, and ways that end before blanks and elsewhere.
 #[derive(Clone, Copy)]
 pub(crate) struct Spread {
@@ -109,12 +107,12 @@ pub(crate) fn over_blanks(most: u64) -> Option<Spreads>
 }
 
 /// Ways that end anywhere.
-pub(crate) fn anywhere(room: Room) -> Spread
-    ensures { result ≡ anywhere room.ways room.cost }
+pub(crate) fn anywhere(ways: u64, cost: u64) -> Spread
+    ensures { result ≡ anywhere ways cost }
 {
     Spread {
-        cost: room.cost,
-        blanks: room.ways,
-        others: room.ways,
+        cost,
+        blanks: ways,
+        others: ways,
     }
 }

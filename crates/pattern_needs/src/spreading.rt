@@ -10,7 +10,6 @@ use crate::atoms::{is_lined_atom, is_plain};
 use crate::by::By;
 use crate::longest::{LONGEST_STEP, STEPS};
 use crate::nonblanks::{is_blank_part, takes_blank};
-use crate::room::Room;
 use crate::rooms::room_of;
 use crate::spread::{Spreads, anywhere, or_spreads, over_blanks, still, then_spreads};
 use pattern_items::Atom;
@@ -21,7 +20,7 @@ fn plain_spread(atom: &Atom, by: &By) -> Spreads
     requires { is_plain atom.now ≡ true }
     ensures { (most : ℕ) → IsSpread by.now.sets.now by.now.ignore most (one atom.now) result }
 {
-    let other = anywhere(Room { ways: 1, cost: 1 });
+    let other = anywhere(1, 1);
     if takes_blank(atom, by) {
         Spreads {
             blank: other,
@@ -29,7 +28,7 @@ fn plain_spread(atom: &Atom, by: &By) -> Spreads
         }
     } else {
         Spreads {
-            blank: anywhere(Room { ways: 0, cost: 1 }),
+            blank: anywhere(0, 1),
             other,
         }
     }
@@ -52,10 +51,11 @@ fn atom_spread(atom: &Atom, by: &By) -> Option<Spreads>
 fn any_spread(most: u64, node: &Node, by: &By) -> Option<Spreads>
     ensures { IfSome result (IsSpread by.now.sets.now by.now.ignore most (bare node.now)) }
 {
-    let room = room_of(most, node)?;
+    let room = room_of(node)?;
+    let other = anywhere(room.ways.at(most)?, room.cost.at(most)?);
     Some(Spreads {
-        blank: anywhere(room),
-        other: anywhere(room),
+        blank: other,
+        other,
     })
 }
 
