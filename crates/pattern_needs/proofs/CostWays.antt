@@ -1,6 +1,6 @@
 -- The marks of a part that stays in its line cost no more than it is counted to cost.
-use Rattle.std.proofs.Common.{◌≡◌, ◌≤◌, ◌<◌, ◌+◌, ◌*◌, ◌-◌, ℕ, zero, suc, Bool, true, false, List, [], ◌∷◌, ◌++◌, length, refl, sym, arith, subst}
-use Rattle.std.specs.Prelude.{Option, Some, None, ◌&&◌, nat_lt, if◌then◌else◌}
+use Rattle.std.proofs.Common.{◌≡◌, ◌≤◌, ◌<◌, ◌+◌, ◌*◌, ◌-◌, ℕ, zero, suc, Bool, true, false, List, [], ◌∷◌, ◌++◌, length, refl, arith, subst}
+use Rattle.std.specs.Prelude.{Option, Some, None, nat_lt, if◌then◌else◌}
 use Rattle.std.proofs.lemmas.Bool.{and_parts}
 use Rattle.std.proofs.lemmas.Bool.Decides.{nat_tests}
 use Rattle.std.proofs.Math.Nat.{suc-mul, mul-le-mul_right}
@@ -18,7 +18,7 @@ use Rattle.pattern_screens.proofs.Bounded.{either, ticks_of, ways_of}
 use Rattle.pattern_screens.proofs.LinedParts.{IsIn, Lined, lined}
 use Rattle.pattern_screens.proofs.RoomParts.{column-behind}
 use Rattle.pattern_needs.specs.LineCosts.{Cost, cost_of, counted, endless, limited, nothing, stays, unlimited}
-use Rattle.pattern_needs.proofs.CostLaws.{IsBelow, Adds, Keeps, cost-adds, cost-below, endless-adds, endless-below, limited-adds, limited-below, limited-more, nothing-below, same-below}
+use Rattle.pattern_needs.proofs.CostLaws.{IsBelow, Adds, Keeps, cost-adds, cost-below, endless-adds, limited-adds, limited-below, limited-more, nothing-below, same-below}
 use Rattle.pattern_needs.proofs.LineParts.{IsFrom, in-line, look-stays, ways-onwards}
 
 -- ---- marks, where each way costs something further
@@ -235,16 +235,23 @@ module _ (x : Context) (line : ℕ) where
   cost-light (seq a b) e f grows w h =
       let t = and_parts (stays a) (stays b) e in
       let g : Cost = cost_of b f in
-      omega (arith, weight-followed (λ v. IsFrom x line w.at.col v.at) (by_left f) (by_left g) (visits x a w) (visits x b) (ways-onwards x line a t.0 w h) (λ v i. cost-light b t.1 f grows v (in-line x line w.at.col v.at i)),
-      cost-light a t.0 g (cost-below b f f grows) w h)
+      omega (
+        arith,
+        weight-followed (λ v. IsFrom x line w.at.col v.at) (by_left f) (by_left g) (visits x a w) (visits x b) (ways-onwards x line a t.0 w h) (λ v i. cost-light b t.1 f grows v (in-line x line w.at.col v.at i)),
+        cost-light a t.0 g (cost-below b f f grows) w h,
+      )
   cost-light (or a b) e f grows w h =
       let t = and_parts (stays a) (stays b) e in
       omega (arith, weight-append (by_left f) (visits x a w) (visits x b w), cost-light a t.0 f grows w h, cost-light b t.1 f grows w h)
   cost-light (and a b) e f grows w h =
       let t = and_parts (stays a) (stays b) e in
       let g : Cost = cost_of b f in
-      omega (arith, weight-followed (λ v. IsIn x line v.at) (by_left f) (by_left g) (look false w (visits x a w)) (visits x b) (look-stays (IsIn x line) w (visits x a w) h) (λ v i. cost-light b t.1 f grows v i),
-      look-light false w g (visits x a w), cost-light a t.0 nothing (nothing-below nothing) w h)
+      omega (
+        arith,
+        weight-followed (λ v. IsIn x line v.at) (by_left f) (by_left g) (look false w (visits x a w)) (visits x b) (look-stays (IsIn x line) w (visits x a w) h) (λ v i. cost-light b t.1 f grows v i),
+        look-light false w g (visits x a w),
+        cost-light a t.0 nothing (nothing-below nothing) w h,
+      )
   cost-light (group part number) e f grows w h =
       omega (arith, noting-light (visits x part w) f (noted number w.at) (λ v. omega arith), cost-light part e f grows w h)
   cost-light (external part number) e f grows w h =
@@ -256,6 +263,9 @@ module _ (x : Context) (line : ℕ) where
   cost-light (before part negative limit) e f grows w h = absurd (cc)
   cost-light (whole part) e f grows w h =
       let marks : List Mark = visits x part w in
-      omega (arith, weight-ended (by_left f) (by_left nothing) marks (reach_if (first_way marks)),
-      weight-first (λ v. IsFrom x line w.at.col v.at) (by_left f) (f (left_at w.at)) marks (ways-onwards x line part e w h) (λ v i. grows (left_at v.at) (left_at w.at) (no-more-left w.at v.at i)),
-      cost-light part e nothing (nothing-below nothing) w h)
+      omega (
+        arith,
+        weight-ended (by_left f) (by_left nothing) marks (reach_if (first_way marks)),
+        weight-first (λ v. IsFrom x line w.at.col v.at) (by_left f) (f (left_at w.at)) marks (ways-onwards x line part e w h) (λ v i. grows (left_at v.at) (left_at w.at) (no-more-left w.at v.at i)),
+        cost-light part e nothing (nothing-below nothing) w h,
+      )

@@ -13,7 +13,6 @@ use Rattle.pattern_screens.specs.Lined.{is_few, is_lined_atom}
 use Rattle.pattern_needs.specs.Fronts.{front}
 use Rattle.pattern_needs.specs.Growths.{IsRoomBehind, IsRoomEither, IsRoomOf, chosen, fewer, grown, once, total}
 use Rattle.pattern_needs.specs.LineCosts.{Cost, cost_of, counted, endless, is_cheap_in, limited, nothing, stays, unlimited}
-use Rattle.pattern_needs.specs.declared.growth.Growth.{Growth}
 use Rattle.pattern_needs.specs.declared.room.Room.{Room}
 
 -- ---- sums over fewer

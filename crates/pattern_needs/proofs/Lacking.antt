@@ -1,17 +1,16 @@
 -- A part that needs what a line lacks has no way in that line.
-use Rattle.std.proofs.Common.{◌≡◌, ℕ, ◌≤◌, Bool, true, false, List, [], ◌∷◌, ◌++◌, length, refl, sym, ap, ◌∙◌, arith, subst, inl, inr, ◌⊎◌}
+use Rattle.std.proofs.Common.{◌≡◌, ℕ, ◌≤◌, Bool, true, false, List, [], ◌∷◌, ◌++◌, refl, sym, ap, ◌∙◌, arith, subst, inl, inr, ◌⊎◌}
 use Rattle.std.specs.Prelude.{Option, Some, None, ◌&&◌, not, slice_get, if◌then◌else◌}
 use Rattle.std.proofs.lemmas.Bool.{and_parts, or_parts}
 use Rattle.std.proofs.lemmas.Bool.Decides.{nat_tests}
 use Rattle.std.proofs.lemmas.Option.{same_Some, none-some}
-use Rattle.syn_base.specs.declared.places.Place.{Place}
 use Rattle.pattern_items.specs.declared.atom.Atom.{Atom}
 use Rattle.vim_pattern.specs.Shape.{Shape, empty, one, seq, or, and, group, external, repeat, ahead, before, whole}
 use Rattle.match_rules.specs.Ways.{Context, Way, line_at, behind_character}
 use Rattle.match_rules.specs.Atoms.{character_at, lines_looked, only_if}
 use Rattle.match_rules.specs.Counts.{after_turn}
 use Rattle.match_rules.specs.Looks.{look, look_end}
-use Rattle.match_rules.specs.Marks.{Mark, Tick, Reach, first_way, followed, reach_if, ticks_first}
+use Rattle.match_rules.specs.Marks.{Mark, Tick, first_way, followed, reach_if, ticks_first}
 use Rattle.match_rules.specs.Visits.{behind_fit, noted, noted_external, visits}
 use Rattle.match_rules.proofs.MarkLaws.{AllWays}
 use Rattle.match_rules.proofs.TurnLaws.{turns-forced}

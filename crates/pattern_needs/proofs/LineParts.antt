@@ -1,6 +1,6 @@
 -- Parts that stay in a line: where their ways end.
-use Rattle.std.proofs.Common.{◌≡◌, ◌≤◌, ℕ, Bool, true, List, [], ◌∷◌, ◌++◌, length, false, arith}
-use Rattle.std.specs.Prelude.{Option, Some, None, ◌&&◌}
+use Rattle.std.proofs.Common.{◌≡◌, ◌≤◌, ℕ, true, List, [], ◌∷◌, ◌++◌, length, false, arith}
+use Rattle.std.specs.Prelude.{Option, Some, None}
 use Rattle.std.proofs.lemmas.Bool.{and_parts}
 use Rattle.syn_base.specs.declared.looked.Looked.{Looked}
 use Rattle.syn_base.specs.declared.places.Place.{Place}

@@ -1,6 +1,6 @@
 -- Attempts in a line that lacks what the pattern needs are in vain.
 use Rattle.std.proofs.Common.{◌≡◌, ℕ, zero, suc, ◌≤◌, Bool, true, false, List, [], ◌∷◌, length, refl, sym, ap, ◌∙◌, arith, subst}
-use Rattle.std.specs.Prelude.{Some, not, nat_le, nat_lt, drop, slice_get, ◌&&◌}
+use Rattle.std.specs.Prelude.{Some, not, nat_le, nat_lt, drop, slice_get}
 use Rattle.std.specs.List.{list_any}
 use Rattle.std.proofs.lemmas.Bool.{and_parts, not-true, or_parts}
 use Rattle.std.proofs.lemmas.Bool.Decides.{nat_tests}
@@ -47,8 +47,13 @@ bounded-vain x node most budget line col short within stay cheap none =
     record {
       here = stay-ways x line node stay w at;
       few = omega (arith, none);
-      cheap = omega (arith, ticks-weigh (by_left x line nothing) marks, cost-light x line node stay nothing (nothing-below nothing) w at,
-      cost-below node nothing nothing (nothing-below nothing) (left_at x line w.at) most (omega (arith, short)), cheap);
+      cheap = omega (
+        arith,
+        ticks-weigh (by_left x line nothing) marks,
+        cost-light x line node stay nothing (nothing-below nothing) w at,
+        cost-below node nothing nothing (nothing-below nothing) (left_at x line w.at) most (omega (arith, short)),
+        cheap,
+      );
       seen = stay-looks x line node stay w at;
     }
 

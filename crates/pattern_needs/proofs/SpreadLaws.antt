@@ -154,9 +154,16 @@ spread-room sets ignore most node room ways cost is many ticks x l b o hs hi few
     let flat : Cost = λ _. b + o in
     let same : room_total room flat most ≡ cost_of node flat most = ap (λ (t : Cost → Cost). t flat most) is.same in
     let all : ways * (b + o) ≡ grown room.ways.by single most * (b + o) = ap (λ n. n * (b + o)) many in
-    let light : weight x b o a ≤ cost + ways * (b + o) = omega (arith, weight-kinds x b o (by_left x l flat) a (λ v. either-kind b o (before_blank x v.at)),
-    cost-light x l node is.stay flat (same-below (b + o) (b + o) (omega arith)) w h,
-    cost-below node flat flat (same-below (b + o) (b + o) (omega arith)) (left_at x l w.at) most (omega (arith, few)), same, grown-flat room.ways.by (b + o) most, all, ticks) in
+    let light : weight x b o a ≤ cost + ways * (b + o) = omega (
+      arith,
+      weight-kinds x b o (by_left x l flat) a (λ v. either-kind b o (before_blank x v.at)),
+      cost-light x l node is.stay flat (same-below (b + o) (b + o) (omega arith)) w h,
+      cost-below node flat flat (same-below (b + o) (b + o) (omega arith)) (left_at x l w.at) most (omega (arith, few)),
+      same,
+      grown-flat room.ways.by (b + o) most,
+      all,
+      ticks,
+    ) in
     lighter (record { here = stay-ways x l node is.stay w h; light = light; seen = stay-looks x l node is.stay w h }) (by (before_blank x w.at))
   where
     by : (k : Bool) → cost + ways * (b + o) ≤ total (from_kind (record { blank = anywhere ways cost; other = anywhere ways cost }) k) b o

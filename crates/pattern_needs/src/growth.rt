@@ -25,14 +25,18 @@ impl Growth {
     pub(crate) fn one() -> Growth
         ensures { (f : Cost) (left : ℕ) → grown result.by f left ≡ f left }
     {
-        Growth { by: [1, 0, 0, 0, 0, 0, 0, 0] }
+        Growth {
+            by: [1, 0, 0, 0, 0, 0, 0, 0],
+        }
     }
 
     /// One here, and one for each character that is left.
     pub(crate) fn each() -> Growth
         ensures { (f : Cost) (left : ℕ) → grown result.by f left ≡ f left + fewer f left }
     {
-        Growth { by: [1, 1, 0, 0, 0, 0, 0, 0] }
+        Growth {
+            by: [1, 1, 0, 0, 0, 0, 0, 0],
+        }
     }
 
     /// Whether it is one, however many are left.
@@ -85,7 +89,11 @@ fn next(first: u64, all: &Growth, ways: u64, more: &Growth) -> Option<Growth>
         by[k] = before.checked_add(ways.checked_mul(more.by[k])?)?;
         before = all.by[k];
     }
-    if before == 0 { Some(Growth { by }) } else { None }
+    if before == 0 {
+        Some(Growth { by })
+    } else {
+        None
+    }
 }
 
 /// In how many ways one more can be chosen of so many, by those for so many as are chosen.

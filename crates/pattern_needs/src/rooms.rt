@@ -7,7 +7,9 @@ ghost use Rattle.pattern_needs.specs.Growths.{IsRoomBehind, IsRoomEither, IsRoom
 ghost use Rattle.pattern_needs.specs.LineCosts.{counted};
 
 use crate::atoms::is_lined_atom;
-use crate::room::{Room, endless_room, first_room, limited_room, or_room, single, still, then_room};
+use crate::room::{
+    Room, endless_room, first_room, limited_room, or_room, single, still, then_room,
+};
 use vim_pattern::Node;
 
 /// Whether each turn of a count is counted.

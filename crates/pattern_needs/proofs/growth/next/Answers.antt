@@ -1,4 +1,4 @@
-use Rattle.std.proofs.Common.{◌≡◌, ◌∙◌, ◌+◌, suc, arith, length, get_or, ◌∷◌, sym, subst}
+use Rattle.std.proofs.Common.{◌≡◌, ◌∙◌, ◌+◌, arith, length, get_or, ◌∷◌, sym, subst}
 use Rattle.std.proofs.Math.ListN.{length-set}
 use Rattle.pattern_needs.proofs.GrowthLaws.{behind-first, each-more, next-grown}
 use Rattle.pattern_needs.proofs.growth.next.Goals as goal
@@ -12,7 +12,7 @@ loop-k-preserved c =
       sized = length-set by k c.in_ok-by.field-0 ∙ sized;
       before = behind-first c.args.all.now.by c.args.first k (k + 1) (omega arith);
       each = each-more by c.args.all.now.by c.args.more.now.by c.args.first c.args.ways k c.in_ok-by.field-0 c.loop-k.before (omega (arith, sized)) c.loop-k.invariant.before c.loop-k.invariant.each
-      (omega (arith, c.in_ok-by.ensures, c.in_ok-checked_mul.ensures));
+          (omega (arith, c.in_ok-by.ensures, c.in_ok-checked_mul.ensures));
     }
 
 pub returns-then-before-eq0 : goal.returns-then-before-eq0

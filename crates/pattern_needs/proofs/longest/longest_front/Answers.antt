@@ -1,5 +1,4 @@
-use Rattle.std.proofs.Common.{◌≡◌, ◌≤◌, ℕ, IfSome, true, ap, arith, subst}
-use Rattle.std.specs.Prelude.{Option}
+use Rattle.std.proofs.Common.{◌≡◌, ℕ, true, ap, subst}
 use Rattle.vim_pattern.specs.Shape.{Shape}
 use Rattle.vim_pattern.specs.Tree.{PatternTree}
 use Rattle.pattern_needs.specs.Fronts.{front_tree, front_upto}

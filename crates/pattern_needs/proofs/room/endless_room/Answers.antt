@@ -1,7 +1,7 @@
-use Rattle.std.proofs.Common.{◌≡◌, ◌+◌, ◌∙◌, ℕ, true, false, refl, ap, arith}
-use Rattle.std.specs.Prelude.{nat_eq, if◌then◌else◌}
+use Rattle.std.proofs.Common.{◌∙◌, refl, ap, arith}
+use Rattle.std.specs.Prelude.{nat_eq}
 use Rattle.std.proofs.lemmas.Bool.Decides.{nat_tests}
-use Rattle.pattern_needs.specs.Growths.{fewer, grown, once}
+use Rattle.pattern_needs.specs.Growths.{grown, once}
 use Rattle.pattern_needs.specs.declared.growth.Growth.{Growth}
 use Rattle.pattern_needs.proofs.GrowthLaws.{if-other, if-zero, unlimited-total}
 use Rattle.pattern_needs.proofs.room.endless_room.Goals as goal

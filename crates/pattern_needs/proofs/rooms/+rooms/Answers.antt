@@ -1,5 +1,5 @@
 use Rattle.std.proofs.Common.{◌≡◌, ◌≤◌, ◌+◌, ◌∙◌, ℕ, true, ap, refl, sym, arith, subst}
-use Rattle.vim_pattern.specs.Shape.{Shape, bare}
+use Rattle.vim_pattern.specs.Shape.{bare}
 use Rattle.vim_pattern.specs.Parted.{node_count}
 use Rattle.vim_pattern.specs.declared.node.Node.{Node}
 use Rattle.pattern_needs.specs.Growths.{IsRoomBehind, IsRoomEither, IsRoomOf, total}

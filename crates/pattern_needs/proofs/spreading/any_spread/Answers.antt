@@ -1,4 +1,3 @@
-use Rattle.std.proofs.Common.{arith}
 use Rattle.vim_pattern.specs.Shape.{bare}
 use Rattle.pattern_needs.specs.Spreads.{IsSpread, anywhere}
 use Rattle.pattern_needs.proofs.SpreadLaws.{spread-room, with-both}
