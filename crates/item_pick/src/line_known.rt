@@ -54,6 +54,7 @@ impl LineKnown {
     }
 
     /// Notes that an item starts nowhere, if the line lacks what it needs, and tells whether it does.
+    #[inline(always)]
     pub(crate) fn note_lacking(&mut self, wanted: &Wanted) -> Result<bool, Memory>
         ensures stands { (parts : PartsOf) (budget : ℕ) (t : Text) (l : ℕ) →
             IsWanted (rules_in parts budget) wanted.now →

@@ -59,15 +59,21 @@ impl Asked<'_> {
 }
 
 impl Tables {
+    /// Whether it was found out already what an item needs.
+    #[inline(always)]
+    fn is_past_due(&self, id: ItemId) -> bool {
+        match self.times.get(id.0 as usize) {
+            Some(times) => times > OFTEN,
+            None => false,
+        }
+    }
+
     /// Whether it was asked so many times what an item needs that it pays to find it out: so once.
     fn is_due(&mut self, id: ItemId) -> Result<bool, Memory>
         ensures { (r : Rules) → AreTablesOf r self.old → AreTablesOf r self.new }
     {
         let times = self.times.get(id.0 as usize).unwrap_or(0);
-        if times > OFTEN {
-            return Ok(false);
-        }
-        self.times.put(id.0 as usize, times + 1)?;
+        self.times.put(id.0 as usize, times.saturating_add(1))?;
         Ok(times == OFTEN)
     }
 
@@ -82,6 +88,7 @@ impl Tables {
 
 impl PickMemory {
     /// Whether an item is known to start nowhere in the line, also by what it needs, which is kept.
+    #[inline(always)]
     pub(crate) fn starts_nowhere(&mut self, asked: &Asked, id: ItemId) -> Result<bool, Memory>
         requires item { IsItem (rules_by asked.now) id }
         ensures stands { (t : Text) (l : ℕ) →
@@ -94,6 +101,23 @@ impl PickMemory {
         if self.line.is_barren(id.0) {
             return Ok(true);
         }
+        if self.tables.is_past_due(id) {
+            return Ok(false);
+        }
+        self.lacks_need(asked, id)
+    }
+
+    /// Whether the line is found to lack what an item needs, once it pays to find out what that is.
+    #[inline(never)]
+    fn lacks_need(&mut self, asked: &Asked, id: ItemId) -> Result<bool, Memory>
+        requires item { IsItem (rules_by asked.now) id }
+        ensures stands { (t : Text) (l : ℕ) →
+            MemoryStands (rules_by asked.now) t l self.old →
+            MemoryStands (rules_by asked.now) t l self.new }
+        ensures nowhere { IfOk result (λ nowhere. IsTrue nowhere → (t : Text) (l : ℕ) →
+            MemoryStands (rules_by asked.now) t l self.old →
+            IsBarren (rules_by asked.now) t l id) }
+    {
         let due = self.tables.is_due(id)?;
         if !due {
             return Ok(false);
