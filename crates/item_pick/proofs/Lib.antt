@@ -1,5 +1,6 @@
 pub mod Common
 pub mod BehindLaws
+pub mod FirstLaws
 pub mod FoundLaws
 pub mod FutileLaws
 pub mod KeptLaws

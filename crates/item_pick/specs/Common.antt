@@ -21,7 +21,7 @@ pub use Rattle.syntax_set.specs.Soundness.{AreSound}
 pub use Rattle.syntax_set.specs.declared.added_item.AddedItem.{AddedItem}
 pub use Rattle.item_pick.specs.Attempts.{EndsBelow}
 pub use Rattle.item_pick.specs.Columns.{Holds, may_start_at}
-pub use Rattle.item_pick.specs.Firsts.{AreFirstsOf, IsReachOf, IsToldOfFirst, first_asked, idles_before, is_asked, sits_by}
+pub use Rattle.item_pick.specs.Firsts.{AreFirstsOf, IsAnchored, IsReachOf, IsToldOfFirst, first_asked, idles_before, is_asked, sits_by}
 pub use Rattle.item_pick.specs.Marks.{AreMarks}
 pub use Rattle.item_pick.specs.PartsSeen.{rules_by, rules_in}
 pub use Rattle.item_pick.specs.Picks.{IsPicked}
@@ -31,7 +31,7 @@ pub use Rattle.item_pick.specs.QuietUntil.{IsQuietUntil}
 pub use Rattle.item_pick.specs.Runs.{Covers, IsWhole, TellsOf}
 pub use Rattle.item_pick.specs.Screens.{HoldsLine, HoldsLines, IsLater, IsSettled, IsVainFrom}
 pub use Rattle.item_pick.specs.Settled.{ArePassed, AreSettled, item_wanders, wanders}
-pub use Rattle.item_pick.specs.Standing.{ChoiceFits, IsFirstOf, IsItem, IsKeyword, IsOwn, IsPlace, IsStartOf, has_one_start, is_clear}
+pub use Rattle.item_pick.specs.Standing.{ChoiceFits, IsFirst, IsFirstOf, IsItem, IsKeyword, IsOwn, IsPlace, IsStartOf, has_one_start, is_clear}
 pub use Rattle.item_pick.specs.Started.{IsOutcomeThere, IsStartThere, admits, here_at, here_of, is_free, seen_pick, seen_start, standing_at, start_at, start_if_free, start_pattern, starts_of}
 pub use Rattle.item_pick.specs.Tables.{AreAdmitted, AreKnown, AreTablesOf, HasThose, IsBarren, IsEnough, IsLastFree, IsListed, IsMissed, IsNeededBy, IsNextAt, IsNextIn, IsNumberAt, IsWanted, Lacks, LineStands, ListStands, MemoryStands, RisesTo, RowStands, RunStands, StaysOut, TablesStand, is_screened, stays_out}
 pub use Rattle.item_pick.specs.Told.{EndsBefore, IsToldAfter, IsToldAs}

@@ -70,6 +70,18 @@ impl Firsts {
         }
     }
 
+    /// Whether it is known of an item that the answer is yes.
+    #[inline(always)]
+    pub(crate) fn is_told(&self, question: Question, number: u16, item: ItemId) -> bool
+        ensures { IsTrue result → (r : Rules) → AreFirstsOf r self.now →
+            first_asked (is_asked question) r number item.0 ≡ true }
+    {
+        match self.known(question, number, item) {
+            Some(yes) => yes,
+            None => false,
+        }
+    }
+
     /// Whether an item is known not to start one column before one whose key has a number.
     #[inline(always)]
     pub(crate) fn is_idle(&self, id: u32, number: u16) -> bool
@@ -134,6 +146,7 @@ impl Firsts {
     }
 
     /// How far attempts by the first start pattern of an item may lead. The answer is kept.
+    #[inline(always)]
     pub(crate) fn reach(&mut self, asked: &Asked, by: &StartBy<'_>) -> Result<Reach, Memory>
         requires first { IsFirstOf (rules_by asked.now) by.now }
         requires stands { AreFirstsOf (rules_by asked.now) self.old }
@@ -141,9 +154,19 @@ impl Firsts {
         ensures reach { IfOk result (IsReachOf (rules_by asked.now) by.now.item) }
     {
         match self.reaches.get(by.item.0 as usize) {
-            Some(reach) => return Ok(reach),
-            None => {}
+            Some(reach) => Ok(reach),
+            None => self.find_reach(asked, by),
         }
+    }
+
+    /// The same, where it wasn't answered yet.
+    #[inline(never)]
+    fn find_reach(&mut self, asked: &Asked, by: &StartBy<'_>) -> Result<Reach, Memory>
+        requires first { IsFirstOf (rules_by asked.now) by.now }
+        requires stands { AreFirstsOf (rules_by asked.now) self.old }
+        ensures stands { AreFirstsOf (rules_by asked.now) self.new }
+        ensures reach { IfOk result (IsReachOf (rules_by asked.now) by.now.item) }
+    {
         let ignore = item_of(asked.parts.items, by.item).ignore;
         let tree = &by.pattern.tree;
         let reach = Reach {

@@ -150,15 +150,12 @@ impl LineKnown {
         }
     }
 
-    /// Keeps a run of a line at the place of its item, unless it is empty.
+    /// Keeps a run of a line at the place of its item.
     pub(crate) fn keep(&mut self, run: Run, line: usize) -> Result<(), Memory>
         requires { line < 2 ^ 63 }
         ensures { (r : Rules) (t : Text) → RunStands r t line run →
             LineStands r t line self.old → LineStands r t line self.new }
     {
-        if run.from == run.to {
-            return Ok(());
-        }
         if run.is_whole(line, self.numbers.len()) {
             return self.barren.put(run.item.0 as usize);
         }

@@ -98,6 +98,9 @@ impl PickMemory {
             .tables
             .firsts
             .first_open(&self.line, asked, by, run.to)?;
+        if to == run.to {
+            return Ok(to);
+        }
         self.line.keep(Run { to, ..run }, picking.at.line)?;
         Ok(to)
     }

@@ -1,6 +1,6 @@
 //! Columns from which an item isn't matched by its first start pattern, by what stands there.
-ghost use Rattle.std.specs.Prelude.{◌<◌, ◌≤◌, ◌+◌, ℕ, List, IfOk, IfSome, IsTrue};
-ghost use Rattle.item_pick.specs.Common.{Text, line_at, IsFirstOf, AreFirstsOf, IsMissed, IsNumberAt, LineStands, rules_by};
+ghost use Rattle.std.specs.Prelude.{◌≡◌, ◌<◌, ◌≤◌, ◌+◌, ℕ, List, true, IfOk, IfSome, IsTrue};
+ghost use Rattle.item_pick.specs.Common.{Text, line_at, Rules, IsAnchored, IsFirst, IsFirstOf, AreFirstsOf, IsMissed, IsNumberAt, LineStands, rules_by};
 
 use crate::asked::Asked;
 use crate::firsts::{Firsts, Question};
@@ -34,6 +34,89 @@ impl Firsts {
         }
     }
 
+    /// The same, where it is known by the key one behind.
+    #[inline(always)]
+    fn is_told_before(&self, by: &StartBy<'_>, col: usize, behind: u16) -> bool
+        ensures { IsTrue result → (r : Rules) (line : List ℕ) →
+            AreFirstsOf r self.now → IsFirst r by.now.item by.now.pattern.now →
+            IsNumberAt r line (col + 1) behind →
+            IsMissed r line by.now.item by.now.pattern.now col }
+    {
+        if !self.is_told(Question::Before, behind, by.item) {
+            return false;
+        }
+        takes_first(&by.pattern.tree, col > 0)
+    }
+
+    /// The same, where it is known by what stands at the column or one column behind.
+    #[inline(always)]
+    fn is_told_missed(&self, line: &LineKnown, by: &StartBy<'_>, col: usize) -> bool
+        ensures { IsTrue result → (r : Rules) (t : Text) (l : ℕ) →
+            AreFirstsOf r self.now → IsFirst r by.now.item by.now.pattern.now →
+            LineStands r t l line.now →
+            IsMissed r (line_at t l) by.now.item by.now.pattern.now col }
+    {
+        let Some(number) = line.number_at(col) else {
+            return false;
+        };
+        if self.is_told(Question::Here, number, by.item) {
+            return true;
+        }
+        match line.number_after(col) {
+            Some(behind) => self.is_told_before(by, col, behind),
+            None => false,
+        }
+    }
+
+    /// The first column from one on of which that isn't known. An item that is anchored matches from a
+    /// line's first column alone.
+    #[inline(always)]
+    fn told_until(&self, line: &LineKnown, by: &StartBy<'_>, anchored: bool, from: usize) -> usize
+        ensures from { from ≤ result }
+        ensures missed { (r : Rules) (t : Text) (l : ℕ) →
+            AreFirstsOf r self.now → IsFirst r by.now.item by.now.pattern.now →
+            (anchored ≡ true → IsAnchored r by.now.item) → LineStands r t l line.now →
+            (c : ℕ) → from ≤ c → c < result →
+            IsMissed r (line_at t l) by.now.item by.now.pattern.now c }
+    {
+        let end = line.numbers.len();
+        for col in from..end {
+            if anchored && col > 0 {
+                return end;
+            }
+            if !self.is_told_missed(line, by, col) {
+                return col;
+            }
+        }
+        from.max(end)
+    }
+
+    /// Whether no match by an item's first start pattern begins at a column, by what stands there or
+    /// one column behind. What is asked is kept.
+    #[inline(never)]
+    fn is_missed_at(
+        &mut self,
+        line: &LineKnown,
+        asked: &Asked,
+        by: &StartBy<'_>,
+        col: usize,
+    ) -> Result<bool, Memory>
+        requires first { IsFirstOf (rules_by asked.now) by.now }
+        requires stands { AreFirstsOf (rules_by asked.now) self.old }
+        ensures stands { AreFirstsOf (rules_by asked.now) self.new }
+        ensures missed { IfOk result (λ missed. IsTrue missed → (t : Text) (l : ℕ) →
+            LineStands (rules_by asked.now) t l line.now →
+            IsMissed (rules_by asked.now) (line_at t l) by.now.item by.now.pattern.now col) }
+    {
+        let Some(number) = line.number_at(col) else {
+            return Ok(false);
+        };
+        if self.ask(asked, by, Question::Here, number)? {
+            return Ok(true);
+        }
+        self.is_missed_by(asked, by, col, line.number_after(col))
+    }
+
     /// The first column from one on from which an item may match by its first start pattern, by what
     /// stands there or one column behind.
     pub(crate) fn first_open(
@@ -52,22 +135,14 @@ impl Firsts {
             (c : ℕ) → from ≤ c → c < to →
             IsMissed (rules_by asked.now) (line_at t l) by.now.item by.now.pattern.now c) }
     {
-        let end = line.numbers.len();
-        let reach = self.reach(asked, by)?;
-        for col in from..end {
-            if reach.anchored && col > 0 {
-                return Ok(from.max(end));
-            }
-            let Some(number) = line.number_at(col) else {
-                return Ok(col);
-            };
-            if self.ask(asked, by, Question::Here, number)? {
-                continue;
-            }
-            if !self.is_missed_by(asked, by, col, line.number_after(col))? {
+        let anchored = self.reach(asked, by)?.anchored;
+        let mut col = self.told_until(line, by, anchored, from);
+        'columns: while col < line.numbers.len() {
+            if !self.is_missed_at(line, asked, by, col)? {
                 return Ok(col);
             }
+            col = self.told_until(line, by, anchored, col + 1);
         }
-        Ok(from.max(end))
+        Ok(col)
     }
 }

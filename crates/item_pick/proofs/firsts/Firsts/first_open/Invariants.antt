@@ -1,11 +1,16 @@
-use Rattle.item_pick.proofs.Common.{◌<◌, ◌≤◌, ℕ, Text, line_at, rules_in, AreFirstsOf, IsMissed, LineStands}
+use Rattle.item_pick.proofs.Common.{◌≡◌, ◌<◌, ◌≤◌, ◌-◌, ℕ, true, length, Text, line_at, rules_in, AreFirstsOf, IsAnchored, IsMissed, LineStands}
 use Rattle.item_pick.proofs.firsts.Firsts.first_open.Given as goal
 
 -- the columns before are missed
-abbrev pub invariant-loop-col : goal.invariant-loop-col
-invariant-loop-col i =
+abbrev pub invariant-columns : goal.invariant-columns
+invariant-columns i =
     let r = rules_in i.asked.parts.now i.asked.budget in
     record {
       stands : AreFirstsOf r i.self;
+      anchored : i.anchored ≡ true → IsAnchored r i.by.item;
+      from : i.from ≤ i.col;
       missed : (t : Text) (l : ℕ) → LineStands r t l i.line → (c : ℕ) → i.from ≤ c → c < i.col → IsMissed r (line_at t l) i.by.item i.by.pattern.now c;
     }
+
+abbrev pub decreases-columns : goal.decreases-columns
+decreases-columns i = length i.line.numbers.items - i.col

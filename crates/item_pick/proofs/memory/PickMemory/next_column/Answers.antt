@@ -47,6 +47,20 @@ returns-clause-next g c =
     c.run_at-run.ensures.tells.same (c.run_at-run.ensures.stands t l entered.line) (c.in_ok-to.ensures.missed t l entered.line) in
     later_by r t p.at c.args.by.now.item c.args.by.now.pattern.now first run c.args.col c.run_at-run.ensures.tells c.in_ok-to.to c.in_ok-to.ensures.from c.args.looked c.requires.may.held (c.if-not-holds.ensures refl) longer
 
+pub returns-then-to-run-clause-next : goal.returns-then-to-run-clause-next
+returns-then-to-run-clause-next g c =
+    let p = c.args.picking.now in
+    let s = p.asked.now in
+    let r = rules_by s in
+    let t = g.T.Lines.lines p.lines.now in
+    let l = p.at.line in
+    let first = c.requires.start.first (omega (arith, c.if-by-ne0.false)) in
+    let entered = c.starts_nowhere.ensures.stands t l c.requires.may.ask.memory in
+    let run = c.run_at-run.result in
+    let longer = run_goes_on r (futile_by s.parts.now.sets.now s.budget) (futile_after s.parts.now.sets.now s.budget) t l c.args.by.now.item c.args.by.now.pattern.now first run c.in_ok-to.to
+    c.run_at-run.ensures.tells.same (c.run_at-run.ensures.stands t l entered.line) (c.in_ok-to.ensures.missed t l entered.line) in
+    later_by r t p.at c.args.by.now.item c.args.by.now.pattern.now first run c.args.col c.run_at-run.ensures.tells c.in_ok-to.to c.in_ok-to.ensures.from c.args.looked c.requires.may.held (c.if-not-holds.ensures refl) longer
+
 pub returns-then-branch-clause-next : goal.returns-then-branch-clause-next
 returns-then-branch-clause-next g c =
     let p = c.args.picking.now in
