@@ -1,4 +1,5 @@
 pub mod Common
+pub mod BareLaws
 pub mod BehindLaws
 pub mod FirstLaws
 pub mod FoundLaws

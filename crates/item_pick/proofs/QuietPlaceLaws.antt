@@ -1,8 +1,7 @@
 -- Places at which nothing starts.
-use Rattle.item_pick.proofs.Common.{◌≡◌, ◌∙◌, refl, ap, arith, ℕ, inl, Bool, false, List, [], ◌∷◌, length, Option, Some, None, option_map, take, ◌-◌, true, nat_tests, Place, ItemId, Looked, Text, line_at, begins_word, Sets, IsNumberAt, last_of, key_numbered, zero, suc, slice_get, subst, Frame, Done, looked_first, done, Rules, place_at, is_allowed, keyword_at, or_nothing, picked, goes_on, Choice, IsNextItem, item_numbered, IsQuietAt, admits, here_at, is_free, start_if_free, IsNextAt, drop, find, Nothing, keyword_to, NoItem}
+use Rattle.item_pick.proofs.Common.{◌≡◌, ◌∙◌, refl, ap, arith, ℕ, Bool, false, List, [], length, Option, Some, None, option_map, ◌-◌, true, nat_tests, Place, ItemId, Looked, Text, line_at, begins_word, Sets, IsNumberAt, last_of, key_numbered, zero, suc, slice_get, subst, Frame, Done, looked_first, done, Rules, place_at, is_allowed, keyword_at, or_nothing, picked, goes_on, Choice, IsNextItem, IsQuietAt, admits, here_at, is_free, start_if_free, IsNextAt, Nothing, keyword_to}
 use Rattle.std.specs.Prelude.{Result, Ok, Err, IfOk, IsTrue, ◌==◌}
 use Rattle.syn_base.specs.declared.want_of_memory.Memory.{Memory}
-use Rattle.keyword_table.specs.Candidates.{candidates}
 use Rattle.keyword_table.specs.Words.{has_at, word_end}
 use Rattle.std.specs.Option.{option_map_or}
 use Rattle.std.proofs.Math.Bool.{and-false}
@@ -37,15 +36,6 @@ pub no_keyword : (r : Rules) (test : ItemId → Bool) (line : List ℕ) (c numbe
 no_keyword r test line c number key after =
     ap (keyword_to r test line c) (no_end line c r.sets.keyword (none_begins r.sets line c (subst (λ (k : Key). k.last ≡ last.Keyword) key.1 after)))
 
-find_none : (test : ItemId → Bool) → ((i : ItemId) → test i ≡ false) → (xs : List ItemId) → find test xs ≡ None
-find_none test none [] = refl
-find_none test none (x ∷ xs) = rw (none x) (find_none test none xs)
-
--- where nothing is admitted there is none either
-none_admitted : (r : Rules) (test : ItemId → Bool) → ((i : ItemId) → test i ≡ false) → (line : List ℕ) (c : ℕ) (end : Option ℕ) → keyword_to r test line c end ≡ None
-none_admitted r test none line c None = refl
-none_admitted r test none line c (Some end) = ap (option_map (λ (i : ItemId). record { item = i; end = end })) (find_none test none (candidates r.keywords (take (end - c) (drop c line))))
-
 module _ (r : Rules) (t : Text) (p : Place) (floor : ℕ) (k : Looked) (choice : Choice) where
   -- without a keyword, where all items may be passed over
   quiet_by : keyword_at r (is_free r [] choice) (line_at t p.line) p.col ≡ None →
@@ -55,19 +45,14 @@ module _ (r : Rules) (t : Text) (p : Place) (floor : ℕ) (k : Looked) (choice :
       ap (looked_first (Some k)) (no_word r t p floor [] choice word)
       ∙ items_skip (start_if_free r t p floor [] choice) k (length r.items) 0 (length r.items) (omega arith) e.idle
 
-never_free : (r : Rules) (i : ItemId) → is_free r [] NoItem i ≡ false
-never_free r i = refl
-
--- nothing starts where nothing is allowed
-pub none_starts : (r : Rules) (t : Text) (p : Place) (floor : ℕ) (k : Looked) → IsQuietAt r t NoItem floor k p
-none_starts r t p floor k =
-    quiet_by r t p floor k NoItem (none_admitted r (is_free r [] NoItem) (never_free r) (line_at t p.line) p.col (word_end (line_at t p.line) p.col r.sets.keyword))
-    (omega arith, λ j a b. inl (never_free r (item_numbered j)))
+  -- so where no item of the choice is left
+  pub still_quiet : keyword_at r (is_free r [] choice) (line_at t p.line) p.col ≡ None → IsNextAt r t p floor k [] choice (length r.items) 0 → IsQuietAt r t choice floor k p
+  still_quiet word next = quiet_by word (next_items r t p floor [] choice k (length r.items) 0 next)
 
 -- nothing starts where no keyword does and no item of the choice is left
 pub row_empty : (r : Rules) (t : Text) (p : Place) (floor : ℕ) (k : Looked) (choice : Choice) → IsNextAt r t p floor k [] choice (length r.items) 0 → (none : Result Bool Memory) →
     IfOk none (λ none. IsTrue none → keyword_at r (is_free r [] choice) (line_at t p.line) p.col ≡ None) → IfOk none (λ none. IsTrue none → IsQuietAt r t choice floor k p)
-row_empty r t p floor k choice next (Ok b) word = λ e. quiet_by r t p floor k choice (word e) (next_items r t p floor [] choice k (length r.items) 0 next)
+row_empty r t p floor k choice next (Ok b) word = λ e. still_quiet r t p floor k choice (word e) next
 row_empty r t p floor k choice next (Err memory) word = tt
 
 -- so nothing is picked

@@ -1,5 +1,5 @@
 -- Which items of a choice may start at a column, by the key of the column.
-use Rattle.std.specs.Prelude.{◌≡◌, ◌<◌, ◌≤◌, ◌+◌, ◌-◌, ◌⊎◌, ℕ, Bool, suc, true, not, ◌&&◌, false, get_or, nat_lt, is_none, List, length, slice_index, Some, IfSome}
+use Rattle.std.specs.Prelude.{◌≡◌, ◌<◌, ◌≤◌, ◌+◌, ◌-◌, ◌⊎◌, ℕ, Bool, suc, true, not, ◌&&◌, false, get_or, nat_lt, is_none, List, [], length, slice_index, Some, IfSome}
 use Rattle.std.specs.List.{All, list_all}
 use Rattle.std.specs.List.Sorted.{IsNonDecreasing}
 use Rattle.char_class.specs.declared.sets.Sets.{Sets}
@@ -75,6 +75,10 @@ abbrev pub ListStands : Rules → Choice → ℕ → List ℕ → Type 0
 ListStands r choice number list =
     (j : ℕ) → j < length r.items → admits r choice (item_numbered j) ≡ true → Lacks list j →
     StaysOut r number (item_numbered j)
+
+-- no word starts an item of a choice, and no item of it starts by a pattern
+abbrev pub IsBare : Rules → Choice → Type 0
+IsBare r choice = IsWordless r choice × ListStands r choice 777 []
 
 -- a list has a number at a place
 abbrev pub IsListed : List ℕ → ℕ → Type 0

@@ -13,7 +13,31 @@ use syn_base::{Lines, Looked};
 
 impl<T: Lines> Picking<'_, T> {
     /// A keyword of a choice whose word begins here, or else the first match or region.
+    #[inline(always)]
     fn start_among(&self, choice: Choice, looked: &mut Looked, memory: &mut PickMemory) -> Found
+        requires choice { ChoiceFits (rules_by self.now.asked.now) choice }
+        requires may { MayPick T.lines self.now looked.old memory.old }
+        ensures told { IsToldAs (seen_start (rules_by self.now.asked.now).items) looked.old result
+            looked.new (start_among (here_of T.lines self.now) self.now.at.col
+            (standing_at [] None self.now.floor (reverse self.now.tried.now))
+            (admits (rules_by self.now.asked.now) choice)) }
+        ensures there { IfOk result (IsStartThere (rules_by self.now.asked.now).items) }
+        ensures may { MayAsk T.lines self.now memory.new }
+    {
+        if memory.tables.is_bare(choice) {
+            return Ok(None);
+        }
+        self.start_among_some(choice, looked, memory)
+    }
+
+    /// The same of a choice that may have an item.
+    #[inline(never)]
+    fn start_among_some(
+        &self,
+        choice: Choice,
+        looked: &mut Looked,
+        memory: &mut PickMemory,
+    ) -> Found
         requires choice { ChoiceFits (rules_by self.now.asked.now) choice }
         requires may { MayPick T.lines self.now looked.old memory.old }
         ensures told { IsToldAs (seen_start (rules_by self.now.asked.now).items) looked.old result

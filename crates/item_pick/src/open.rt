@@ -57,6 +57,7 @@ impl Tables {
     }
 
     /// The number of items that are left by a row, if it was made.
+    #[inline(always)]
     fn left_by(
         &self,
         asked: &Asked,
@@ -106,9 +107,35 @@ impl Tables {
             (reverse search.now.tried.now) choice left) }
     {
         match self.left_by(asked, choice, number, search, left) {
-            Some(next) => return Ok(next),
-            None => {}
+            Some(next) => Ok(next),
+            None => self.left_in_new(asked, choice, number, search, left),
         }
+    }
+
+    /// The same, where the row wasn't made yet.
+    #[inline(never)]
+    fn left_in_new(
+        &mut self,
+        asked: &Asked,
+        choice: Choice,
+        number: u16,
+        search: &Search<'_>,
+        left: usize,
+    ) -> Result<usize, Memory>
+        requires choice { ChoiceFits (rules_by asked.now) choice }
+        requires stands { AreTablesOf (rules_by asked.now) self.old }
+        requires items { left ≤ length asked.now.parts.now.items.now }
+        ensures stands { AreTablesOf (rules_by asked.now) self.new }
+        ensures free { IfOk result
+            (IsLastFree (rules_by asked.now) (reverse search.now.tried.now) choice) }
+        ensures next { (t : Text) (l : ℕ) →
+            LineStands (rules_by asked.now) t l search.now.line.now →
+            IsNumberAt (rules_by asked.now) (line_at t l) search.now.at
+            number → HoldsLine search.now.looked l →
+            IfOk result (IsNextAt (rules_by asked.now) t
+            (place_at l search.now.at) search.now.floor search.now.looked
+            (reverse search.now.tried.now) choice left) }
+    {
         self.make(asked, choice, number)?;
         match self.left_by(asked, choice, number, search, left) {
             Some(next) => Ok(next),

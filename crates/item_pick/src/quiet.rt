@@ -1,6 +1,7 @@
 //! Columns at which nothing starts, by what stands there.
-ghost use Rattle.std.specs.Prelude.{◌≡◌, ◌<◌, ℕ, [], length, reverse, IfOk, IsTrue, None, true};
+ghost use Rattle.std.specs.Prelude.{◌≡◌, ◌<◌, ℕ, List, [], length, reverse, IfOk, IsTrue, None, true};
 ghost use Rattle.item_pick.specs.Common.{Text, line_at, Rules, place_at, keyword_at, is_free, Fits, IsQuietAt, IsQuietUntil, HoldsLine, ArePassed, AreSettled, ChoiceFits, IsNextAt, IsNumberAt, IsPlace, IsSound, IsWordless, MemoryStands, MayAsk, rules_by, MayBeAsked, MayPick};
+ghost use Rattle.item_pick.specs.declared.choice.Choice.{Choice as ChoiceOf};
 ghost use Rattle.pattern_screens.specs.Keys.{key_numbered};
 ghost use Rattle.pattern_screens.specs.declared.key.Last.TheVariants as last;
 
@@ -40,31 +41,60 @@ impl PickMemory {
 }
 
 impl<T: Lines> Picking<'_, T> {
-    /// Whether it is known that no item of a choice is left at a column whose key has a number. Up to
-    /// `settled`, and without it, those that wander don't start.
+    /// Whether it is known at once that no item of a choice is left at a column whose key has a number.
+    /// Up to `settled`, and without it, those that wander don't start.
+    #[inline(always)]
+    fn is_still_at(
+        &self,
+        choice: Choice,
+        number: u16,
+        col: usize,
+        _looked: Looked,
+        settled: usize,
+        memory: &PickMemory,
+    ) -> bool
+        requires number { IsNumberAt (rules_by self.now.asked.now)
+            (line_at (T.lines self.now.lines.now) self.now.at.line) col number }
+        requires settled { col < settled → ArePassed (rules_by self.now.asked.now)
+            (T.lines self.now.lines.now) self.now.at.line choice self.now.floor _looked true col }
+        requires may { MayPick T.lines self.now _looked memory.now }
+        ensures { IsTrue result → IsNextAt (rules_by self.now.asked.now) (T.lines self.now.lines.now)
+            (place_at self.now.at.line col) self.now.floor _looked [] choice
+            (length (rules_by self.now.asked.now).items) 0 }
+    {
+        if settled <= col {
+            return false;
+        }
+        memory
+            .tables
+            .is_still(&memory.line, self.asked, choice, number, col)
+    }
+
+    /// Whether it is known that no item of a choice is left at a column whose key has a number: by the
+    /// row, unless it is told to be so.
     fn no_item_left(
         &self,
         choice: Choice,
         number: u16,
         col: usize,
         looked: Looked,
-        settled: usize,
+        still: bool,
         memory: &mut PickMemory,
     ) -> Result<bool, Memory>
         requires none_tried { self.now.tried.now ≡ [] }
         requires choice { ChoiceFits (rules_by self.now.asked.now) choice }
         requires number { IsNumberAt (rules_by self.now.asked.now)
             (line_at (T.lines self.now.lines.now) self.now.at.line) col number }
-        requires settled { col < settled → ArePassed (rules_by self.now.asked.now)
-            (T.lines self.now.lines.now) self.now.at.line choice self.now.floor looked true col }
+        requires still { IsTrue still → IsNextAt (rules_by self.now.asked.now)
+            (T.lines self.now.lines.now) (place_at self.now.at.line col) self.now.floor looked [] choice
+            (length (rules_by self.now.asked.now).items) 0 }
         requires may { MayPick T.lines self.now looked memory.old }
         ensures none { IfOk result (λ none. IsTrue none → IsNextAt (rules_by self.now.asked.now)
             (T.lines self.now.lines.now) (place_at self.now.at.line col) self.now.floor looked [] choice
             (length (rules_by self.now.asked.now).items) 0) }
         ensures may { MayAsk T.lines self.now memory.new }
     {
-        let tables = &mut memory.tables;
-        if col < settled && tables.is_still(&memory.line, self.asked, choice, number, col) {
+        if still {
             return Ok(true);
         }
         let search = Search {
@@ -75,7 +105,9 @@ impl<T: Lines> Picking<'_, T> {
             line: &memory.line,
         };
         let count = self.asked.parts.items.added();
-        let left = tables.left_in(self.asked, choice, number, &search, count)?;
+        let left = memory
+            .tables
+            .left_in(self.asked, choice, number, &search, count)?;
         Ok(left == 0)
     }
 
@@ -100,10 +132,7 @@ impl<T: Lines> Picking<'_, T> {
             (is_free (rules_by self.now.asked.now) [] choice)
             (line_at (T.lines self.now.lines.now) self.now.at.line) col ≡ None) }
     {
-        if wordless {
-            return Ok(true);
-        }
-        if is_after_keyword(number) {
+        if has_no_word(number, wordless) {
             return Ok(true);
         }
         let at = Place {
@@ -114,8 +143,42 @@ impl<T: Lines> Picking<'_, T> {
         Ok(here.keyword(choice)?.is_none())
     }
 
-    /// Whether it is known that no item of a choice is left at a column, and no keyword starts there:
-    /// none does where the choice is told to be wordless.
+    /// Whether it is known that no item of a choice is left at a column whose key has a number, and no
+    /// keyword starts there: none does where the choice is told to be wordless.
+    #[inline(never)]
+    fn is_quiet_by_row(
+        &self,
+        choice: Choice,
+        number: u16,
+        col: usize,
+        looked: Looked,
+        still: bool,
+        wordless: bool,
+        memory: &mut PickMemory,
+    ) -> Result<bool, Memory>
+        requires number { IsNumberAt (rules_by self.now.asked.now)
+            (line_at (T.lines self.now.lines.now) self.now.at.line) col number }
+        requires column { col < length (line_at (T.lines self.now.lines.now) self.now.at.line) }
+        requires none_tried { self.now.tried.now ≡ [] }
+        requires choice { ChoiceFits (rules_by self.now.asked.now) choice }
+        requires still { IsTrue still → IsNextAt (rules_by self.now.asked.now)
+            (T.lines self.now.lines.now) (place_at self.now.at.line col) self.now.floor looked [] choice
+            (length (rules_by self.now.asked.now).items) 0 }
+        requires wordless { IsTrue wordless → IsWordless (rules_by self.now.asked.now) choice }
+        requires may { MayPick T.lines self.now looked memory.old }
+        ensures quiet { IfOk result (λ quiet. IsTrue quiet → IsQuietAt
+            (rules_by self.now.asked.now) (T.lines self.now.lines.now) choice self.now.floor looked
+            (place_at self.now.at.line col)) }
+        ensures may { MayAsk T.lines self.now memory.new }
+    {
+        if !self.no_item_left(choice, number, col, looked, still, memory)? {
+            return Ok(false);
+        }
+        self.no_keyword_starts(choice, number, col, wordless)
+    }
+
+    /// Whether it is known that no item of a choice starts at a column.
+    #[inline(always)]
     fn is_quiet(
         &self,
         choice: Choice,
@@ -137,17 +200,14 @@ impl<T: Lines> Picking<'_, T> {
             (place_at self.now.at.line col)) }
         ensures may { MayAsk T.lines self.now memory.new }
     {
-        match choice {
-            Choice::NoItem => return Ok(true),
-            _ => {}
-        }
         let Some(number) = memory.line.number_at(col) else {
             return Ok(false);
         };
-        if !self.no_item_left(choice, number, col, looked, settled, memory)? {
-            return Ok(false);
+        let still = self.is_still_at(choice, number, col, looked, settled, memory);
+        if still && has_no_word(number, wordless) {
+            return Ok(true);
         }
-        self.no_keyword_starts(choice, number, col, wordless)
+        self.is_quiet_by_row(choice, number, col, looked, still, wordless, memory)
     }
 
     /// Up to which column it is known that no items of a choice start that wander.
@@ -185,6 +245,9 @@ impl<T: Lines> Picking<'_, T> {
         let choice = self.allowed(stack);
         let last = self.last();
         let end = end.min(last).max(self.at.col);
+        if memory.tables.is_bare(choice) {
+            return Ok(end);
+        }
         let settled = self.settled_until(choice, looked, memory);
         let wordless = memory.tables.is_wordless(choice);
         for col in self.at.col..end {
@@ -195,6 +258,20 @@ impl<T: Lines> Picking<'_, T> {
         }
         Ok(end)
     }
+}
+
+/// Whether it is known that no keyword of a choice starts at a column whose key has a number: none does
+/// behind a keyword character, nor where the choice is told to be wordless.
+#[inline(always)]
+fn has_no_word(number: u16, wordless: bool) -> bool
+    ensures { IsTrue result → (r : Rules) (choice : ChoiceOf) (line : List ℕ) (col : ℕ) →
+        (IsTrue wordless → IsWordless r choice) → IsNumberAt r line col number →
+        keyword_at r (is_free r [] choice) line col ≡ None }
+{
+    if wordless {
+        return true;
+    }
+    is_after_keyword(number)
 }
 
 /// Whether a keyword character stands before a column whose key has a number.

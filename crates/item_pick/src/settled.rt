@@ -65,28 +65,44 @@ impl Tables {
         true
     }
 
+    /// Whether all items of a list are known not to start at a column.
+    #[inline(always)]
+    fn are_still(&self, _asked: &Asked, list: &[u32], line: &LineKnown, col: usize) -> bool
+        ensures { IsTrue result → (t : Text) (l : ℕ) →
+            AreKnown (rules_by _asked.now) t l self.now line.now →
+            (floor : ℕ) (looked : LookedOf) → HoldsLine looked l →
+            (k : ℕ) → k < length list.now → IsQuiet (rules_by _asked.now) t (place_at l col) floor
+            looked (item_numbered (get_or list.now k 0)) }
+    {
+        if list.is_empty() {
+            return true;
+        }
+        match line.number_behind(col) {
+            Some(behind) => self.are_idle(list, behind),
+            None => false,
+        }
+    }
+
     /// Whether those items of a choice that don't wander are known not to start at a column whose key
     /// has a number.
+    #[inline(always)]
     pub(crate) fn is_still(
         &self,
         line: &LineKnown,
-        _asked: &Asked,
+        asked: &Asked,
         choice: Choice,
         number: u16,
         col: usize,
     ) -> bool
         ensures { IsTrue result → (t : Text) (l : ℕ) →
-            AreKnown (rules_by _asked.now) t l self.now line.now →
-            IsNumberAt (rules_by _asked.now) (line_at t l) col number →
+            AreKnown (rules_by asked.now) t l self.now line.now →
+            IsNumberAt (rules_by asked.now) (line_at t l) col number →
             (floor : ℕ) (looked : LookedOf) → HoldsLine looked l →
-            ArePassed (rules_by _asked.now) t l choice floor looked false
+            ArePassed (rules_by asked.now) t l choice floor looked false
             col }
     {
-        let Some(row) = self.row(choice, number) else {
-            return false;
-        };
-        match line.number_behind(col) {
-            Some(behind) => self.are_idle(row.resting.as_slice(), behind),
+        match self.row(choice, number) {
+            Some(row) => self.are_still(asked, row.resting.as_slice(), line, col),
             None => false,
         }
     }

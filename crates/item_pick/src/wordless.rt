@@ -1,6 +1,6 @@
 //! Choices of which no word starts an item: there no word is looked up.
 ghost use Rattle.std.specs.Prelude.{◌≡◌, get_or, IsTrue};
-ghost use Rattle.item_pick.specs.Common.{Rules, ChoiceFits, AreTablesOf, AllStartByWord, HasNoKeyword, IsWordless, StartsByWord, rules_by};
+ghost use Rattle.item_pick.specs.Common.{Rules, ChoiceFits, AreTablesOf, AllStartByWord, HasNoKeyword, IsBare, IsWordless, StartsByWord, rules_by};
 ghost use Rattle.keyword_table.specs.declared.table.Definition.{Definition as DefinitionOf};
 
 use crate::asked::Asked;
@@ -98,6 +98,17 @@ impl Tables {
         match self.row(choice, ANY) {
             Some(all) => all.wordless,
             None => false,
+        }
+    }
+
+    /// Whether it is known that no item of a choice starts anywhere.
+    #[inline(always)]
+    pub(crate) fn is_bare(&self, choice: Choice) -> bool
+        ensures { IsTrue result → (r : Rules) → AreTablesOf r self.now → IsBare r choice }
+    {
+        match self.row(choice, ANY) {
+            Some(all) if all.wordless => all.items.as_slice().is_empty(),
+            _ => choice == Choice::NoItem,
         }
     }
 }

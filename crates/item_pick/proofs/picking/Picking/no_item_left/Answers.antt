@@ -1,6 +1,5 @@
 use Rattle.item_pick.proofs.Common.{◌≡◌, ℕ, List, [], reverse, subst, nat_eq, ItemId, place_at, rules_by, IsNextAt, eqb→eq}
 use Rattle.std.proofs.lemmas.Float.{T_from_true}
-use Rattle.item_pick.proofs.SettledLaws.{none_left}
 use Rattle.item_pick.proofs.picking.Picking.no_item_left.Goals as goal
 
 pub returns-clause-none : goal.returns-clause-none
@@ -16,13 +15,3 @@ returns-clause-none g c e =
     (subst (IsNextAt r t p floor k [] c.args.choice c.added-count.result) none
     (subst (λ (xs : List ItemId). IsNextAt r t p floor k (reverse xs) c.args.choice c.added-count.result c.in_ok-left.left) c.requires.none_tried
     (c.in_ok-left.ensures.next t l c.requires.may.ask.memory.line c.requires.number c.requires.may.held)))
-
-pub returns-then-is_still-clause-none : goal.returns-then-is_still-clause-none
-returns-then-is_still-clause-none g c _ =
-    let r = rules_by c.args.self.now.asked.now in
-    let t = g.T.Lines.lines c.args.self.now.lines.now in
-    let l = c.args.self.now.at.line in
-    let floor = c.args.self.now.floor in
-    let k = c.args.looked in
-    none_left r t l c.args.choice floor k c.args.col (c.requires.settled c.if-col-settled.true)
-    (c.is_still.ensures c.if-is_still.true t l c.requires.may.ask.memory c.requires.number floor k c.requires.may.held)

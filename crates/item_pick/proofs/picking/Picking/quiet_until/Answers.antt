@@ -1,4 +1,5 @@
-use Rattle.item_pick.proofs.Common.{◌≤◌, ℕ, reverse, below_more, arith, place_at, rules_by, IsQuietAt}
+use Rattle.item_pick.proofs.Common.{◌≤◌, ℕ, [], reverse, below_more, arith, place_at, rules_by, IsQuietAt}
+use Rattle.item_pick.proofs.BareLaws.{bare_starts}
 use Rattle.item_pick.proofs.QuietPlaceLaws.{nothing_picked}
 use Rattle.item_pick.proofs.picking.Picking.quiet_until.Goals as goal
 
@@ -31,6 +32,20 @@ returns-then-not-quiet-clause-quiet g c =
       within = omega (arith, c.loop-col-test.true, c.min.ensures, c.max-end.ensures, c.requires.may.ask.place.within, c.last-last.ensures.is);
       quiet = λ k a b over.
           nothing_picked r t c.args.self.now.at k (reverse c.args.stack.now) c.allowed-choice.result c.allowed-choice.ensures.allowed c.args.self.now.floor c.args.looked (before k a b) over;
+    }
+
+pub returns-then-is_bare-clause-quiet : goal.returns-then-is_bare-clause-quiet
+returns-then-is_bare-clause-quiet g c =
+    let r = rules_by c.args.self.now.asked.now in
+    let t = g.T.Lines.lines c.args.self.now.lines.now in
+    let at = c.args.self.now.at in
+    let floor = c.args.self.now.floor in
+    let bare = c.is_bare.ensures c.if-is_bare.true r c.requires.may.ask.memory.tables in
+    record {
+      from = omega (arith, c.max-end.ensures);
+      within = omega (arith, c.min.ensures, c.max-end.ensures, c.requires.may.ask.place.within, c.last-last.ensures.is);
+      quiet = λ k a b over.
+          nothing_picked r t at k (reverse c.args.stack.now) c.allowed-choice.result c.allowed-choice.ensures.allowed floor c.args.looked (bare_starts r t (place_at at.line k) floor c.args.looked [] c.allowed-choice.result bare) over;
     }
 
 pub returns-clause-quiet : goal.returns-clause-quiet

@@ -1,9 +1,9 @@
 use Rattle.item_pick.proofs.Common.{reverse, rules_by}
-use Rattle.item_pick.proofs.PickLaws.{no_word}
+use Rattle.item_pick.proofs.BareLaws.{bare_starts}
 use Rattle.item_pick.proofs.picking.Picking.start_among.Goals as goal
 
-pub returns-in-None-clause-told : goal.returns-in-None-clause-told
-returns-in-None-clause-told g c =
-    let r = rules_by c.args.self.now.asked.now in
-    let t = g.T.Lines.lines c.args.self.now.lines.now in
-    rw (no_word r t c.args.self.now.at c.args.self.now.floor (reverse c.args.self.now.tried.now) c.args.choice (rw c.in-None.is at c.in_ok-word.ensures.is)) c.first_start.ensures.told
+pub returns-then-is_bare-clause-told : goal.returns-then-is_bare-clause-told
+returns-then-is_bare-clause-told g c =
+    let here = c.args.self.now in
+    let r = rules_by here.asked.now in
+    bare_starts r (g.T.Lines.lines here.lines.now) here.at here.floor c.args.looked.now (reverse here.tried.now) c.args.choice (c.is_bare.ensures c.if-is_bare.true r c.requires.may.ask.memory.tables)

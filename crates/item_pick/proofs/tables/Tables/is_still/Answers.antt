@@ -1,12 +1,11 @@
 use Rattle.item_pick.proofs.Common.{◌<◌, ℕ, List, get_or, length, subst, place_at, rules_by, IsQuiet, item_numbered, ListStands}
-use Rattle.item_pick.proofs.FutileLaws.{futile_after, futile_by}
+use Rattle.item_pick.proofs.FutileLaws.{futile_by}
 use Rattle.item_pick.proofs.SettledLaws.{still_by}
-use Rattle.item_pick.proofs.TableLaws.{idle_quiet}
 use Rattle.item_pick.proofs.tables.Tables.is_still.Goals as goal
 
-pub returns-in-Some-number_behind : goal.returns-in-Some-number_behind
-returns-in-Some-number_behind c = λ e t l memory key floor looked held.
-    let asked = c.args._asked.now in
+pub returns-in-Some : goal.returns-in-Some
+returns-in-Some c = λ e t l memory key floor looked held.
+    let asked = c.args.asked.now in
     let r = rules_by asked in
     let row = c.in-Some.row.now in
     let told = c.in-Some.ensures in
@@ -14,8 +13,6 @@ returns-in-Some-number_behind c = λ e t l memory key floor looked held.
     let stands =
     subst (λ choice. ListStands r choice c.args.number row.items.items) told.choice
     (subst (λ number. ListStands r row.choice number row.items.items) told.number row-stands.lists) in
-    let behind = c.in-Some-number_behind.ensures r t l memory.line in
     still_by r t l c.args.choice floor looked (futile_by asked.parts.now.sets.now asked.budget) c.args.number c.args.col row.items.items row.resting.items stands row-stands.resting key held
     (subst (λ (list : List ℕ). (n : ℕ) → n < length list → IsQuiet r t (place_at l c.args.col) floor looked (item_numbered (get_or list n 0))) c.as_slice.ensures.value
-    (λ n h. idle_quiet r (futile_after asked.parts.now.sets.now asked.budget) t (place_at l c.args.col) c.in-Some-number_behind.behind behind.1 behind.0 (item_numbered (get_or c.as_slice.result.now n 0))
-    (c.are_idle.ensures e r memory.tables n h) floor looked held))
+    (c.are_still.ensures e t l memory floor looked held))

@@ -1,0 +1,5 @@
+use Rattle.item_pick.proofs.tables.Tables.left_in_new.Goals as goal
+
+pub returns-in-Some-clause-next : goal.returns-in-Some-clause-next
+returns-in-Some-clause-next c t l line key held =
+    c.in-Some.ensures.next t l (record { tables = c.make.ensures; line = line }) key held
