@@ -33,7 +33,7 @@ pub use Rattle.item_pick.specs.Screens.{HoldsLine, HoldsLines, IsLater, IsSettle
 pub use Rattle.item_pick.specs.Settled.{ArePassed, AreSettled, item_wanders, wanders}
 pub use Rattle.item_pick.specs.Standing.{ChoiceFits, IsFirst, IsFirstOf, IsItem, IsKeyword, IsOwn, IsPlace, IsStartOf, has_one_start, is_clear}
 pub use Rattle.item_pick.specs.Started.{IsOutcomeThere, IsStartThere, admits, here_at, here_of, is_free, seen_pick, seen_start, standing_at, start_at, start_if_free, start_pattern, starts_of}
-pub use Rattle.item_pick.specs.Tables.{AreAdmitted, AreKnown, AreTablesOf, HasThose, IsBare, IsBarren, IsEnough, IsLastFree, IsListed, IsMissed, IsNeededBy, IsNextAt, IsNextIn, IsNumberAt, IsWanted, Lacks, LineStands, ListStands, MemoryStands, RisesTo, RowStands, RunStands, StaysOut, TablesStand, is_screened, stays_out}
+pub use Rattle.item_pick.specs.Tables.{AreAdmitted, AreKnown, AreTablesOf, HasThose, IsBare, IsBarren, IsEnough, IsLastFree, IsListed, IsMissed, IsNeededBy, IsNextAt, IsNextIn, IsNumberAt, IsWanted, Lacks, LineStands, ListStands, MemoryStands, RisesTo, RowStands, RunStands, StartCheaply, StartsCheaply, StaysOut, TablesStand, is_cheap, is_screened, stays_out}
 pub use Rattle.item_pick.specs.Told.{EndsBefore, IsToldAfter, IsToldAs}
 pub use Rattle.item_pick.specs.Tries.{HasNoStart, IsBeside, IsNotFrom, IsSeen, match_in}
 pub use Rattle.item_pick.specs.Valid.{IsSound, MayAsk, MayBeAsked, MayPick}

@@ -15,6 +15,7 @@ use Rattle.syntax_set.specs.declared.item.Pattern.{Pattern}
 use Rattle.paint_rules.specs.Rules.{Rules, item_of, place_at}
 use Rattle.pattern_needs.specs.LineNeeds.{AreHeld, IsLineNeedOf, IsVainIn}
 use Rattle.pattern_needs.specs.declared.line_need.LineNeed.{LineNeed}
+use Rattle.pattern_screens.specs.Bounds.{failing_cost}
 use Rattle.pattern_screens.specs.Failing.{fails}
 use Rattle.pattern_screens.specs.Following.{fails_after, takes_first}
 use Rattle.pattern_screens.specs.Keys.{AreNumbers, key_numbered, key_of}
@@ -46,6 +47,19 @@ abbrev pub is_screened : Sets → ℕ → Bool → ℕ → Pattern → Bool
 is_screened sets budget ignore number pattern =
     nat_lt number 777 && (not pattern.tree.moves_start && (is_none pattern.ms
     && fails sets budget ignore (key_numbered number) pattern.tree))
+
+-- an attempt in vain by a pattern costs no more than the budget
+abbrev pub is_cheap : ℕ → Pattern → Bool
+is_cheap budget pattern = not (nat_lt budget (failing_cost pattern.tree))
+
+-- none by a pattern by which an item starts
+abbrev pub StartsCheaply : Rules → ItemId → Type 0
+StartsCheaply r i =
+    (pattern : Pattern) → IsPatternOf (item_of r.items i).kind pattern → is_cheap r.budget pattern ≡ true
+
+-- nor of any item of a list
+abbrev pub StartCheaply : Rules → List ℕ → Type 0
+StartCheaply r list = All (λ j. StartsCheaply r (item_numbered j)) list
 
 -- an item can't start at a column whose key has this number
 abbrev pub StaysOut : Rules → ℕ → ItemId → Type 0
@@ -122,6 +136,7 @@ pub record RowStands (r : Rules) (row : Row) : Type 0 where
   pub resting : HasThose r false row.items.items row.resting.items
   pub wandering : IfSome row.wandering (λ those. HasThose r true row.items.items those.items)
   pub wordless : row.wordless ≡ true → IsWordless r row.choice
+  pub cheap : row.cheap ≡ true → StartCheaply r row.items.items
 
 -- each pattern by which an item starts needs what this says
 abbrev pub IsNeededBy : Rules → ItemId → LineNeed → Type 0

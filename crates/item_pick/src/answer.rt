@@ -70,6 +70,7 @@ impl<T: Lines> Picking<'_, T> {
     }
 
     /// What is allowed on a stack and starts here.
+    #[inline(always)]
     fn pick_allowed(
         &self,
         stack: &Stack,

@@ -8,6 +8,7 @@ mod allowed;
 mod answer;
 mod asked;
 mod asking;
+mod cheap;
 mod choice;
 mod columns;
 mod ends;

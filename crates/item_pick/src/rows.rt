@@ -1,13 +1,13 @@
 //! Which items of a choice may start at a column, by the key of the column.
 ghost use Rattle.std.specs.Prelude.{◌≡◌, ◌<◌, ℕ, length, slice_get, Some, IfOk, IfSome, IsTrue, true};
 ghost use Rattle.std.specs.List.Sorted.{IsNonDecreasing};
-ghost use Rattle.item_pick.specs.Common.{item_numbered, ChoiceFits, IsItem, admits, AnswersStand, AreAdmitted, HasThose, is_screened, IsWordless, Lacks, ListStands, RisesTo, RowStands, stays_out, StaysOut, rules_by};
+ghost use Rattle.item_pick.specs.Common.{item_numbered, ChoiceFits, IsItem, admits, AnswersStand, AreAdmitted, HasThose, is_cheap, is_screened, IsWordless, Lacks, ListStands, RisesTo, RowStands, StartCheaply, StartsCheaply, stays_out, StaysOut, rules_by};
 ghost use Rattle.item_pick.specs.declared.choice.Choice.{Choice as ChoiceOf};
 ghost use Rattle.syntax_set.specs.declared.item.Pattern.{Pattern as PatternOf};
 
 use crate::asked::Asked;
 use crate::choice::{Choice, admits};
-use pattern_screens::{KEYS, Key, fails};
+use pattern_screens::{KEYS, Key, is_futile};
 use region_ends::{KeyAnswers, item_of};
 use std::alloc::Global;
 use syn_base::{ItemId, Memory};
@@ -29,33 +29,40 @@ pub(crate) struct Row {
     pub(crate) wandering: Option<Vec<u32>>,
     /// No word starts an item of the choice; told only of the row of all items.
     pub(crate) wordless: bool,
+    /// Each attempt in vain of each of the items costs at most the budget; told only of the row of all
+    /// items.
+    pub(crate) cheap: bool,
 }
 
 impl Asked<'_> {
-    /// Whether an item can't start by a pattern at a column whose key has a number.
-    fn is_screened(&self, ignore: bool, pattern: &Pattern, number: u16) -> bool
+    /// Whether an item can't start by a pattern at a column whose key has a number. It may be told that
+    /// each attempt in vain costs at most the budget.
+    fn is_screened(&self, ignore: bool, pattern: &Pattern, number: u16, cheap: bool) -> bool
+        requires cheap { IsTrue cheap → is_cheap self.now.budget pattern.now ≡ true }
         ensures { IsTrue result → is_screened self.now.parts.now.sets.now self.now.budget ignore
             number pattern.now ≡ true }
     {
         number < KEYS
             && !pattern.tree.moves_start
             && pattern.ms.is_none()
-            && fails(
+            && is_futile(
                 &pattern.tree,
                 self.parts.sets,
                 ignore,
                 Key::numbered(number),
-                self.budget,
             )
+            && (cheap || self.is_cheap(pattern))
     }
 
     /// Whether it can't start by any of some patterns.
-    fn are_screened(&self, ignore: bool, patterns: &[Pattern], number: u16) -> bool
+    fn are_screened(&self, ignore: bool, patterns: &[Pattern], number: u16, cheap: bool) -> bool
+        requires cheap { IsTrue cheap → (n : ℕ) (p : PatternOf) → Some p ≡ slice_get patterns.now n →
+            is_cheap self.now.budget p ≡ true }
         ensures { IsTrue result → (n : ℕ) (p : PatternOf) → Some p ≡ slice_get patterns.now n →
             is_screened self.now.parts.now.sets.now self.now.budget ignore number p ≡ true }
     {
         for pattern in patterns {
-            if !self.is_screened(ignore, pattern, number) {
+            if !self.is_screened(ignore, pattern, number, cheap) {
                 return false;
             }
         }
@@ -63,18 +70,20 @@ impl Asked<'_> {
     }
 
     /// Whether an item can't start at a column whose key has a number.
-    fn stays_out(&self, id: ItemId, number: u16) -> bool
-        requires { IsItem (rules_by self.now) id }
+    fn stays_out(&self, id: ItemId, number: u16, cheap: bool) -> bool
+        requires item { IsItem (rules_by self.now) id }
+        requires cheap { IsTrue cheap → StartsCheaply (rules_by self.now) id }
         ensures { IsTrue result → StaysOut (rules_by self.now) number id }
     {
         let item = item_of(self.parts.items, id);
         match &item.kind {
             ItemKind::Keyword => true,
-            ItemKind::Match(pattern) => self.is_screened(item.ignore, pattern, number),
+            ItemKind::Match(pattern) => self.is_screened(item.ignore, pattern, number, cheap),
             ItemKind::Region { starts, .. } => self.are_screened(
                 item.ignore,
                 starts.as_slice(),
                 number,
+                cheap,
             ),
         }
     }
@@ -98,15 +107,22 @@ impl Asked<'_> {
             Lacks items.new.items id →
             StaysOut (rules_by self.now) number (item_numbered id)) }
     {
-        if admits(self, choice, ItemId(id)) && !self.stays_out(ItemId(id), number) {
+        if admits(self, choice, ItemId(id)) && !self.stays_out(ItemId(id), number, false) {
             items.push(id)?;
         }
         Ok(())
     }
 
     /// The same as `stays_out`. The answer is kept.
-    fn is_out(&self, id: ItemId, number: u16, outs: &mut KeyAnswers) -> Result<bool, Memory>
+    fn is_out(
+        &self,
+        id: ItemId,
+        number: u16,
+        cheap: bool,
+        outs: &mut KeyAnswers,
+    ) -> Result<bool, Memory>
         requires item { IsItem (rules_by self.now) id }
+        requires cheap { IsTrue cheap → StartsCheaply (rules_by self.now) id }
         requires outs { AnswersStand (stays_out (rules_by self.now)) outs.old }
         ensures outs { AnswersStand (stays_out (rules_by self.now)) outs.new }
         ensures out { IfOk result (λ out. IsTrue out →
@@ -116,7 +132,7 @@ impl Asked<'_> {
             Some(out) => return Ok(out),
             None => {}
         }
-        let out = self.stays_out(id, number);
+        let out = self.stays_out(id, number, cheap);
         outs.keep(number, id, out)?;
         Ok(out)
     }
@@ -127,10 +143,12 @@ impl Asked<'_> {
         id: u32,
         number: u16,
         count: usize,
+        cheap: bool,
         outs: &mut KeyAnswers,
         items: &mut Vec<u32>,
     ) -> Result<(), Memory>
         requires count { count ≡ length (rules_by self.now).items }
+        requires cheap { IsTrue cheap → StartsCheaply (rules_by self.now) (item_numbered id) }
         requires outs { AnswersStand (stays_out (rules_by self.now)) outs.old }
         ensures outs { AnswersStand (stays_out (rules_by self.now)) outs.new }
         ensures kept { (j : ℕ) → Lacks items.new.items j → Lacks items.old.items j }
@@ -147,7 +165,7 @@ impl Asked<'_> {
         if id as usize >= count {
             return Ok(());
         }
-        if !self.is_out(ItemId(id), number, outs)? {
+        if !self.is_out(ItemId(id), number, cheap, outs)? {
             items.push(id)?;
         }
         Ok(())
@@ -196,13 +214,13 @@ impl Asked<'_> {
         let count = self.parts.items.added();
         let mut items = Vec::new(alloc);
         for id in all.items.as_slice() {
-            self.put_known(*id, number, count, outs, &mut items)?;
+            self.put_known(*id, number, count, all.cheap, outs, &mut items)?;
         }
         Ok(items)
     }
 
-    /// The row of these items of a choice, with those of them that wander, if they are told, and
-    /// whether no word starts an item of the choice.
+    /// The row of these items of a choice, with those of them that wander, if they are told, whether no
+    /// word starts an item of the choice, and whether each attempt in vain is within the budget.
     pub(crate) fn row(
         &self,
         alloc: Global,
@@ -211,6 +229,7 @@ impl Asked<'_> {
         items: Vec<u32>,
         wandering: Option<Vec<u32>>,
         wordless: bool,
+        cheap: bool,
     ) -> Result<Row, Memory>
         requires lists { ListStands (rules_by self.now) choice number items.items }
         requires rises { IsNonDecreasing items.items }
@@ -218,6 +237,7 @@ impl Asked<'_> {
         requires those { IfSome wandering (λ those. HasThose (rules_by self.now) true items.items
             those.items) }
         requires wordless { IsTrue wordless → IsWordless (rules_by self.now) choice }
+        requires cheap { IsTrue cheap → StartCheaply (rules_by self.now) items.items }
         ensures { IfOk result (RowStands (rules_by self.now)) }
     {
         let resting = self.those(alloc, items.as_slice(), false)?;
@@ -228,6 +248,7 @@ impl Asked<'_> {
             resting,
             wandering,
             wordless,
+            cheap,
         })
     }
 }

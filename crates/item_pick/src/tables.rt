@@ -98,7 +98,16 @@ impl Tables {
         let items = asked.listed(self.alloc, choice, ANY)?;
         let wandering = asked.those(self.alloc, items.as_slice(), true)?;
         let wordless = self.has_no_word(asked, choice);
-        let row = asked.row(self.alloc, choice, ANY, items, Some(wandering), wordless)?;
+        let cheap = asked.start_cheaply(items.as_slice());
+        let row = asked.row(
+            self.alloc,
+            choice,
+            ANY,
+            items,
+            Some(wandering),
+            wordless,
+            cheap,
+        )?;
         self.keep(row)
     }
 
@@ -116,7 +125,7 @@ impl Tables {
             Some(all) => asked.narrowed(self.alloc, all, number, &mut self.outs)?,
             None => return Ok(()),
         };
-        let row = asked.row(self.alloc, choice, number, items, None, false)?;
+        let row = asked.row(self.alloc, choice, number, items, None, false, false)?;
         self.keep(row)
     }
 }

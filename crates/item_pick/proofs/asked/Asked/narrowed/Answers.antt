@@ -1,6 +1,14 @@
 use Rattle.item_pick.proofs.Common.{◌≡◌, true, sym, admits, ◌<◌, ◌≤◌, ◌-◌, ℕ, List, get_or, length, below_more, arith, ap, subst, rules_in, item_numbered, Lacks, ListStands, RisesTo, StaysOut}
+use Rattle.item_pick.specs.Tables.{StartsCheaply}
 use Rattle.item_pick.proofs.TableLaws.{narrowed, rises_on}
 use Rattle.item_pick.proofs.asked.Asked.narrowed.Goals as goal
+
+pub put_known-requires-clause-cheap : goal.put_known-requires-clause-cheap
+put_known-requires-clause-cheap c e =
+    let r = rules_in c.args.self.now.parts.now c.args.self.now.budget in
+    let here = c.loop-id.id-index in
+    let within : here < length c.args.all.now.items.items = omega (arith, c.loop-id-test.true, ap length c.as_slice-id-items.ensures.value) in
+    subst (λ (list : List ℕ). StartsCheaply r (item_numbered (get_or list here 0))) (sym c.as_slice-id-items.ensures.value) (c.requires.stands.cheap e here 0 within)
 
 pub loop-id-preserved : goal.loop-id-preserved
 loop-id-preserved c =
