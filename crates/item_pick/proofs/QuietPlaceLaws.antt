@@ -1,5 +1,5 @@
 -- Places at which nothing starts.
-use Rattle.item_pick.proofs.Common.{◌≡◌, ◌∙◌, refl, ap, arith, ℕ, Bool, false, List, [], length, Option, Some, None, option_map, ◌-◌, true, nat_tests, Place, ItemId, Looked, Text, line_at, begins_word, Sets, IsNumberAt, last_of, key_numbered, zero, suc, slice_get, subst, Frame, Done, looked_first, done, Rules, place_at, is_allowed, keyword_at, or_nothing, picked, goes_on, Choice, IsNextItem, IsQuietAt, admits, here_at, is_free, start_if_free, IsNextAt, Nothing, keyword_to}
+use Rattle.item_pick.proofs.Common.{◌≡◌, ◌∙◌, refl, ap, arith, ℕ, Bool, false, List, [], length, Option, Some, None, ◌-◌, true, nat_tests, Place, ItemId, Looked, Text, line_at, begins_word, Sets, IsNumberAt, last_of, key_numbered, zero, suc, slice_get, subst, Frame, Done, looked_first, done, Rules, place_at, is_allowed, keyword_at, or_nothing, picked, goes_on, Choice, IsNextItem, IsQuietAt, admits, here_at, is_free, start_if_free, IsNextAt, Nothing, keyword_to}
 use Rattle.std.specs.Prelude.{Result, Ok, Err, IfOk, IsTrue, ◌==◌}
 use Rattle.syn_base.specs.declared.want_of_memory.Memory.{Memory}
 use Rattle.keyword_table.specs.Words.{has_at, word_end}

@@ -201,7 +201,7 @@ IsBarren r t l i =
 
 pub record LineStands (r : Rules) (t : Text) (l : ℕ) (line : LineKnown) : Type 0 where
   pub keys : AreNumbers r.sets (line_at t l) (length (line_at t l) + 1) line.numbers.items
-  pub held : AreHeld line.held (length line.numbers.items) (line_at t l)
+  pub held : AreHeld line.held (length (line_at t l)) (line_at t l)
   pub runs : (k : ℕ) (run : Run) → Has line.runs k run → RunStands r t l run
   pub barren : (k : ℕ) → IsMarked line.barren k → IsBarren r t l (item_numbered k)
   pub ends : EndMemoStands r.items r.sets r.budget t l line.ends

@@ -11,6 +11,7 @@ mod asking;
 mod cheap;
 mod choice;
 mod columns;
+mod dear;
 mod ends;
 mod firsts;
 mod line_known;

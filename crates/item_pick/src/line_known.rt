@@ -1,5 +1,5 @@
 //! What is known of the line that is painted: where items don't start, and where regions end.
-ghost use Rattle.std.specs.Prelude.{◌≡◌, ◌<◌, ◌≤◌, ◌+◌, ◌^◌, ℕ, IfOk, IfSome, IsTrue};
+ghost use Rattle.std.specs.Prelude.{◌≡◌, ◌<◌, ◌≤◌, ◌+◌, ◌^◌, ℕ, length, IfOk, IfSome, IsTrue};
 ghost use Rattle.std.specs.List.{All};
 ghost use Rattle.item_pick.specs.Common.{Text, line_at, Rules, place_at, rules_in, IsQuiet, item_numbered, TellsOf, HoldsLine, IsBarren, IsNumberAt, IsWanted, LineStands, RunStands};
 ghost use Rattle.item_pick.specs.declared.parts.Parts.{Parts as PartsOf};
@@ -53,6 +53,14 @@ impl LineKnown {
         number_line(sets, line, &mut self.numbers)
     }
 
+    /// How many characters the line has.
+    pub(crate) fn width(&self) -> usize
+        ensures { (r : Rules) (t : Text) (l : ℕ) → LineStands r t l self.now →
+            result ≡ length (line_at t l) }
+    {
+        self.numbers.len().saturating_sub(1)
+    }
+
     /// Notes that an item starts nowhere, if the line lacks what it needs, and tells whether it does.
     #[inline(always)]
     pub(crate) fn note_lacking(&mut self, wanted: &Wanted) -> Result<bool, Memory>
@@ -66,7 +74,7 @@ impl LineKnown {
             LineStands (rules_in parts budget) t l self.old →
             IsBarren (rules_in parts budget) t l wanted.now.item) }
     {
-        let lacking = wanted.need.is_lacked(&self.held, self.numbers.len());
+        let lacking = wanted.need.is_lacked(&self.held, self.width());
         if lacking {
             self.barren.put(wanted.item.0 as usize)?;
         }

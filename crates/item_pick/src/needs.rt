@@ -58,6 +58,13 @@ impl Asked<'_> {
     }
 }
 
+/// For how much a question counts in a line of so many characters: attempts may cost the square of
+/// them.
+fn weight_in(width: usize) -> u8 {
+    let wide = (width / 64).min(10) as u8;
+    wide.saturating_mul(wide).saturating_add(1)
+}
+
 impl Tables {
     /// Whether it was found out already what an item needs.
     #[inline(always)]
@@ -68,13 +75,26 @@ impl Tables {
         }
     }
 
-    /// Whether it was asked so many times what an item needs that it pays to find it out: so once.
-    fn is_due(&mut self, id: ItemId) -> Result<bool, Memory>
+    /// Whether it was asked so often what an item needs that it pays to find it out: so once. A question
+    /// counts by its weight.
+    fn is_due(&mut self, id: ItemId, weight: u8) -> Result<bool, Memory>
         ensures { (r : Rules) → AreTablesOf r self.old → AreTablesOf r self.new }
     {
         let times = self.times.get(id.0 as usize).unwrap_or(0);
-        self.times.put(id.0 as usize, times.saturating_add(1))?;
-        Ok(times == OFTEN)
+        let more = times.saturating_add(weight);
+        self.times.put(id.0 as usize, more)?;
+        Ok(times <= OFTEN && OFTEN < more)
+    }
+
+    /// For how much a question about an item counts in a line of so many characters: for all that it
+    /// takes where the first attempt may cost much.
+    fn weight(&self, asked: &Asked, id: ItemId, width: usize) -> u8
+        requires { IsItem (rules_by asked.now) id }
+    {
+        match self.times.get(id.0 as usize) {
+            None if asked.is_dear(id) => OFTEN + 1,
+            _ => weight_in(width),
+        }
     }
 
     /// Keeps what an item needs.
@@ -118,7 +138,8 @@ impl PickMemory {
             MemoryStands (rules_by asked.now) t l self.old →
             IsBarren (rules_by asked.now) t l id) }
     {
-        let due = self.tables.is_due(id)?;
+        let weight = self.tables.weight(asked, id, self.line.width());
+        let due = self.tables.is_due(id, weight)?;
         if !due {
             return Ok(false);
         }

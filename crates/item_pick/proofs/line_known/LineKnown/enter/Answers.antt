@@ -1,4 +1,4 @@
-use Rattle.item_pick.proofs.Common.{◌≡◌, ◌+◌, ap, arith, length, subst, sym, ℕ, List, true, All, IfOk-weaker, line_at, Sets, AreNumbers}
+use Rattle.item_pick.proofs.Common.{◌+◌, arith, length, subst, sym, ℕ, List, IfOk-weaker, line_at, Sets, AreNumbers}
 use Rattle.pattern_needs.specs.LineNeeds.{IsHeldOf}
 use Rattle.item_pick.proofs.line_known.LineKnown.enter.Goals as goal
 
@@ -9,7 +9,7 @@ returns c r t l same line =
           (subst (λ (chars : List ℕ). AreNumbers c.args.sets.now chars (length chars + 1) c.number_line.new.numbers.items) line keys);
       held = record {
         are = subst (IsHeldOf c.of-self.result) line c.of-self.ensures;
-        few = omega (arith, keys.many, ap length line);
+        few = omega arith;
       };
       runs = λ k run has. absurd (c.clear.ensures k run has);
       barren = λ k has. absurd (c.clear-2.ensures k has);
