@@ -4,6 +4,7 @@ pub mod PaintedNotes
 pub mod PatchLaws
 pub mod ReachLaws
 pub mod RefusalLaws
+pub mod RepeatLaws
 pub mod SameLaws
 pub mod ShownLaws
 mod ShownRows

@@ -8,4 +8,5 @@ pub mod Brushes
 pub mod Refusals
 pub mod Reach
 pub mod Walk
+pub mod Repeats
 pub mod Edits

@@ -8,7 +8,7 @@ use line_paint::LineNote;
 use state_stack::State;
 use std::alloc::Global;
 use std::marker::Model;
-use syn_base::{Looked, Memory, Span};
+use syn_base::{List, Looked, Memory, Span};
 
 /// The note of a painted line. Contracts see its states as the rules do.
 #[derive(Drop)]
@@ -30,6 +30,21 @@ impl Kept {
         ensures { result ≡ kept_note note }
     {
         Kept { note }
+    }
+
+    /// An equal note.
+    pub(crate) fn copy(&self, alloc: Global) -> Result<Kept, Memory>
+        ensures { IfOk result (λ note. note ≡ self.now) }
+    {
+        let note = &self.note;
+        Ok(Kept {
+            note: LineNote {
+                before: note.before.copy()?,
+                spans: List::from_slice(alloc, note.spans.as_slice())?,
+                after: note.after.copy()?,
+                looked: note.looked,
+            },
+        })
     }
 
     pub(crate) fn note(&self) -> &LineNote

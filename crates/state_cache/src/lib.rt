@@ -18,6 +18,7 @@ mod line;
 mod painted;
 mod reach;
 mod refusal;
+mod repeat;
 mod shown;
 mod walk;
 

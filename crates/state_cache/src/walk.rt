@@ -1,9 +1,12 @@
 //! The painting of all lines of a text, from the first one on.
-ghost use Rattle.std.specs.Prelude.{◌≡◌, ◌≤◌, ◌<◌, ◌+◌, ◌-◌, ◌∷◌, ◌++◌, [], length, IfOk, IfErr, OnOk, Ok};
+ghost use Rattle.std.specs.Prelude.{◌≡◌, ◌≤◌, ◌<◌, ◌+◌, ◌-◌, ◌∷◌, ◌++◌, ℕ, [], length, IfOk, IfErr, IfSome, OnOk, Ok};
 ghost use Rattle.std.specs.List.{All};
 ghost use Rattle.item_pick.specs.Tables.{TablesStand};
 ghost use Rattle.paint_reuse.specs.Kept.{line_note, text_notes};
+ghost use Rattle.paint_reuse.specs.Work.{WalksOn};
+ghost use Rattle.paint_rules.specs.Rules.{Rules};
 ghost use Rattle.paint_rules.specs.States.{next_line};
+ghost use Rattle.paint_shift.specs.Elsewhere.{ArePaintedAlike};
 ghost use Rattle.state_cache.specs.Brushes.{items_by, rules_by};
 ghost use Rattle.state_cache.specs.Notes.{NoteFits};
 ghost use Rattle.state_cache.specs.Refusals.{RefusesAs, RefusesLine};
@@ -13,16 +16,19 @@ ghost use Rattle.state_stack.specs.TopFirst.{top_first};
 use crate::EditError;
 use crate::brush::Brush;
 use crate::kept::Kept;
+use crate::repeat::{LastLines, stands_also};
 use item_pick::PickMemory;
 use state_stack::State;
 use std::alloc::Global;
 use syn_base::{Ledger, Lines, List, Memory, Steps};
 
-/// The notes of the lines so far, and the state before the line that follows them.
+/// The notes of the lines so far, the state before the line that follows them, and where an equal
+/// line may stand.
 #[derive(Drop)]
 pub(crate) struct Walk {
     notes: List<Kept>,
     state: State,
+    last: LastLines,
 }
 
 /// The notes of all lines of a text.
@@ -45,6 +51,7 @@ pub(crate) fn paint_all<T: Lines, L: Ledger>(
     let mut walk = Walk {
         notes: List::new(brush.alloc),
         state: State::new(),
+        last: LastLines::new(brush.alloc, text.len())?,
     };
     for line in 0..text.len() {
         walk.paint(brush, text, line, memory, steps)?;
@@ -53,6 +60,63 @@ pub(crate) fn paint_all<T: Lines, L: Ledger>(
 }
 
 impl Walk {
+    /// The note of an earlier line, if the line that follows repeats it: it has the same characters,
+    /// the same state stands before it, and so does all that the earlier one looked at.
+    fn repeated<T: Lines>(&self, text: &T, line: usize, earlier: Option<usize>) -> Option<&Kept>
+        requires present { line < length (T.lines text.now) }
+        ensures noted { IfSome result (λ note. (r : Rules) → ArePaintedAlike r →
+            WalksOn r (T.lines text.now) line self.now.notes (top_first self.now.state) →
+            line_note r (T.lines text.now) line (top_first self.now.state) ≡ Ok note.now) }
+        ensures fits { IfSome result (λ note. (n : ℕ) → All (NoteFits n) self.now.notes →
+            NoteFits n note.now) }
+    {
+        let earlier = earlier?;
+        if earlier >= line {
+            return None;
+        }
+        let note = self.notes.as_slice().get(earlier)?;
+        if stands_also(text, earlier, line, note.looked())
+            && note.state_before().same(&self.state)
+        {
+            Some(note)
+        } else {
+            None
+        }
+    }
+
+    /// The note of the line that follows. It is painted if it repeats no line.
+    fn note<T: Lines, L: Ledger>(
+        &self,
+        brush: &Brush<'_>,
+        text: &T,
+        line: usize,
+        earlier: Option<usize>,
+        memory: &mut PickMemory,
+        steps: &mut Steps<L>,
+    ) -> Result<Kept, EditError>
+        requires budget { 1 ≤ brush.now.budget }
+        requires present { line < length (T.lines text.now) }
+        requires stands { Stands (items_by brush.now) self.now }
+        requires walks { WalksOn (rules_by brush.now) (T.lines text.now) line self.now.notes
+            (top_first self.now.state) }
+        requires memory { TablesStand (rules_by brush.now) memory.old }
+        ensures noted { IfOk result (λ note.
+            line_note (rules_by brush.now) (T.lines text.now) line (top_first self.now.state) ≡ Ok note) }
+        ensures refused { IfErr result (RefusesLine line
+            (line_note (rules_by brush.now) (T.lines text.now) line (top_first self.now.state))) }
+        ensures fits { IfOk result (NoteFits (items_by brush.now)) }
+        ensures memory { TablesStand (rules_by brush.now) memory.new }
+        ensures steps { steps.new ≡ steps.old + 1 }
+    {
+        match self.repeated(text, line, earlier) {
+            Some(note) => {
+                steps.add_one();
+                Ok(note.copy(brush.alloc)?)
+            }
+            None => brush.paint(text, line, &self.state, memory, steps),
+        }
+    }
+
     /// Paints the line that follows.
     fn paint<T: Lines, L: Ledger>(
         &mut self,
@@ -65,6 +129,8 @@ impl Walk {
         requires budget { 1 ≤ brush.now.budget }
         requires present { line < length (T.lines text.now) }
         requires stands { Stands (items_by brush.now) self.old }
+        requires walks { WalksOn (rules_by brush.now) (T.lines text.now) line self.old.notes
+            (top_first self.old.state) }
         requires memory { TablesStand (rules_by brush.now) memory.old }
         ensures painted { OnOk result (IsNext
             (line_note (rules_by brush.now) (T.lines text.now) line (top_first self.old.state))
@@ -75,7 +141,8 @@ impl Walk {
         ensures memory { TablesStand (rules_by brush.now) memory.new }
         ensures steps { steps.new ≡ steps.old + 1 }
     {
-        let note = brush.paint(text, line, &self.state, memory, steps)?;
+        let earlier = self.last.replace(text.line(line), line);
+        let note = self.note(brush, text, line, earlier, memory, steps)?;
         self.push(brush.alloc, note)?;
         Ok(())
     }

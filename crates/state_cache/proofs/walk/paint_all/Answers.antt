@@ -14,7 +14,7 @@ returns-in_err-paint-clause-refused g c =
     let l = c.loop-line.line in
     let w = c.loop-line.walk in
     let on : l < length t = omega (arith, c.len-line-end.ensures.count, c.loop-line-test.true) in
-    let p = err_from_is_err_and c.from_residual.result c.from_residual.ensures.1 in
+    let p = err_from_is_err_and c.from_residual-in_err-paint.result c.from_residual-in_err-paint.ensures.1 in
     rw (p.1, p.2) (of_line l (line_note r t l (top_first w.state)) (text_notes r t) _ (λ x is. walk_refused r t l w.notes (top_first w.state) x on c.loop-line.invariant.walks is) c.in_err-paint.ensures.refused)
 
 pub loop-line-preserved : goal.loop-line-preserved
