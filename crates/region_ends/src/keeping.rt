@@ -35,6 +35,7 @@ pub fn kept_end(items: &ItemSet, stack: &Stack, i: usize) -> Option<Spot>
 }
 
 /// The kept end of a frame over these.
+#[inline(always)]
 pub fn kept_end_over(items: &ItemSet, top: &Frame, below: &Stack) -> Option<Spot>
     requires item { (top.now.item).0 < length items.now }
     requires fits { Fits (length items.now) (reverse below.now) }
@@ -47,6 +48,7 @@ pub fn kept_end_over(items: &ItemSet, top: &Frame, below: &Stack) -> Option<Spot
 }
 
 /// Whether an item has `keepend`; one that isn't there has none.
+#[inline(always)]
 fn keeps(items: &ItemSet, id: ItemId) -> bool
     ensures { result ≡ (item_of items.now id).keepend }
 {
@@ -54,6 +56,7 @@ fn keeps(items: &ItemSet, id: ItemId) -> bool
 }
 
 /// Whether none of the items of the frames with a known end has `keepend`.
+#[inline(always)]
 fn keep_none(items: &ItemSet, enders: Enders) -> bool
     ensures { result ≡ keep_none items.now enders }
 {
@@ -68,8 +71,22 @@ fn keep_none(items: &ItemSet, enders: Enders) -> bool
 
 /// The end that the frames of a stack put to a frame above them. Mostly no item with `keepend` has a
 /// frame with a known end among them, and then they aren't walked.
+#[inline(always)]
 #[tactic(auto, using(crate::proofs::LimitLaws::unkept_limits))]
 fn limit_on(items: &ItemSet, stack: &Stack) -> Option<Spot>
+    requires { Fits (length items.now) (reverse stack.now) }
+    ensures { result ≡ limit_on items.now (reverse stack.now) }
+{
+    if keep_none(items, stack.enders()) {
+        return None;
+    }
+    limit_by_frames(items, stack)
+}
+
+/// The same by a walk over the frames, down to where no item with `keepend` has one with a known end.
+#[inline(never)]
+#[tactic(auto, using(crate::proofs::LimitLaws::unkept_limits))]
+fn limit_by_frames(items: &ItemSet, stack: &Stack) -> Option<Spot>
     requires { Fits (length items.now) (reverse stack.now) }
     ensures { result ≡ limit_on items.now (reverse stack.now) }
 {
@@ -83,7 +100,7 @@ fn limit_on(items: &ItemSet, stack: &Stack) -> Option<Spot>
             if item_of(items, top.item).extend {
                 return earlier_end(limit, None);
             }
-            earlier_end(limit, limit_on(items, below))
+            earlier_end(limit, limit_by_frames(items, below))
         }
     }
 }
