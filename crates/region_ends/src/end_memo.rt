@@ -30,24 +30,32 @@ pub struct EndMemo {
     jumped: Marks,
 }
 
-/// What a search came to, if it may be kept.
-fn known_by(region: ItemId, line: usize, searched: Searched) -> Option<Known>
+/// What a search came to, if it may be kept: it looked at its line alone.
+#[inline(always)]
+fn known_by(region: ItemId, line: usize, searched: &Searched) -> Option<Known>
     requires { line < 2 ^ 63 }
-    ensures { IfSome result (IsKept region line searched) }
+    ensures { IfSome result (IsKept region line searched.now) }
 {
-    let Searched { answer, first, to } = searched;
-    let end = match answer {
-        EndAnswer::Ends(end, _) => Some(end),
-        EndAnswer::NotHere(_) => None,
+    let one = Looked::one(line as i64);
+    let end = match searched.answer {
+        EndAnswer::Ends(end, looked) => {
+            if looked != one {
+                return None;
+            }
+            Some(end)
+        }
+        EndAnswer::NotHere(looked) => {
+            if looked != one {
+                return None;
+            }
+            None
+        }
         EndAnswer::TooCostly => return None,
     };
-    if answer != answer_at(end, line) {
-        return None;
-    }
     Some(Known {
         region,
-        first,
-        to,
+        first: searched.first,
+        to: searched.to,
         end,
     })
 }
@@ -114,6 +122,7 @@ impl EndMemo {
     }
 
     /// Keeps what is known of a region.
+    #[inline(always)]
     fn keep(&mut self, known: Known) -> Result<(), Memory>
         ensures { (items : List AddedItem) (sets : SetsRules) (budget : ℕ) (t : Text) (l : ℕ) →
             EndMemoStands items sets budget t l self.old →
@@ -158,7 +167,7 @@ impl Searching<'_> {
             None => {}
         }
         let searched = self.anew(lines, shut, &mut memo.jumped)?;
-        match known_by(self.region, self.from.line, searched) {
+        match known_by(self.region, self.from.line, &searched) {
             Some(known) => memo.keep(known)?,
             None => {}
         }
