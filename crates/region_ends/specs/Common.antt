@@ -17,9 +17,9 @@ pub use Rattle.vim_pattern.specs.Shape.{bare}
 pub use Rattle.region_ends.specs.Attempts.{IsAttempted}
 pub use Rattle.region_ends.specs.EndMemo.{EndMemoStands, IsKept, KnownStands, TellsOf}
 pub use Rattle.region_ends.specs.KeptEnd.{keep_none, kept_end}
-pub use Rattle.region_ends.specs.KeyAnswers.{AnswersStand}
+pub use Rattle.region_ends.specs.KeyAnswers.{AnswersStand, IsYes, IsYesAt}
 pub use Rattle.region_ends.specs.Opening.{IsToldOf, begins_with, external_of, first_external, first_of, is_unopened, stands}
-pub use Rattle.region_ends.specs.Passing.{IsOfRegion, IsPassedOver, IsWalk, ShutStands, are_shut, are_shut_anyway, are_shut_by, is_cheap, is_end_shut, is_shut, is_shut_at, is_skip_shut, question_of}
+pub use Rattle.region_ends.specs.Passing.{IsOfRegion, IsPassedOver, IsRowOf, IsWalk, ShutStands, are_shut, are_shut_anyway, are_shut_by, is_cheap, is_end_shut, is_shut, is_shut_at, is_skip_shut, question_of}
 pub use Rattle.region_ends.specs.Searches.{IsEnd, search_of}
 pub use Rattle.region_ends.specs.Steps.{EndsBefore, GoesFurther, IsSkip, IsTried, MaySearch, SkipIs, search_in, seen, skip_from}
 pub use Rattle.region_ends.specs.Stretches.{IsFirst, IsSearched, IsStep, TellsColumns, answer_at}

@@ -17,10 +17,11 @@ use Rattle.pattern_screens.specs.Keys.{key_numbered, key_of}
 use Rattle.pattern_screens.specs.Screens.{is_futile}
 use Rattle.paint_rules.specs.Rules.{item_of}
 use Rattle.paint_rules.specs.EndInLine.{ends_of, skip_of}
+use Rattle.region_ends.specs.declared.key_answers.Answer.{Answer}
 use Rattle.region_ends.specs.declared.key_answers.KeyAnswers.{KeyAnswers}
 use Rattle.region_ends.specs.declared.passing.Walk.{Walk}
 use Rattle.region_ends.specs.declared.searching.Searching.{Searching}
-use Rattle.region_ends.specs.KeyAnswers.{AnswersStand}
+use Rattle.region_ends.specs.KeyAnswers.{AnswersStand, IsYesAt}
 use Rattle.region_ends.specs.Opening.{IsToldOf, begins_with, is_unopened}
 use Rattle.region_ends.specs.Steps.{MaySearch}
 
@@ -103,6 +104,10 @@ question_of a = record {
 pub record IsPassedOver (a : Walk) (c : ℕ) : Type 0 where
   pub shut : are_shut (question_of a) (key_of a.search.matcher.sets.now a.line.now c) ≡ true
   pub unopened : is_unopened a.opening (slice_get a.line.now c) ≡ true
+
+-- by the numbers answered by yes, neither the skip nor an end can fit
+abbrev pub IsRowOf : Walk → List Answer → Type 0
+IsRowOf a row = (number : ℕ) → IsYesAt row number → are_shut_by (question_of a) number ≡ true
 
 -- the patterns are those of the region
 pub record IsOfRegion (a : Walk) : Type 0 where

@@ -1,9 +1,9 @@
 //! Columns that a search passes over: by what stands there, neither the skip nor an end can fit.
 ghost use Rattle.std.specs.Prelude.{◌≡◌, ◌≤◌, ◌<◌, ◌+◌, ℕ, suc, true, length, slice_get, IsTrue};
 ghost use Rattle.std.specs.List.{list_all};
-ghost use Rattle.region_ends.specs.Common.{key_of, is_unopened, are_shut, are_shut_anyway, are_shut_by, is_cheap, is_end_shut, is_shut, is_skip_shut, question_of, IsOfRegion, IsPassedOver, ShutStands};
+ghost use Rattle.region_ends.specs.Common.{key_of, is_unopened, are_shut, are_shut_anyway, are_shut_by, is_cheap, is_end_shut, is_shut, is_skip_shut, question_of, IsOfRegion, IsPassedOver, IsRowOf, IsYesAt, ShutStands};
 
-use crate::key_answers::KeyAnswers;
+use crate::key_answers::{Answer, KeyAnswers};
 use crate::opening::{Opening, begins_with, stands};
 use crate::searching::Searching;
 use pattern_screens::{KEYS, Key, Last, Next, failing_cost, is_futile};
@@ -153,6 +153,7 @@ impl Walk<'_> {
     }
 
     /// Whether a column is passed over.
+    #[inline(never)]
     fn passes(&self, c: usize, answers: &mut KeyAnswers) -> bool
         requires column { c ≤ length self.now.line.now }
         requires of { IsOfRegion self.now }
@@ -170,6 +171,69 @@ impl Walk<'_> {
         self.are_known_shut(key.number(), answers)
     }
 
+    /// Whether a column is known to be passed over, by what was answered of the region: by its character
+    /// alone, or by its key.
+    #[inline(always)]
+    fn is_known_idle(&self, c: usize, row: &[Answer]) -> bool
+        requires column { c ≤ length self.now.line.now }
+        requires row { IsRowOf self.now row.now }
+        ensures { IsTrue result → IsPassedOver self.now c }
+    {
+        if !self.is_unopened(c) {
+            return false;
+        }
+        match self.at(c) {
+            None => false,
+            Some(next) => match u8::try_from(next) {
+                Ok(code) => {
+                    if is_yes(row, KEYS + code as u16) {
+                        return true;
+                    }
+                    let key = Key::of(self.search.matcher.sets, self.line, c);
+                    is_yes(row, key.number())
+                }
+                Err(_) => false,
+            },
+        }
+    }
+
+    /// A column from one on, before which all are known to be passed over, by what was answered of the
+    /// region.
+    #[inline(always)]
+    fn idle_by_row(&self, c: usize, row: &[Answer]) -> usize
+        requires column { c ≤ length self.now.line.now }
+        requires row { IsRowOf self.now row.now }
+        ensures from { c ≤ result }
+        ensures within { result ≤ length self.now.line.now }
+        ensures idle { (k : ℕ) → c ≤ k → k < result → IsPassedOver self.now k }
+    {
+        if row.len() < KEYS as usize + 256 {
+            return c;
+        }
+        for col in c..self.line.len() {
+            if !self.is_known_idle(col, row) {
+                return col;
+            }
+        }
+        self.line.len()
+    }
+
+    /// The same, by what is kept.
+    #[inline(always)]
+    fn known_idle_until(&self, c: usize, answers: &KeyAnswers) -> usize
+        requires column { c ≤ length self.now.line.now }
+        requires of { IsOfRegion self.now }
+        requires answers { ShutStands self.now.search answers.now }
+        ensures from { c ≤ result }
+        ensures within { result ≤ length self.now.line.now }
+        ensures idle { (k : ℕ) → c ≤ k → k < result → IsPassedOver self.now k }
+    {
+        match answers.row(self.search.region) {
+            None => c,
+            Some(row) => self.idle_by_row(c, row),
+        }
+    }
+
     /// The first column from one on that isn't passed over; where all are, that behind the line's
     /// end.
     pub(crate) fn idle_until(&self, c: usize, answers: &mut KeyAnswers) -> usize
@@ -181,13 +245,27 @@ impl Walk<'_> {
         ensures within { result ≤ suc (length self.now.line.now) }
         ensures idle { (k : ℕ) → c ≤ k → k < result → IsPassedOver self.now k }
     {
-        let end = self.line.len() + 1;
-        for col in c..end {
-            if !self.passes(col, answers) {
-                return col;
+        let last = self.line.len();
+        let mut col = c;
+        'columns: while col <= last {
+            let known = self.known_idle_until(col, answers);
+            if !self.passes(known, answers) {
+                return known;
             }
+            col = known + 1;
         }
-        end
+        col
+    }
+}
+
+/// Whether an answer by a number is yes.
+#[inline(always)]
+fn is_yes(row: &[Answer], number: u16) -> bool
+    ensures { IsTrue result → IsYesAt row.now number }
+{
+    match row.get(number as usize) {
+        Some(Answer::Yes) => true,
+        _ => false,
     }
 }
 
