@@ -117,11 +117,10 @@ impl Kinds {
             (λ k. (f : FrameRules) → is_of self.now f ≡ true → is_of k f ≡ true) }
     {
         let kind = kind_of(frame);
-        let others = self.copy()?;
         if self.has(kind) {
-            return Ok(others);
+            return self.copy();
         }
-        Kinds::on(alloc, others, kind)
+        Kinds::on(alloc, self.copy()?, kind)
     }
 }
 

@@ -147,6 +147,7 @@ impl Stack {
         }
     }
 
+    #[inline(always)]
     #[tactic(auto, using(crate::proofs::SettledLaws::all_settled_on))]
     fn on(alloc: Global, below: Stack, frame: Frame) -> Result<Stack, Memory>
         requires { length below < 1000 }
@@ -231,6 +232,7 @@ impl Stack {
     }
 
     /// The stack with this frame on top, where there is room.
+    #[inline(always)]
     #[tactic(auto, using(crate::proofs::StackLaws::reverse_on))]
     pub fn with_top(&self, alloc: Global, frame: Frame) -> Result<Stack, Memory>
         requires { length self.now < 1000 }
