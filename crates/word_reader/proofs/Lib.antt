@@ -1,2 +1,3 @@
-pub mod VainLaws
+pub mod LengthLaws
 pub mod RunLaws
+pub mod VainLaws

@@ -9,7 +9,7 @@ ghost use Rattle.word_reader.specs.Words as spec;
 use crate::Adjusts;
 use crate::delimited::delimited;
 use crate::offsets::offsets;
-use crate::words::{Until, begins, behind_first, is_over, past, past_command, run};
+use crate::words::{Until, begins, behind_first, is_over, past, past_command, split_run};
 use std::alloc::Global;
 use std::marker::Model;
 use syn_base::{List, Memory};
@@ -107,12 +107,14 @@ impl<'a> Reader<'a> {
     }
 
     /// Takes a run of characters.
+    #[tactic(auto, using(crate::proofs::VainLaws::known_past))]
     pub fn run(&mut self, alloc: Global, until: Until) -> Result<List<char>, Memory>
         ensures word { IfOk result (λ word. word ≡ spec.run until self.old) }
         ensures rest { IfOk result (λ _. self.new ≡ spec.past until self.old) }
     {
-        let word = run(alloc, until, self.rest)?;
-        self.skip_run(until);
+        let (front, rest) = split_run(until, self.rest);
+        let word = List::from_slice(alloc, front)?;
+        self.rest = rest;
         Ok(word)
     }
 

@@ -35,7 +35,18 @@ pub(crate) fn stops(until: Until, c: char) -> bool
 pub fn run(alloc: Global, until: Until, text: &[char]) -> Result<List<char>, Memory>
     ensures { IfOk result (λ word. word ≡ spec.run until text.now) }
 {
-    List::from_slice(alloc, &text[..run_length(until, text)])
+    let (front, _) = split_run(until, text);
+    List::from_slice(alloc, front)
+}
+
+/// The run at the front of a text, and what follows it.
+#[tactic(auto, using(crate::proofs::RunLaws::front_is_run, crate::proofs::RunLaws::rest_is_past))]
+pub(crate) fn split_run(until: Until, text: &[char]) -> (&[char], &[char])
+    ensures run { result.0.now ≡ spec.run until text.now }
+    ensures past { result.1.now ≡ spec.past until text.now }
+{
+    let length = run_length(until, text);
+    (&text[..length], &text[length..])
 }
 
 /// How many characters the run at the front of a text has.
@@ -157,18 +168,26 @@ fn same(ignore: bool, text: &[char], word: &[u8]) -> bool
     }
 }
 
+/// The same; words of other lengths aren't compared.
+#[tactic(auto, using(crate::proofs::LengthLaws::other_length))]
+fn same_length(ignore: bool, text: &[char], word: &[u8]) -> bool
+    ensures { result ≡ spec.same ignore text.now word.now }
+{
+    text.len() == word.len() && same(ignore, text, word)
+}
+
 /// Whether a text is this ASCII word.
 pub fn is_word(text: &[char], word: &str) -> bool
     ensures { result ≡ spec.is_word text.now word.now }
 {
-    same(false, text, word.as_bytes())
+    same_length(false, text, word.as_bytes())
 }
 
 /// Whether a text is this ASCII word, case ignored.
 pub fn is_word_in_any_case(text: &[char], word: &str) -> bool
     ensures { result ≡ spec.is_word_in_any_case text.now word.now }
 {
-    same(true, text, word.as_bytes())
+    same_length(true, text, word.as_bytes())
 }
 
 fn bang(least: usize, c: char, rest: &[char]) -> Option<bool>
