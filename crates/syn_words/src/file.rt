@@ -1,5 +1,5 @@
 //! The commands of a whole file.
-ghost use Rattle.std.specs.Prelude.{◌≡◌, ◌∷◌, ◌++◌, [], IfOk, None, Some};
+ghost use Rattle.std.specs.Prelude.{◌≡◌, ◌∷◌, ◌++◌, [], IfOk, OnOk, None, Some};
 ghost use Rattle.syn_words.specs.FileCommands as spec;
 ghost use Rattle.word_reader.specs.Words as words;
 
@@ -28,70 +28,59 @@ pub(crate) struct Progress {
     pub fault: Option<WordFault>,
 }
 
-fn with_command(progress: Progress, number: usize, what: What) -> Result<Progress, Memory>
-    ensures { IfOk result (λ p. p ≡ spec.with_command progress number what) }
+fn add_command(progress: &mut Progress, number: usize, what: What) -> Result<(), Memory>
+    ensures { OnOk result (progress.new ≡ spec.with_command progress.old number what) }
 {
-    let Progress {
-        mut list,
-        guard: _,
-        fault,
-    } = progress;
-    list.push(Command { line: number, what })?;
-    Ok(Progress {
-        list,
-        guard: Guard::Outside,
-        fault,
-    })
+    progress.list.push(Command { line: number, what })?;
+    progress.guard = Guard::Outside;
+    Ok(())
 }
 
-fn with_guard(progress: Progress, guard: Guard) -> Progress
-    ensures { result ≡ spec.with_guard progress guard }
+fn set_guard(progress: &mut Progress, guard: Guard)
+    ensures { progress.new ≡ spec.with_guard progress.old guard }
 {
-    Progress {
-        list: progress.list,
-        guard,
-        fault: progress.fault,
-    }
+    progress.guard = guard;
 }
 
-fn with_fault(progress: Progress, number: usize, cause: Cause) -> Progress
-    ensures { result ≡ spec.with_fault progress number cause }
+fn set_fault(progress: &mut Progress, number: usize, cause: Cause)
+    ensures { progress.new ≡ spec.with_fault progress.old number cause }
 {
-    Progress {
-        list: progress.list,
-        guard: progress.guard,
-        fault: Some(WordFault {
-            line: number,
-            cause,
-        }),
-    }
+    progress.fault = Some(WordFault {
+        line: number,
+        cause,
+    });
 }
 
 /// A fault of the guard whose `if` stands in the line `opened`.
-fn guard_fault(progress: Progress, opened: usize, number: usize, cause: Cause) -> Progress
-    ensures { result ≡ spec.guard_fault progress opened number cause }
+fn set_guard_fault(progress: &mut Progress, opened: usize, number: usize, cause: Cause)
+    ensures { progress.new ≡ spec.guard_fault progress.old opened number cause }
 {
     match cause {
-        Cause::GuardUnfinished => with_fault(progress, opened, Cause::GuardUnfinished),
-        cause => with_fault(progress, number, cause),
+        Cause::GuardUnfinished => set_fault(progress, opened, Cause::GuardUnfinished),
+        cause => set_fault(progress, number, cause),
     }
 }
 
 /// A command outside the guard, or the guard's `if`.
 fn read_outside(
     alloc: Global,
-    progress: Progress,
+    progress: &mut Progress,
     number: usize,
     reader: &mut Reader<'_>,
-) -> Result<Progress, Memory>
-    ensures { IfOk result (λ p. spec.outside progress number reader.old ≡ (p, reader.new)) }
+) -> Result<(), Memory>
+    ensures { OnOk result
+        (spec.outside progress.old number reader.old ≡ (progress.new, reader.new)) }
 {
     match command(alloc, reader) {
-        Ok(Said::Does(what)) => Ok(with_command(progress, number, what)?),
-        Ok(Said::OpensGuard) => Ok(with_guard(progress, Guard::AwaitsFinish(number))),
+        Ok(Said::Does(what)) => add_command(progress, number, what),
+        Ok(Said::OpensGuard) => {
+            set_guard(progress, Guard::AwaitsFinish(number));
+            Ok(())
+        }
         Err(WordRefusal::Fault(cause)) => {
             reader.leave();
-            Ok(with_fault(progress, number, cause))
+            set_fault(progress, number, cause);
+            Ok(())
         }
         Err(WordRefusal::Memory) => Err(Memory),
     }
@@ -99,18 +88,23 @@ fn read_outside(
 
 /// Behind the guard's `if`.
 fn read_finish(
-    progress: Progress,
+    progress: &mut Progress,
     opened: usize,
     number: usize,
     reader: &mut Reader<'_>,
-) -> Result<Progress, Memory>
-    ensures { IfOk result (λ p. spec.finish progress opened number reader.old ≡ (p, reader.new)) }
+) -> Result<(), Memory>
+    ensures { OnOk result
+        (spec.finish progress.old opened number reader.old ≡ (progress.new, reader.new)) }
 {
     match awaited("finish", reader) {
-        Ok(()) => Ok(with_guard(progress, Guard::AwaitsEndif(opened))),
+        Ok(()) => {
+            set_guard(progress, Guard::AwaitsEndif(opened));
+            Ok(())
+        }
         Err(WordRefusal::Fault(cause)) => {
             reader.leave();
-            Ok(guard_fault(progress, opened, number, cause))
+            set_guard_fault(progress, opened, number, cause);
+            Ok(())
         }
         Err(WordRefusal::Memory) => Err(Memory),
     }
@@ -118,18 +112,20 @@ fn read_finish(
 
 /// Behind the guard's `finish`.
 fn read_endif(
-    progress: Progress,
+    progress: &mut Progress,
     opened: usize,
     number: usize,
     reader: &mut Reader<'_>,
-) -> Result<Progress, Memory>
-    ensures { IfOk result (λ p. spec.endif progress opened number reader.old ≡ (p, reader.new)) }
+) -> Result<(), Memory>
+    ensures { OnOk result
+        (spec.endif progress.old opened number reader.old ≡ (progress.new, reader.new)) }
 {
     match awaited("endif", reader) {
-        Ok(()) => Ok(with_command(progress, opened, What::Nothing)?),
+        Ok(()) => add_command(progress, opened, What::Nothing),
         Err(WordRefusal::Fault(cause)) => {
             reader.leave();
-            Ok(guard_fault(progress, opened, number, cause))
+            set_guard_fault(progress, opened, number, cause);
+            Ok(())
         }
         Err(WordRefusal::Memory) => Err(Memory),
     }
@@ -138,15 +134,16 @@ fn read_endif(
 /// A bar, or the command that begins here.
 fn read_one(
     alloc: Global,
-    progress: Progress,
+    progress: &mut Progress,
     number: usize,
     reader: &mut Reader<'_>,
-) -> Result<Progress, Memory>
-    ensures { IfOk result (λ p. spec.read_one progress number reader.old ≡ (p, reader.new)) }
+) -> Result<(), Memory>
+    ensures { OnOk result
+        (spec.read_one progress.old number reader.old ≡ (progress.new, reader.new)) }
 {
     if reader.begins('|') {
         reader.skip_one();
-        return Ok(progress);
+        return Ok(());
     }
     match progress.guard {
         Guard::Outside => read_outside(alloc, progress, number, reader),
@@ -166,15 +163,15 @@ fn line_is_over(text: &[char]) -> bool
 }
 
 /// The commands of one line more.
-fn with_line(
+fn add_line(
     alloc: Global,
-    progress: Progress,
+    progress: &mut Progress,
     number: usize,
     text: &[char],
-) -> Result<Progress, Memory>
-    ensures { IfOk result (λ p. p ≡ spec.line_after progress number text.now text.now) }
+) -> Result<(), Memory>
+    ensures { OnOk result
+        (progress.new ≡ spec.line_after progress.old number text.now text.now) }
 {
-    let mut progress = progress;
     let mut reader = Reader::new(text);
     let mut turns = text;
     while let Some((_, fewer)) = front(turns) {
@@ -182,10 +179,10 @@ fn with_line(
         if line_is_over(reader.rest()) {
             break;
         }
-        progress = read_one(alloc, progress, number, &mut reader)?;
+        read_one(alloc, progress, number, &mut reader)?;
         turns = fewer;
     }
-    Ok(progress)
+    Ok(())
 }
 
 fn no_progress(alloc: Global) -> Progress
@@ -207,7 +204,7 @@ fn with_lines(alloc: Global, lines: &[LogicalLine]) -> Result<Progress, Memory>
         if progress.fault.is_some() {
             break;
         }
-        progress = with_line(alloc, progress, line.number, line.text.as_slice())?;
+        add_line(alloc, &mut progress, line.number, line.text.as_slice())?;
     }
     Ok(progress)
 }

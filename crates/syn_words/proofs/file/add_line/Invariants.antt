@@ -1,6 +1,6 @@
 use Rattle.std.proofs.Common.{◌≡◌, length}
 use Rattle.syn_words.specs.FileCommands.{line_after}
-use Rattle.syn_words.proofs.file.with_line.Given as goal
+use Rattle.syn_words.proofs.file.add_line.Given as goal
 
 -- what has been read, with the commands from here on, is what the line leaves
 abbrev pub invariant-loop-fewer : goal.invariant-loop-fewer
