@@ -9,6 +9,7 @@ pub mod LineLaws
 pub mod ListLaws
 pub mod MatchLaws
 pub mod NeedLaws
+pub mod NearLaws
 pub mod NextLaws
 pub mod OwnLaws
 pub mod PickLaws

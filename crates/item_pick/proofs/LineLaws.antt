@@ -2,8 +2,9 @@
 use Rattle.slots.specs.declared.marks.Marks.{Marks}
 use Rattle.slots.specs.Entries.{IsMarked}
 use Rattle.slots.proofs.EntryLaws.{all_marked}
-use Rattle.item_pick.proofs.Common.{◌≡◌, ◌⊎◌, item_numbered, LineStands, refl, sym, subst, arith, ℕ, ◌+◌, ◌≤◌, length, Result, Ok, Err, IfOk, Looked, ItemId, Place, Text, line_at, Pattern, Rules, item_of, place_at, Run, HoldsLine, HoldsLines, IsLater, IsPatternOf, IsBarren, IsLackedIn, RunStands, IsWhole}
+use Rattle.item_pick.proofs.Common.{◌≡◌, ◌⊎◌, item_numbered, LineStands, refl, sym, subst, arith, ℕ, ◌+◌, ◌≤◌, length, Result, Ok, Err, IfOk, Looked, ItemId, Place, Text, line_at, Pattern, Rules, item_of, place_at, Run, HoldsLine, HoldsLines, IsLater, IsPatternOf, IsBarren, IsLackedIn, inl, inr, two_lines, RunStands, IsWhole}
 use Rattle.item_pick.specs.declared.line_known.LineKnown.{LineKnown}
+use Rattle.item_pick.specs.Tables.{IsNearBy}
 use Rattle.item_pick.proofs.NeedLaws.{IsNeedLaw, lacked_quiet}
 use Rattle.item_pick.proofs.TableLaws.{covered_quiet}
 
@@ -39,7 +40,22 @@ barren_later r t p i barren present k held pattern its col next ahead = record {
   idle = λ c from below within. barren p.col 0 k present held pattern its c (omega arith) within;
 }
 
+-- one item more that is near
+pub more_near : (r : Rules) (t : Text) (l : ℕ) (line : LineKnown) (new : Marks) (i : ItemId) (pair : Looked) → ((k : ℕ) → IsMarked new k → IsMarked line.near k ⊎ (k ≡ i.0)) → LineStands r t l line → pair ≡ two_lines l → IsNearBy r t l i →
+    LineStands r t l (record line { near = new; pair = pair })
+more_near r t l line new i pair put stands is one = record {
+  keys = stands.keys;
+  held = stands.held;
+  runs = stands.runs;
+  barren = stands.barren;
+  near = λ k marked. elim (put k marked) [
+    | inl before ↦ (is, (stands.near k before).1)
+    | inr this ↦ (is, subst (λ n. IsNearBy r t l (item_numbered n)) (sym this) one)
+  ];
+  ends = stands.ends;
+}
+
 -- one item more that is barren
 pub more_barren : (r : Rules) (t : Text) (l : ℕ) (line : LineKnown) (new : Marks) (number : ℕ) → ((k : ℕ) → IsMarked new k → IsMarked line.barren k ⊎ (k ≡ number)) → LineStands r t l line → IsBarren r t l (item_numbered number) → LineStands r t l (record line { barren = new })
 more_barren r t l line new number put stands one =
-    record { keys = stands.keys; held = stands.held; runs = stands.runs; barren = all_marked (λ k. IsBarren r t l (item_numbered k)) line.barren new number put stands.barren one; ends = stands.ends }
+    record { keys = stands.keys; held = stands.held; runs = stands.runs; barren = all_marked (λ k. IsBarren r t l (item_numbered k)) line.barren new number put stands.barren one; near = stands.near; ends = stands.ends }

@@ -19,6 +19,12 @@ no_end : (line : List ℕ) (c : ℕ) (set : List ℕ) → begins_word set line c
 unfolding word_end
 no_end line c set e = rw e refl
 
+-- without a keyword character there is no keyword
+pub no_keyword_character : (r : Rules) (test : ItemId → Bool) (line : List ℕ) (c : ℕ) → has_at r.sets.keyword line c ≡ false → keyword_at r test line c ≡ None
+no_keyword_character r test line c e =
+    let none : begins_word r.sets.keyword line c ≡ false = rw e refl in
+    ap (keyword_to r test line c) (no_end line c r.sets.keyword none)
+
 keyword_last : (sets : Sets) (o : Option ℕ) → last_of (has_keyword sets o) ≡ last.Keyword → option_map_or (set_has sets.keyword) o false ≡ true
 keyword_last sets None e = absurd (cc)
 keyword_last sets (Some x) e = elim (set_has sets.keyword x) as (λ b. last_of b ≡ last.Keyword → b ≡ true) [ true ↦ λ _. refl | false ↦ λ e. absurd (cc) ] e

@@ -46,7 +46,7 @@ moved last at from ms = elim ms as (λ _. Bool) [
   | Some o ↦ o.from_end || nat_eq (within_line last (pos from +ℤ o.by)) at
 ]
 
-here_by : (last at c : ℕ) (moves : Bool) (ms : Option Offset) → not moves ≡ true → is_none ms ≡ true → (moves || moved last at c ms) ≡ true → c ≡ at
+pub here_by : (last at c : ℕ) (moves : Bool) (ms : Option Offset) → not moves ≡ true → is_none ms ≡ true → (moves || moved last at c ms) ≡ true → c ≡ at
 here_by last at c true ms m n e = absurd (cc)
 here_by last at c false None m n e = grind (arith, nat_tests)
 here_by last at c false (Some o) m n e = absurd (cc)
@@ -79,7 +79,7 @@ zero_below (y ∷ z ∷ zs) (suc n) x e is =
     absurd (omega (arith, h))
 
 -- where an item starts by one pattern, that is the first one
-only_first : (kind : ItemKind) → has_one_start kind ≡ true → (pattern : Pattern) → IsPatternOf kind pattern → first_pattern kind ≡ Some pattern
+pub only_first : (kind : ItemKind) → has_one_start kind ≡ true → (pattern : Pattern) → IsPatternOf kind pattern → first_pattern kind ≡ Some pattern
 only_first Keyword e pattern its = absurd its
 only_first (Match p) e pattern its = ap (λ (q : Pattern). Some q) its
 only_first (Region starts skip ends) e pattern its = zero_below starts its.0 pattern e its.1

@@ -13,8 +13,7 @@ use Rattle.paint_rules.specs.Close.{is_body}
 use Rattle.paint_rules.specs.Pick.{WordFound}
 use Rattle.item_pick.specs.declared.choice.Choice.{Choice}
 use Rattle.item_pick.specs.declared.choice.Choice.TheVariants.{ListOf, Within, NoItem}
-use Rattle.item_pick.specs.declared.starting.Starting.{Starting}
-use Rattle.item_pick.specs.declared.starting.Starting.TheVariants.{Word}
+use Rattle.item_pick.specs.declared.starting.Word.{Word}
 use Rattle.item_pick.specs.declared.picking.StartBy.{StartBy}
 
 -- a place of a present line, in a text of few lines
@@ -61,10 +60,9 @@ abbrev pub is_clear : Rules → Frame → Bool
 is_clear r f = is_body f.part && (item_of r.items f.item).transparent && is_none (item_of r.items f.item).contains
 
 -- the word that starts
-abbrev pub IsKeyword : Option Starting → Option WordFound → Type 0
+abbrev pub IsKeyword : Option Word → Option WordFound → Type 0
 IsKeyword None found = found ≡ None
-IsKeyword (Some (Word i end)) found = found ≡ Some (record { item = i; end = end })
-IsKeyword (Some _) found = ⊥
+IsKeyword (Some word) found = found ≡ Some (record { item = word.item; end = word.end })
 
 -- a start pattern of an item that is there; that of number 0 is its first
 pub record IsStartOf (r : Rules) (by : StartBy) : Type 0 where

@@ -19,6 +19,7 @@ use Rattle.pattern_screens.specs.Bounds.{failing_cost}
 use Rattle.pattern_screens.specs.Failing.{fails}
 use Rattle.pattern_screens.specs.Following.{fails_after, takes_first}
 use Rattle.pattern_screens.specs.Keys.{AreNumbers, key_numbered, key_of}
+use Rattle.pattern_screens.specs.ScreenLaw.{two_lines}
 use Rattle.region_ends.specs.EndMemo.{EndMemoStands}
 use Rattle.region_ends.specs.KeyAnswers.{AnswersStand}
 use Rattle.region_ends.specs.Passing.{is_shut_at}
@@ -29,9 +30,9 @@ use Rattle.item_pick.specs.declared.needs.Wanted.{Wanted}
 use Rattle.item_pick.specs.declared.runs.Run.{Run}
 use Rattle.item_pick.specs.declared.rows.Row.{Row}
 use Rattle.item_pick.specs.declared.tables.Tables.{Tables}
-use Rattle.item_pick.specs.Firsts.{AreFirstsOf}
+use Rattle.item_pick.specs.Firsts.{AreFirstsOf, IsToldOfFirst, rest_asked}
 use Rattle.item_pick.specs.Quiet.{item_numbered, IsPassed, IsQuiet}
-use Rattle.item_pick.specs.Screens.{HoldsLine, IsSettled}
+use Rattle.item_pick.specs.Screens.{HoldsLine, HoldsLines, IsSettled}
 use Rattle.item_pick.specs.Settled.{item_wanders}
 use Rattle.item_pick.specs.Standing.{IsFirst, IsPatternOf}
 use Rattle.item_pick.specs.Started.{admits, is_free}
@@ -199,11 +200,23 @@ IsBarren r t l i =
     (at floor : ℕ) (k : Looked) → at ≤ length (line_at t l) → HoldsLine k l →
     IsQuiet r t (place_at l at) floor k i
 
+-- once some lines were looked at, an item starts at no column of the line at which what follows the look
+-- behind fails with which its first pattern begins
+abbrev pub IsNear : Rules → Text → ℕ → Looked → ItemId → Type 0
+IsNear r t l k i =
+    (at number floor : ℕ) → IsNumberAt r (line_at t l) at number → IsToldOfFirst rest_asked r number i →
+    HoldsLine k l → IsQuiet r t (place_at l at) floor k i
+
+-- once it and the one before were
+abbrev pub IsNearBy : Rules → Text → ℕ → ItemId → Type 0
+IsNearBy r t l i = (k : Looked) → HoldsLines k (two_lines l) → IsNear r t l k i
+
 pub record LineStands (r : Rules) (t : Text) (l : ℕ) (line : LineKnown) : Type 0 where
   pub keys : AreNumbers r.sets (line_at t l) (length (line_at t l) + 1) line.numbers.items
   pub held : AreHeld line.held (length (line_at t l)) (line_at t l)
   pub runs : (k : ℕ) (run : Run) → Has line.runs k run → RunStands r t l run
   pub barren : (k : ℕ) → IsMarked line.barren k → IsBarren r t l (item_numbered k)
+  pub near : (k : ℕ) → IsMarked line.near k → (line.pair ≡ two_lines l) × IsNearBy r t l (item_numbered k)
   pub ends : EndMemoStands r.items r.sets r.budget t l line.ends
 
 -- ---- both

@@ -5,7 +5,7 @@ ghost use Rattle.item_pick.specs.Common.{line_at, start_among, picked, waits_on,
 use crate::choice::Choice;
 use crate::memory::PickMemory;
 use crate::picking::Picking;
-use crate::starting::{Found, Outcome};
+use crate::starting::{Found, Outcome, Starting, Word};
 use crate::stop::Stop;
 use paint_rules::Waiting;
 use state_stack::Stack;
@@ -49,7 +49,7 @@ impl<T: Lines> Picking<'_, T> {
     {
         let word = self.keyword_by(choice, &memory.tables)?;
         match word {
-            Some(starting) => Ok(Some(starting)),
+            Some(Word { item, end }) => Ok(Some(Starting::Word { item, end })),
             None => self.first_start(choice, looked, memory),
         }
     }

@@ -1,18 +1,19 @@
 //! What is known of the line that is painted: where items don't start, and where regions end.
 ghost use Rattle.std.specs.Prelude.{◌≡◌, ◌<◌, ◌≤◌, ◌+◌, ◌^◌, ℕ, length, IfOk, IfSome, IsTrue};
 ghost use Rattle.std.specs.List.{All};
-ghost use Rattle.item_pick.specs.Common.{Text, line_at, Rules, place_at, rules_in, IsQuiet, item_numbered, TellsOf, HoldsLine, IsBarren, IsNumberAt, IsWanted, LineStands, RunStands};
+ghost use Rattle.item_pick.specs.Common.{Text, line_at, Rules, place_at, rules_in, IsQuiet, item_numbered, TellsOf, HoldsLine, HoldsLines, IsBarren, IsNear, IsNumberAt, IsWanted, LineStands, RunStands, two_lines};
 ghost use Rattle.item_pick.specs.declared.parts.Parts.{Parts as PartsOf};
+ghost use Rattle.syn_base.specs.declared.looked.Looked.{Looked as LookedOf};
 
 use crate::needs::Wanted;
-use crate::runs::{Run, Search};
+use crate::runs::{Run, Search, holds};
 use char_class::Sets;
 use pattern_needs::Held;
 use pattern_screens::number_line;
 use region_ends::EndMemo;
 use slots::{Marks, Slots};
 use std::alloc::Global;
-use syn_base::{ItemId, Memory};
+use syn_base::{ItemId, Looked, Memory};
 
 /// What is known of the line that is painted.
 #[derive(Drop)]
@@ -25,6 +26,11 @@ pub(crate) struct LineKnown {
     runs: Slots<Run>,
     /// The numbers of items that start nowhere in it.
     barren: Marks,
+    /// The numbers of items that don't start where what follows their look behind fails, once some lines
+    /// were looked at.
+    near: Marks,
+    /// Those lines: it and the one before, where an item is such.
+    pair: Looked,
     /// Where regions end.
     pub(crate) ends: EndMemo,
 }
@@ -37,6 +43,8 @@ impl LineKnown {
             held: Held::none(),
             runs: Slots::new(alloc),
             barren: Marks::new(alloc),
+            near: Marks::new(alloc),
+            pair: Looked::one(0),
             ends: EndMemo::new(alloc),
         }
     }
@@ -48,6 +56,7 @@ impl LineKnown {
     {
         self.runs.clear();
         self.barren.clear();
+        self.near.clear();
         self.ends.clear();
         self.held = Held::of(line);
         number_line(sets, line, &mut self.numbers)
@@ -128,6 +137,30 @@ impl LineKnown {
             IsBarren r t l (item_numbered id) }
     {
         self.barren.has(id as usize)
+    }
+
+    /// Whether an item is known not to start where what follows its look behind fails, once some lines
+    /// were looked at.
+    #[inline(always)]
+    pub(crate) fn is_near(&self, id: u32, looked: Looked) -> bool
+        ensures { IsTrue result → (r : Rules) (t : Text) (l : ℕ) → LineStands r t l self.now →
+            IsNear r t l looked (item_numbered id) }
+    {
+        if !self.near.has(id as usize) {
+            return false;
+        }
+        holds(looked, self.pair)
+    }
+
+    /// Notes that an item is such by the line and the one before.
+    #[inline(never)]
+    pub(crate) fn note_near(&mut self, id: ItemId, pair: Looked) -> Result<(), Memory>
+        ensures { (r : Rules) (t : Text) (l : ℕ) → pair ≡ two_lines l →
+            ((looked : LookedOf) → HoldsLines looked pair → IsNear r t l looked id) →
+            LineStands r t l self.old → LineStands r t l self.new }
+    {
+        self.pair = pair;
+        self.near.put(id.0 as usize)
     }
 
     /// The run of an item that holds a column or ends there, and tells of a place.

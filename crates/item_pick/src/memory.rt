@@ -1,6 +1,6 @@
 //! What is kept of a syntax, and what is known of the line that is painted.
-ghost use Rattle.std.specs.Prelude.{◌≡◌, ◌<◌, ◌≤◌, ◌^◌, ℕ, length, reverse, IfOk, IfSome, true, pos};
-ghost use Rattle.item_pick.specs.Common.{one_line, Text, line_at, Rules, rules_by, rules_in, TellsOf, IsEarlier, IsLastFree, IsLater, IsSettled, IsVainFrom, ChoiceFits, IsFirstOf, IsStartOf, MayAsk, LineStands, MemoryStands, RunStands, TablesStand, MayPick};
+ghost use Rattle.std.specs.Prelude.{◌≡◌, ◌<◌, ◌≤◌, ◌^◌, ℕ, length, reverse, IfOk, IfSome, true, false, pos};
+ghost use Rattle.item_pick.specs.Common.{one_line, Text, line_at, Rules, rules_by, rules_in, TellsOf, IsEarlier, IsLastFree, IsLater, IsSettled, IsVainFrom, ChoiceFits, IsFirstOf, IsStartOf, MayAsk, LineStands, MemoryStands, RunStands, TablesStand, MayPick, AreWithin, IsCheapWithin, two_lines, wanders};
 
 use crate::asked::Asked;
 use crate::choice::Choice;
@@ -62,6 +62,24 @@ impl LineKnown {
         match self.known(by.item, col, at.col) {
             Some(run) => run,
             None => asked.fresh_run(by, at.line, col),
+        }
+    }
+
+    /// Notes of an item whose first pattern doesn't wander, if it has no other, that it doesn't start where
+    /// what follows its look behind fails, by the line and the one before, which aren't too long.
+    #[inline(never)]
+    fn note_behind(&mut self, asked: &Asked, by: &StartBy<'_>, pair: Looked) -> Result<(), Memory>
+        requires first { IsFirstOf (rules_by asked.now) by.now }
+        requires sits { wanders by.now.pattern.now ≡ false }
+        ensures { (t : Text) (l most : ℕ) → pair ≡ two_lines l → AreWithin most t l →
+            IsCheapWithin (rules_by asked.now) by.now.item most →
+            LineStands (rules_by asked.now) t l self.old →
+            LineStands (rules_by asked.now) t l self.new }
+    {
+        if asked.has_one_start(by.item) {
+            self.note_near(by.item, pair)
+        } else {
+            Ok(())
         }
     }
 }
@@ -144,11 +162,12 @@ impl PickMemory {
         let Some(number) = self.line.number_at(col) else {
             return Ok(None);
         };
-        if self.tables.firsts.ask(asked, by, Question::Behind, number)? {
-            Ok(Some(two_lines(line)))
-        } else {
-            Ok(None)
+        if !self.tables.firsts.ask(asked, by, Question::Behind, number)? {
+            return Ok(None);
         }
+        let pair = two_lines(line);
+        self.line.note_behind(asked, by, pair)?;
+        Ok(Some(pair))
     }
 
     /// Remembers that a match from a column has its item start at none of some places of the line, and

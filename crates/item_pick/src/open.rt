@@ -2,16 +2,19 @@
 ghost use Rattle.std.specs.Prelude.{◌≡◌, ◌<◌, ◌≤◌, ℕ, false, suc, get_or, length, nat_lt, reverse, IfOk, IfSome, IsTrue};
 ghost use Rattle.std.specs.List.{list_any};
 ghost use Rattle.std.specs.List.Sorted.{IsNonDecreasing};
-ghost use Rattle.item_pick.specs.Common.{Text, line_at, place_at, IsPassed, item_numbered, same_item, HoldsLine, ChoiceFits, AreKnown, AreTablesOf, IsLastFree, IsListed, IsNextAt, IsNextIn, IsNumberAt, LineStands, rules_by};
+ghost use Rattle.item_pick.specs.Common.{Text, Rules, line_at, place_at, IsPassed, IsQuiet, item_numbered, same_item, HoldsLine, ChoiceFits, AreKnown, AreTablesOf, IsLastFree, IsListed, IsNextAt, IsNextIn, IsNumberAt, LineStands, rules_by};
 
 use crate::asked::Asked;
 use crate::choice::Choice;
+use crate::firsts::Question;
+use crate::line_known::LineKnown;
 use crate::runs::Search;
 use crate::tables::Tables;
-use syn_base::{ItemId, Memory};
+use syn_base::{ItemId, Looked, Memory};
 
 impl Tables {
-    /// Whether an item has started at a column, or is known not to: also by what stands one column behind.
+    /// Whether an item has started at a column, or is known not to: also by what stands there or one column
+    /// behind.
     fn is_over(&self, _asked: &Asked, id: u32, search: &Search<'_>) -> bool
         ensures passed { IsTrue result → (t : Text) (l : ℕ) →
             AreKnown (rules_by _asked.now) t l self.now
@@ -27,9 +30,37 @@ impl Tables {
             return true;
         }
         match search.line.number_behind(search.at) {
-            Some(number) => self.firsts.is_idle(id, number),
+            Some(behind) => {
+                if self.firsts.is_idle(id, behind) {
+                    return true;
+                }
+            }
+            None => {}
+        }
+        match search.line.number_at(search.at) {
+            Some(number) => self.fails_behind(id, search.line, number, search.looked),
             None => false,
         }
+    }
+
+    /// Whether an item is known not to start at a column whose key has a number, since what follows its
+    /// look behind fails there.
+    #[inline(always)]
+    pub(crate) fn fails_behind(
+        &self,
+        id: u32,
+        line: &LineKnown,
+        number: u16,
+        looked: Looked,
+    ) -> bool
+        ensures { IsTrue result → (r : Rules) (t : Text) (l at floor : ℕ) →
+            AreKnown r t l self.now line.now → IsNumberAt r (line_at t l) at number →
+            HoldsLine looked l → IsQuiet r t (place_at l at) floor looked (item_numbered id) }
+    {
+        if !line.is_near(id, looked) {
+            return false;
+        }
+        self.firsts.is_told(Question::Behind, number, ItemId(id))
     }
 
     /// The number behind the last item of a list, whose numbers rise, that is below another one and may

@@ -1,5 +1,5 @@
 //! Columns at which nothing starts, by what stands there.
-ghost use Rattle.std.specs.Prelude.{◌≡◌, ◌<◌, ℕ, List, [], length, reverse, IfOk, IsTrue, None, true};
+ghost use Rattle.std.specs.Prelude.{◌≡◌, ◌<◌, ℕ, List, [], length, reverse, IfOk, IfSome, IsTrue, None, true};
 ghost use Rattle.item_pick.specs.Common.{Text, line_at, Rules, place_at, keyword_at, is_free, Fits, IsQuietAt, IsQuietUntil, HoldsLine, ArePassed, AreSettled, ChoiceFits, IsNextAt, IsNumberAt, IsPlace, IsSound, IsWordless, MemoryStands, MayAsk, rules_by, MayBeAsked, MayPick};
 ghost use Rattle.item_pick.specs.declared.choice.Choice.{Choice as ChoiceOf};
 ghost use Rattle.pattern_screens.specs.Keys.{key_numbered};
@@ -42,61 +42,54 @@ impl PickMemory {
 
 impl<T: Lines> Picking<'_, T> {
     /// Whether it is known at once that no item of a choice is left at a column whose key has a number.
-    /// Up to `settled`, and without it, those that wander don't start.
+    /// Up to `settled`, and without it, those that wander don't start; from there on nothing is said.
     #[inline(always)]
     fn is_still_at(
         &self,
         choice: Choice,
         number: u16,
         col: usize,
-        _looked: Looked,
+        looked: Looked,
         settled: usize,
         memory: &PickMemory,
-    ) -> bool
+    ) -> Option<bool>
         requires number { IsNumberAt (rules_by self.now.asked.now)
             (line_at (T.lines self.now.lines.now) self.now.at.line) col number }
         requires settled { col < settled → ArePassed (rules_by self.now.asked.now)
-            (T.lines self.now.lines.now) self.now.at.line choice self.now.floor _looked true col }
-        requires may { MayPick T.lines self.now _looked memory.now }
-        ensures { IsTrue result → IsNextAt (rules_by self.now.asked.now) (T.lines self.now.lines.now)
-            (place_at self.now.at.line col) self.now.floor _looked [] choice
-            (length (rules_by self.now.asked.now).items) 0 }
+            (T.lines self.now.lines.now) self.now.at.line choice self.now.floor looked true col }
+        requires may { MayPick T.lines self.now looked memory.now }
+        ensures { IfSome result (λ still. IsTrue still → IsNextAt (rules_by self.now.asked.now)
+            (T.lines self.now.lines.now) (place_at self.now.at.line col) self.now.floor looked [] choice
+            (length (rules_by self.now.asked.now).items) 0) }
     {
         if settled <= col {
-            return false;
+            return None;
         }
         memory
             .tables
-            .is_still(&memory.line, self.asked, choice, number, col)
+            .is_still(&memory.line, self.asked, choice, number, col, looked)
     }
 
     /// Whether it is known that no item of a choice is left at a column whose key has a number: by the
-    /// row, unless it is told to be so.
+    /// row.
     fn no_item_left(
         &self,
         choice: Choice,
         number: u16,
         col: usize,
         looked: Looked,
-        still: bool,
         memory: &mut PickMemory,
     ) -> Result<bool, Memory>
         requires none_tried { self.now.tried.now ≡ [] }
         requires choice { ChoiceFits (rules_by self.now.asked.now) choice }
         requires number { IsNumberAt (rules_by self.now.asked.now)
             (line_at (T.lines self.now.lines.now) self.now.at.line) col number }
-        requires still { IsTrue still → IsNextAt (rules_by self.now.asked.now)
-            (T.lines self.now.lines.now) (place_at self.now.at.line col) self.now.floor looked [] choice
-            (length (rules_by self.now.asked.now).items) 0 }
         requires may { MayPick T.lines self.now looked memory.old }
         ensures none { IfOk result (λ none. IsTrue none → IsNextAt (rules_by self.now.asked.now)
             (T.lines self.now.lines.now) (place_at self.now.at.line col) self.now.floor looked [] choice
             (length (rules_by self.now.asked.now).items) 0) }
         ensures may { MayAsk T.lines self.now memory.new }
     {
-        if still {
-            return Ok(true);
-        }
         let search = Search {
             at: col,
             floor: self.floor,
@@ -113,6 +106,7 @@ impl<T: Lines> Picking<'_, T> {
 
     /// Whether no keyword of a choice starts at a column whose key has a number. None does where the
     /// choice is told to be wordless.
+    #[inline(always)]
     fn no_keyword_starts(
         &self,
         choice: Choice,
@@ -140,6 +134,9 @@ impl<T: Lines> Picking<'_, T> {
             col,
         };
         let here = Picking { at, ..*self };
+        if !here.may_begin_word() {
+            return Ok(true);
+        }
         Ok(here.keyword(choice)?.is_none())
     }
 
@@ -152,7 +149,6 @@ impl<T: Lines> Picking<'_, T> {
         number: u16,
         col: usize,
         looked: Looked,
-        still: bool,
         wordless: bool,
         memory: &mut PickMemory,
     ) -> Result<bool, Memory>
@@ -161,9 +157,6 @@ impl<T: Lines> Picking<'_, T> {
         requires column { col < length (line_at (T.lines self.now.lines.now) self.now.at.line) }
         requires none_tried { self.now.tried.now ≡ [] }
         requires choice { ChoiceFits (rules_by self.now.asked.now) choice }
-        requires still { IsTrue still → IsNextAt (rules_by self.now.asked.now)
-            (T.lines self.now.lines.now) (place_at self.now.at.line col) self.now.floor looked [] choice
-            (length (rules_by self.now.asked.now).items) 0 }
         requires wordless { IsTrue wordless → IsWordless (rules_by self.now.asked.now) choice }
         requires may { MayPick T.lines self.now looked memory.old }
         ensures quiet { IfOk result (λ quiet. IsTrue quiet → IsQuietAt
@@ -171,7 +164,7 @@ impl<T: Lines> Picking<'_, T> {
             (place_at self.now.at.line col)) }
         ensures may { MayAsk T.lines self.now memory.new }
     {
-        if !self.no_item_left(choice, number, col, looked, still, memory)? {
+        if !self.no_item_left(choice, number, col, looked, memory)? {
             return Ok(false);
         }
         self.no_keyword_starts(choice, number, col, wordless)
@@ -203,11 +196,15 @@ impl<T: Lines> Picking<'_, T> {
         let Some(number) = memory.line.number_at(col) else {
             return Ok(false);
         };
-        let still = self.is_still_at(choice, number, col, looked, settled, memory);
-        if still && has_no_word(number, wordless) {
-            return Ok(true);
+        match self.is_still_at(choice, number, col, looked, settled, memory) {
+            Some(still) => {
+                if !still {
+                    return Ok(false);
+                }
+                self.no_keyword_starts(choice, number, col, wordless)
+            }
+            None => self.is_quiet_by_row(choice, number, col, looked, wordless, memory),
         }
-        self.is_quiet_by_row(choice, number, col, looked, still, wordless, memory)
     }
 
     /// Up to which column it is known that no items of a choice start that wander.

@@ -1,7 +1,6 @@
 //! Columns at which no item starts, since those that wander are known not to and the others are idle.
-ghost use Rattle.std.specs.Prelude.{◌≡◌, ◌<◌, ◌≤◌, ℕ, length, get_or, IsTrue, true, false};
-ghost use Rattle.item_pick.specs.Common.{Text, line_at, Rules, place_at, idles_before, IsQuiet, item_numbered, HoldsLine, ArePassed, AreSettled, AreKnown, AreTablesOf, IsNumberAt, LineStands, rules_by};
-ghost use Rattle.syn_base.specs.declared.looked.Looked.{Looked as LookedOf};
+ghost use Rattle.std.specs.Prelude.{◌<◌, ◌≤◌, ◌+◌, ℕ, length, get_or, IfSome, IsTrue, false};
+ghost use Rattle.item_pick.specs.Common.{Text, line_at, Rules, place_at, IsQuiet, item_numbered, HoldsLine, ArePassed, AreSettled, AreKnown, IsNumberAt, LineStands, rules_by};
 
 use crate::asked::Asked;
 use crate::choice::Choice;
@@ -9,6 +8,7 @@ use crate::line_known::LineKnown;
 use crate::rows::ANY;
 use crate::runs::Search;
 use crate::tables::Tables;
+use syn_base::Looked;
 
 impl Search<'_> {
     /// The first column from its own on at which it isn't known of all items of a list that they have no
@@ -52,39 +52,68 @@ impl Tables {
         }
     }
 
-    /// Whether all items of a list are known not to start one column before one whose key has a number.
-    fn are_idle(&self, list: &[u32], number: u16) -> bool
-        ensures { IsTrue result → (r : Rules) → AreTablesOf r self.now → (k : ℕ) →
-            k < length list.now → idles_before r number (get_or list.now k 0) ≡ true }
+    /// Whether an item is known not to start at a column whose key has a number, by that, by the number of
+    /// the key one column behind, or by the line.
+    #[inline(always)]
+    fn rests(
+        &self,
+        _asked: &Asked,
+        id: u32,
+        line: &LineKnown,
+        number: u16,
+        behind: u16,
+        looked: Looked,
+    ) -> bool
+        ensures { IsTrue result → (t : Text) (l col floor : ℕ) →
+            AreKnown (rules_by _asked.now) t l self.now line.now →
+            IsNumberAt (rules_by _asked.now) (line_at t l) col number → 0 < col →
+            IsNumberAt (rules_by _asked.now) (line_at t l) (col + 1) behind →
+            HoldsLine looked l →
+            IsQuiet (rules_by _asked.now) t (place_at l col) floor looked (item_numbered id) }
     {
-        for id in list {
-            if !self.firsts.is_idle(*id, number) {
-                return false;
-            }
+        if line.is_barren(id) {
+            return true;
         }
-        true
+        if self.firsts.is_idle(id, behind) {
+            return true;
+        }
+        self.fails_behind(id, line, number, looked)
     }
 
-    /// Whether all items of a list are known not to start at a column.
+    /// Whether all items of a list are known not to start at a column whose key has a number.
     #[inline(always)]
-    fn are_still(&self, _asked: &Asked, list: &[u32], line: &LineKnown, col: usize) -> bool
+    fn are_still(
+        &self,
+        _asked: &Asked,
+        list: &[u32],
+        line: &LineKnown,
+        number: u16,
+        col: usize,
+        looked: Looked,
+    ) -> bool
         ensures { IsTrue result → (t : Text) (l : ℕ) →
             AreKnown (rules_by _asked.now) t l self.now line.now →
-            (floor : ℕ) (looked : LookedOf) → HoldsLine looked l →
+            IsNumberAt (rules_by _asked.now) (line_at t l) col number →
+            (floor : ℕ) → HoldsLine looked l →
             (k : ℕ) → k < length list.now → IsQuiet (rules_by _asked.now) t (place_at l col) floor
             looked (item_numbered (get_or list.now k 0)) }
     {
         if list.is_empty() {
             return true;
         }
-        match line.number_behind(col) {
-            Some(behind) => self.are_idle(list, behind),
-            None => false,
+        let Some(behind) = line.number_behind(col) else {
+            return false;
+        };
+        for id in list {
+            if !self.rests(_asked, *id, line, number, behind, looked) {
+                return false;
+            }
         }
+        true
     }
 
     /// Whether those items of a choice that don't wander are known not to start at a column whose key
-    /// has a number.
+    /// has a number. Nothing is said where the row wasn't made.
     #[inline(always)]
     pub(crate) fn is_still(
         &self,
@@ -93,17 +122,16 @@ impl Tables {
         choice: Choice,
         number: u16,
         col: usize,
-    ) -> bool
-        ensures { IsTrue result → (t : Text) (l : ℕ) →
+        looked: Looked,
+    ) -> Option<bool>
+        ensures { IfSome result (λ still. IsTrue still → (t : Text) (l : ℕ) →
             AreKnown (rules_by asked.now) t l self.now line.now →
             IsNumberAt (rules_by asked.now) (line_at t l) col number →
-            (floor : ℕ) (looked : LookedOf) → HoldsLine looked l →
+            (floor : ℕ) → HoldsLine looked l →
             ArePassed (rules_by asked.now) t l choice floor looked false
-            col }
+            col) }
     {
-        match self.row(choice, number) {
-            Some(row) => self.are_still(asked, row.resting.as_slice(), line, col),
-            None => false,
-        }
+        let row = self.row(choice, number)?;
+        Some(self.are_still(asked, row.resting.as_slice(), line, number, col, looked))
     }
 }

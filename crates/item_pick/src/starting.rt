@@ -31,6 +31,13 @@ pub enum Starting {
     },
 }
 
+/// A keyword, whose word ends before a column.
+#[derive(Clone, Copy)]
+pub(crate) struct Word {
+    pub(crate) item: ItemId,
+    pub(crate) end: usize,
+}
+
 /// What starts at a place, and the lines that were looked at to tell.
 #[derive(Drop)]
 pub enum Picked {

@@ -13,5 +13,6 @@ returns c r t l same line =
       };
       runs = λ k run has. absurd (c.clear.ensures k run has);
       barren = λ k has. absurd (c.clear-2.ensures k has);
-      ends = c.clear-3.ensures r.items r.sets r.budget t l;
+      near = λ k has. absurd (c.clear-3.ensures k has);
+      ends = c.clear-4.ensures r.items r.sets r.budget t l;
     }) c.number_line.ensures

@@ -8,6 +8,7 @@ returns c r t own line = record {
   held = line.held;
   runs = all_still (λ _ run. RunStands r t c.args.line run) (Has c.args.self.now.runs) (Has c.put-2.new.self) _ c.args.run c.put-2.ensures.kept line.runs own;
   barren = line.barren;
+  near = line.near;
   ends = line.ends;
 }
 

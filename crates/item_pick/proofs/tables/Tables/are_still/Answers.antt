@@ -1,18 +1,12 @@
-use Rattle.item_pick.proofs.Common.{◌∙◌, ap, sym, arith, get_or, length, place_at, rules_by, item_numbered}
-use Rattle.item_pick.proofs.BareLaws.{no_items}
-use Rattle.item_pick.proofs.FutileLaws.{futile_after}
-use Rattle.item_pick.proofs.TableLaws.{idle_quiet}
+use Rattle.item_pick.proofs.Common.{ℕ, below_more, arith, get_or, place_at, rules_by, IsQuiet, item_numbered}
 use Rattle.item_pick.proofs.tables.Tables.are_still.Goals as goal
 
-pub returns-then-is_empty : goal.returns-then-is_empty
-returns-then-is_empty c _ t l known floor looked held k h =
-    let none = no_items c.args.list.now (sym c.is_empty.ensures ∙ c.if-is_empty.true) in
-    absurd (omega (arith, h, ap length none))
+pub loop-id-preserved : goal.loop-id-preserved
+loop-id-preserved c t l known key floor held =
+    let r = rules_by c.args._asked.now in
+    let behind = c.in-Some.ensures r t l known.line in
+    below_more (λ (k : ℕ). IsQuiet r t (place_at l c.args.col) floor c.args.looked (item_numbered (get_or c.args.list.now k 0))) _ (c.loop-id.invariant t l known key floor held)
+    (c.rests.ensures c.if-not-rests.false t l c.args.col floor known key behind.0 behind.1 held)
 
-pub returns-in-Some : goal.returns-in-Some
-returns-in-Some c e t l known floor looked held k h =
-    let asked = c.args._asked.now in
-    let r = rules_by asked in
-    let key = c.in-Some.ensures r t l known.line in
-    idle_quiet r (futile_after asked.parts.now.sets.now asked.budget) t (place_at l c.args.col) c.in-Some.behind key.1 key.0 (item_numbered (get_or c.args.list.now k 0))
-    (c.are_idle.ensures e r known.tables k h) floor looked held
+pub returns : goal.returns
+returns c _ t l known key floor held k h = c.loop-id.invariant t l known key floor held k (omega (arith, h, c.loop-id-test.false))
