@@ -60,8 +60,8 @@ pub stays-told : (b : Bool) (here behind : Place) → told_by (stays_if b) here 
 stays-told true here behind = refl
 stays-told false here behind = refl
 
-pub fit-tells : (context : ContextOf) (a : Atom) (c col : ℕ) (fit : Fit) → IsFit context a c col fit → (text : Text) (p behind : Place) → IsPlaceOf text p → p.col ≡ col → Stands text p (Character c behind) →
+pub fit-tells : (context : ContextOf) (a : Atom) (c : ℕ) (start : Bool) (fit : Fit) → IsFit context a c start fit → (text : Text) (p behind : Place) → IsPlaceOf text p → nat_eq p.col 0 ≡ start → Stands text p (Character c behind) →
     (w : Way) → w.at ≡ p → IsTold (context_in text context) w a (told_by fit p behind)
-fit-tells context a c col fit h text p behind on_text is stands w e =
+fit-tells context a c start fit h text p behind on_text is stands w e =
     subst (λ q. IsTold (context_in text context) w a (told_by fit q behind)) e
-    (h text w behind (subst (IsPlaceOf text) (sym e) on_text) (ap (λ (q : Place). q.col) e ∙ is) (subst (λ q. Stands text q (Character c behind)) (sym e) stands))
+    (h text w behind (subst (IsPlaceOf text) (sym e) on_text) (ap (λ (q : Place). nat_eq q.col 0) e ∙ is) (subst (λ q. Stands text q (Character c behind)) (sym e) stands))

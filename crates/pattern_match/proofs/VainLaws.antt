@@ -1,6 +1,6 @@
 -- Parts that are tried in vain.
 use Rattle.std.proofs.Common.{◌≡◌, ◌≢◌, ℕ, zero, suc, ◌+◌, List, [], ◌∷◌, ◌++◌, refl, sym, ap, ◌∙◌, arith, subst, append-nil}
-use Rattle.std.specs.Prelude.{Bool, false, Option, Some, None, pos}
+use Rattle.std.specs.Prelude.{Bool, false, Option, Some, None, pos, nat_eq}
 use Rattle.syn_base.specs.declared.looked.Looked.{Looked}
 use Rattle.syn_base.specs.declared.places.Place.{Place}
 use Rattle.syn_base.specs.Looked.{one_line}
@@ -144,10 +144,10 @@ count-left-out x part least most lazy w v on_text free greedy unspent h =
 
 -- ---- what a character tells wherever its line stands
 
-pub by-place : (context : ContextOf) (part : Context → Way → List Mark) (c col : ℕ) (vain : Vain) → IsVainBy context part c col vain → (text : Text) (p behind : Place) → IsPlaceOf text p → p.col ≡ col → Stands text p (Character c behind) →
+pub by-place : (context : ContextOf) (part : Context → Way → List Mark) (c : ℕ) (start : Bool) (vain : Vain) → IsVainBy context part c start vain → (text : Text) (p behind : Place) → IsPlaceOf text p → nat_eq p.col 0 ≡ start → Stands text p (Character c behind) →
     (w : Way) → w.at ≡ p → IsVain (part (context_in text context) w) w vain
-by-place context part c col vain h text p behind on_text is stands w e =
-    h text w behind (subst (IsPlaceOf text) (sym e) on_text) (ap (λ (q : Place). q.col) e ∙ is) (subst (λ q. Stands text q (Character c behind)) (sym e) stands)
+by-place context part c start vain h text p behind on_text is stands w e =
+    h text w behind (subst (IsPlaceOf text) (sym e) on_text) (ap (λ (q : Place). nat_eq q.col 0) e ∙ is) (subst (λ q. Stands text q (Character c behind)) (sym e) stands)
 
 -- ---- what is spent on a part that is refused
 

@@ -25,6 +25,8 @@ pub mod Tried
 pub mod FirstAtom
 pub mod Vain
 pub mod Glance
+pub mod Beyond
+pub mod Others
 pub mod Programs
 pub mod ReadyParts
 pub mod Bounds

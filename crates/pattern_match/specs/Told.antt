@@ -1,6 +1,6 @@
 -- What is told of an atom at the place of a way, where it looks at its own line alone: where it leads,
 -- or that it doesn't fit.
-use Rattle.std.specs.Prelude.{◌≡◌, ℕ, Bool, true, false, Some, None}
+use Rattle.std.specs.Prelude.{◌≡◌, ℕ, Bool, true, false, Some, None, nat_eq}
 use Rattle.syn_base.specs.declared.places.Place.{Place}
 use Rattle.pattern_items.specs.declared.atom.Atom.{Atom}
 use Rattle.match_rules.specs.Ways.{Context, Text, Way, IsPlaceOf}
@@ -44,8 +44,8 @@ told_by Stays here behind = To here
 told_by Refuses here behind = Nowhere
 told_by Unsure here behind = Nothing
 
--- so much a character at a column tells of an atom, wherever its line stands
-abbrev pub IsFit : ContextOf → Atom → ℕ → ℕ → Fit → Type 0
-IsFit context a c col fit =
-    (text : Text) (w : Way) (behind : Place) → IsPlaceOf text w.at → w.at.col ≡ col → Stands text w.at (Character c behind) →
+-- so much a character tells of an atom, wherever it stands, if it is the first of its line, or if not
+abbrev pub IsFit : ContextOf → Atom → ℕ → Bool → Fit → Type 0
+IsFit context a c start fit =
+    (text : Text) (w : Way) (behind : Place) → IsPlaceOf text w.at → nat_eq w.at.col 0 ≡ start → Stands text w.at (Character c behind) →
     IsTold (context_in text context) w a (told_by fit w.at behind)

@@ -1,5 +1,5 @@
 -- Parts that the character at a place tells to be tried in vain.
-use Rattle.std.specs.Prelude.{◌≡◌, ℕ, zero, suc, pos, Bool, true, false, List, [], ◌∷◌, ◌++◌}
+use Rattle.std.specs.Prelude.{◌≡◌, ℕ, zero, suc, pos, Bool, true, false, List, [], ◌∷◌, ◌++◌, nat_eq}
 use Rattle.syn_base.specs.declared.looked.Looked.{Looked}
 use Rattle.syn_base.specs.declared.places.Place.{Place}
 use Rattle.syn_base.specs.Looked.{one_line}
@@ -27,10 +27,10 @@ IsVain marks w (LeftOut count) =
     (v : Way) × ((v.at ≡ w.at) × (marks ≡ ticks count (own_line w) ++ Reach v ∷ []))
 IsVain marks w Unsure = Unit {0}
 
--- so much a character at a column tells of a part, wherever its line stands
-abbrev pub IsVainBy : ContextOf → (Context → Way → List Mark) → ℕ → ℕ → Vain → Type 0
-IsVainBy context part c col vain =
-    (text : Text) (w : Way) (behind : Place) → IsPlaceOf text w.at → w.at.col ≡ col →
+-- so much a character tells of a part, wherever it stands, if it is the first of its line, or if not
+abbrev pub IsVainBy : ContextOf → (Context → Way → List Mark) → ℕ → Bool → Vain → Type 0
+IsVainBy context part c start vain =
+    (text : Text) (w : Way) (behind : Place) → IsPlaceOf text w.at → nat_eq w.at.col 0 ≡ start →
     Stands text w.at (Character c behind) → IsVain (part (context_in text context) w) w vain
 
 -- what is told of a part and of one behind it tells of both

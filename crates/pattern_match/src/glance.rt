@@ -6,15 +6,18 @@ ghost use Rattle.match_rules.specs.Counts.{is_spent};
 ghost use Rattle.match_rules.specs.Marks.{followed};
 ghost use Rattle.match_rules.specs.Visits.{visits};
 ghost use Rattle.match_rules.specs.Ways.{IsPlaceOf, Way, line_at};
+ghost use Rattle.pattern_match.specs.Beyond.{IsKept};
 ghost use Rattle.pattern_match.specs.Contexts.{context_in};
 ghost use Rattle.pattern_match.specs.Glance.{ComesTo, GoesOn, IsSeen, Stands, marks_behind, stops_of, turn_of, turns_behind, turns_of};
+ghost use Rattle.pattern_match.specs.Others.{AreOthers};
 ghost use Rattle.pattern_match.specs.Search.{wanted_marks};
 ghost use Rattle.pattern_match.specs.Steps.{atom_of, shape_of};
 ghost use Rattle.pattern_match.specs.Ways.{columns_on};
 ghost use Rattle.vim_pattern.specs.Shape.{ahead, empty, one, or, seq};
 
-use crate::beyond::vain_beyond;
+use crate::beyond::{Refusal, vain_beyond};
 use crate::context::Context;
+use crate::others::{Others, other_refuses};
 use crate::runs::less_by;
 use crate::sight::{
     Rest, Saw, Sight, columns_on, go_further, look_at_atom, try_in_vain, turns_at_once,
@@ -36,11 +39,13 @@ pub(crate) fn is_in_vain<T: Lines>(
     lines: &T,
     context: &Context<'_>,
     step: &Step,
+    others: Option<Others>,
     start: Place,
     wanted: Option<Place>,
     spent: &mut Spent,
 ) -> bool
     requires on_text { IsPlaceOf (T.lines lines.now) start }
+    requires others { AreOthers (λ x. visits x (shape_of step.now)) others }
     requires within { spent.old.cost ≤ spent.old.budget }
     ensures seen { IsTrue result → (w : Way) → w.at ≡ start →
         let x = context_in (T.lines lines.now) context.now in
@@ -51,6 +56,9 @@ pub(crate) fn is_in_vain<T: Lines>(
     ensures within { spent.new.cost ≤ spent.new.budget }
     ensures unchanged { IsFalse result → spent.new ≡ spent.old }
 {
+    if other_refuses(lines, context, step, others, start, spent) {
+        return true;
+    }
     if is_refused(lines, context, step, start, spent) {
         return true;
     }
@@ -247,12 +255,22 @@ fn look_at_first<T: Lines>(
         sight.old sight.new result }
     ensures goes { GoesOn (T.lines lines.now) sight.old sight.new }
 {
-    if let Vain::LeftOut(ticks) = vain_at(lines, context, first, sight.at) {
-        return if try_in_vain(lines, ticks, sight) {
-            look_at(lines, context, second, rest, sight)
-        } else {
-            Saw::TooFar
-        };
+    match vain_at(lines, context, first, sight.at) {
+        Vain::LeftOut(ticks) => {
+            return if try_in_vain(lines, ticks, sight) {
+                look_at(lines, context, second, rest, sight)
+            } else {
+                Saw::TooFar
+            };
+        }
+        Vain::Refused(ticks) => {
+            return if try_in_vain(lines, ticks, sight) {
+                Saw::InVain
+            } else {
+                Saw::TooFar
+            };
+        }
+        Vain::Unsure => {}
     }
     let rest = Rest::Then(&*second, &*rest);
     look_at(lines, context, first, &rest, sight)
@@ -370,16 +388,19 @@ fn go_on_beyond<T: Lines>(
     lines: &T,
     context: &Context<'_>,
     rest: &Rest<'_>,
+    kept: &mut Option<Refusal>,
     sight: &mut Sight,
 ) -> Saw
-    requires { Stands (T.lines lines.now) sight.old }
+    requires stands { Stands (T.lines lines.now) sight.old }
+    requires kept { IsKept context.now rest.now kept.old }
     ensures seen { (w : Way) → w.at ≡ sight.old.at →
         let x = context_in (T.lines lines.now) context.now in
         IsSeen (marks_behind x rest.now w)
         sight.old sight.new result }
     ensures goes { GoesOn (T.lines lines.now) sight.old sight.new }
+    ensures kept { IsKept context.now rest.now kept.new }
 {
-    if let Vain::Refused(ticks) = vain_beyond(lines, context, rest, sight.at) {
+    if let Vain::Refused(ticks) = vain_beyond(lines, context, rest, sight.at, kept) {
         return if try_in_vain(lines, ticks, sight) {
             Saw::InVain
         } else {
@@ -532,10 +553,11 @@ fn look_at_stops<T: Lines>(
     ensures goes { GoesOn (T.lines lines.now) sight.old sight.new }
 {
     let mut left = count;
+    let mut kept = None;
     'stops: while left > 0 {
         left -= 1;
         sight.at = columns_on(from, left);
-        match go_on_beyond(lines, context, rest, sight) {
+        match go_on_beyond(lines, context, rest, &mut kept, sight) {
             Saw::InVain => {}
             saw => return saw,
         }
@@ -596,9 +618,10 @@ fn look_at_lazy_atoms<T: Lines>(
     ensures goes { GoesOn (T.lines lines.now) sight.old sight.new }
 {
     let mut most = turns.most;
+    let mut kept = None;
     for _ in 0..NODES {
         let from = sight.at;
-        match go_on_beyond(lines, context, rest, sight) {
+        match go_on_beyond(lines, context, rest, &mut kept, sight) {
             Saw::InVain => {}
             saw => return saw,
         }

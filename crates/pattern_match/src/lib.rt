@@ -20,6 +20,7 @@ mod glance;
 mod look;
 mod made;
 mod noteless;
+mod others;
 mod parts;
 mod programs;
 mod ready;

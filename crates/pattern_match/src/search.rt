@@ -17,6 +17,7 @@ use crate::behind::Starts;
 use crate::context::Context;
 use crate::glance::is_in_vain;
 use crate::look::{Ending, Look};
+use crate::others::others_of;
 use crate::parts::{follow_both, follow_either, follow_optional};
 use crate::spent::Spent;
 use crate::step::Step;
@@ -334,9 +335,10 @@ fn search_behind<'p, T: Lines>(
         pending: ways.pending(),
     };
     ways.put_aside()?;
+    let others = others_of(part);
     let mut starts = Starts::new(at, limit);
     while let Some(start) = starts.next(lines) {
-        if is_in_vain(lines, context, part, start, Some(at), spent) {
+        if is_in_vain(lines, context, part, others, start, Some(at), spent) {
             continue;
         }
         ways.move_to(start);

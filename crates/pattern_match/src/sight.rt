@@ -102,7 +102,7 @@ pub(crate) fn look_at_atom<T: Lines>(
     let Standing::Character(c, behind) = standing_at(lines, sight.at) else {
         return look_at_any_atom(lines, context, test, sight);
     };
-    match fit_of(test, c, sight.at.col, context) {
+    match fit_of(test, c, sight.at.col == 0, context) {
         Fit::Takes => {
             sight
                 .spent

@@ -46,9 +46,9 @@ impl Fit {
     }
 }
 
-/// What the character at a column tells of an atom.
-pub(crate) fn fit_of(test: &Test, c: char, col: usize, context: &Context<'_>) -> Fit
-    ensures { IsFit context.now (atom_of test.now) c col result }
+/// What a character tells of an atom, by whether it is the first of its line.
+pub(crate) fn fit_of(test: &Test, c: char, at_start: bool, context: &Context<'_>) -> Fit
+    ensures { IsFit context.now (atom_of test.now) c at_start result }
 {
     match test {
         Test::Char(d) => Fit::takes_if(is_one(*d, c, context.ignore)),
@@ -61,7 +61,7 @@ pub(crate) fn fit_of(test: &Test, c: char, col: usize, context: &Context<'_>) ->
         Test::Set(collection) => Fit::takes_if(collection.has(c, context.sets, context.ignore)),
         Test::LineEnd => Fit::Refuses,
         Test::LineStop => Fit::Refuses,
-        Test::LineStart => Fit::stays_if(col == 0),
+        Test::LineStart => Fit::stays_if(at_start),
         Test::MatchStart => Fit::Stays,
         Test::MatchStop => Fit::Stays,
         _ => Fit::Unsure,

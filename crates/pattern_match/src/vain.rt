@@ -96,7 +96,7 @@ impl Vain {
     }
 
     /// What is told of a part that need not be there.
-    fn left_out(self) -> Vain
+    pub(crate) fn left_out(self) -> Vain
         ensures { result ≡ left_out self }
     {
         match self {
@@ -106,11 +106,12 @@ impl Vain {
     }
 }
 
-/// What a character at a column tells of an atom.
-fn vain_atom(context: &Context<'_>, test: &Test, c: char, col: usize) -> Vain
-    ensures { IsVainBy context.now (λ x w. tried x w (atom_of test.now)) c col result }
+/// What a character tells of an atom, by whether it is the first of its line.
+#[inline(always)]
+fn vain_atom(context: &Context<'_>, test: &Test, c: char, at_start: bool) -> Vain
+    ensures { IsVainBy context.now (λ x w. tried x w (atom_of test.now)) c at_start result }
 {
-    match fit_of(test, c, col, context) {
+    match fit_of(test, c, at_start, context) {
         Fit::Refuses => Vain::Refused(1),
         Fit::Stays => Vain::LeftOut(1),
         _ => Vain::Unsure,
@@ -118,39 +119,50 @@ fn vain_atom(context: &Context<'_>, test: &Test, c: char, col: usize) -> Vain
 }
 
 /// Whether a count takes as many turns as it can, and none where it can't.
-fn is_free(least: u32, most: Option<u32>, lazy: bool) -> bool
+pub(crate) fn is_free(least: u32, most: Option<u32>, lazy: bool) -> bool
     ensures { IsTrue result → (least ≡ 0) × ((lazy ≡ false) × (is_spent most ≡ false)) }
 {
     least == 0 && !lazy && !is_spent(most)
 }
 
-/// What a character at a column tells of a node.
+/// What a character tells of a node, by whether it is the first of its line. Mostly it is an atom.
 #[cycle(vain)]
-pub(crate) fn vain_by(context: &Context<'_>, step: &Step, c: char, col: usize) -> Vain
-    ensures { IsVainBy context.now (λ x. visits x (shape_of step.now)) c col result }
+#[inline(always)]
+pub(crate) fn vain_by(context: &Context<'_>, step: &Step, c: char, at_start: bool) -> Vain
+    ensures { IsVainBy context.now (λ x. visits x (shape_of step.now)) c at_start result }
 {
     match step {
-        Step::One(test) => vain_atom(context, test, c, col),
+        Step::One(test) => vain_atom(context, test, c, at_start),
+        step => vain_by_parts(context, step, c, at_start),
+    }
+}
+
+/// The same of a node that is no atom.
+#[cycle(vain)]
+fn vain_by_parts(context: &Context<'_>, step: &Step, c: char, at_start: bool) -> Vain
+    ensures { IsVainBy context.now (λ x. visits x (shape_of step.now)) c at_start result }
+{
+    match step {
         Step::Seq(first, second) => {
-            let known = vain_by(context, first, c, col);
-            vain_pieces(context, known, second, c, col)
+            let known = vain_by(context, first, c, at_start);
+            vain_pieces(context, known, second, c, at_start)
         }
         Step::Or(first, second) => {
-            let known = vain_by(context, first, c, col);
+            let known = vain_by(context, first, c, at_start);
             if known.is_refused() {
-                known.or(vain_by(context, second, c, col))
+                known.or(vain_by(context, second, c, at_start))
             } else {
                 Vain::Unsure
             }
         }
-        Step::Optional(part) => vain_by(context, part, c, col).left_out(),
+        Step::Optional(part) => vain_by(context, part, c, at_start).left_out(),
         Step::Repeat {
             part,
             least,
             most,
             lazy,
         } => if is_free(*least, *most, *lazy) {
-            vain_by(context, part, c, col).left_out()
+            vain_by(context, part, c, at_start).left_out()
         } else {
             Vain::Unsure
         },
@@ -160,9 +172,9 @@ pub(crate) fn vain_by(context: &Context<'_>, step: &Step, c: char, col: usize) -
 
 /// The same of a part, of which this is known, and a node behind it, piece by piece.
 #[cycle(vain)]
-fn vain_pieces(context: &Context<'_>, first: Vain, node: &Step, c: char, col: usize) -> Vain
-    ensures { (part : AnyContext → Way → List Mark) → IsVainBy context.now part c col first →
-        IsVainBy context.now (λ x w. followed (part x w) (visits x (shape_of node.now))) c col
+fn vain_pieces(context: &Context<'_>, first: Vain, node: &Step, c: char, at_start: bool) -> Vain
+    ensures { (part : AnyContext → Way → List Mark) → IsVainBy context.now part c at_start first →
+        IsVainBy context.now (λ x w. followed (part x w) (visits x (shape_of node.now))) c at_start
         result }
 {
     let mut known = first;
@@ -171,13 +183,13 @@ fn vain_pieces(context: &Context<'_>, first: Vain, node: &Step, c: char, col: us
         if !known.is_left_out() {
             return known;
         }
-        known = known.then(vain_by(context, a, c, col));
+        known = known.then(vain_by(context, a, c, at_start));
         rest = b;
     }
     if !known.is_left_out() {
         return known;
     }
-    known.then(vain_by(context, rest, c, col))
+    known.then(vain_by(context, rest, c, at_start))
 }
 
 /// What the character at a place tells of a node.
@@ -188,7 +200,7 @@ pub(crate) fn vain_at<T: Lines>(lines: &T, context: &Context<'_>, step: &Step, a
         (shape_of step.now) w) w result }
 {
     match standing_at(lines, at) {
-        Standing::Character(c, _) => vain_by(context, step, c, at.col),
+        Standing::Character(c, _) => vain_by(context, step, c, at.col == 0),
         _ => Vain::Unsure,
     }
 }

@@ -13,7 +13,7 @@ returns-then-is_left_out t c = λ text w behind on_text is stands.
     let f = λ (y : AnyContext). marks_behind y c.in-Then.others.now in
     rw c.in-Then.is
     (c.then.ensures w (visits x (shape_of c.in-Then.step.now) w) (f x) (c.vain_by-known.ensures text w behind on_text is stands)
-    (by-place c.args.context.now f c.args.c c.args.col c.vain_rest.result c.vain_rest.ensures text w.at behind on_text is stands))
+    (by-place c.args.context.now f c.args.c c.args.at_start c.vain_rest.result c.vain_rest.ensures text w.at behind on_text is stands))
 
 pub returns-else-is_left_out : goal.returns-else-is_left_out
 returns-else-is_left_out t c = λ text w behind on_text is stands.

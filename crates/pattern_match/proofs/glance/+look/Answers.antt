@@ -22,7 +22,8 @@ use Rattle.pattern_match.specs.Spending.{spent_times}
 use Rattle.pattern_match.specs.Ways.{columns_on}
 use Rattle.pattern_match.specs.Glance.{stops_of, turns_of}
 use Rattle.pattern_match.proofs.GlanceRuns.{greedy_seen, turns_less, way_on, lazy_stops, lazy_ends, lazy_misses, lazy_stays, lazy_goes, none_then, went_back, went_on, went_to}
-use Rattle.pattern_match.proofs.VainLaws.{left-out-seen, refused-seen}
+use Rattle.pattern_match.specs.declared.vain.Vain.TheVariants.{Unsure}
+use Rattle.pattern_match.proofs.VainLaws.{left-out-seen, refused-first, refused-seen}
 use Rattle.pattern_match.proofs.glance.+look.Goals as goal
 
 pub look_at-returns-in-Empty-clause-seen : goal.look_at-returns-in-Empty-clause-seen
@@ -154,6 +155,21 @@ look_at_first-returns-then-try_in_vain-clause-seen g t c =
     (tried ∙ ap (λ (p : Place). record old { spent = spent_times old.spent n (one_line (pos p.line)) }) (sym e))
     (λ v h. c.look_at.ensures.seen v (h ∙ e ∙ sym (ap (λ (s : Sight). s.at) tried))))
 
+pub look_at_first-returns-then-try_in_vain-2-clause-seen : goal.look_at_first-returns-then-try_in_vain-2-clause-seen
+look_at_first-returns-then-try_in_vain-2-clause-seen g t c =
+    let x : AnyContext = context_in (g.T.Lines.lines c.args.lines.now) c.args.context.now in
+    let f = marks_behind x c.args.rest.now in
+    let behind = λ (v : Way). followed (visits x (shape_of c.args.second.now) v) f in
+    let old : Sight = c.args.sight.now in
+    let mid : Sight = c.try_in_vain-in-Refused.new.sight in
+    let n = c.in-Refused.ticks in
+    let tried : mid ≡ record old { spent = spent_times old.spent n (one_line (pos old.at.line)) } = c.try_in_vain-in-Refused.ensures.tried c.if-try_in_vain-2.true in
+    λ w e.
+    seen_as _ _ old mid InVain (both_is x (shape_of c.args.first.now) (shape_of c.args.second.now) w f)
+    (refused-seen (followed (visits x (shape_of c.args.first.now) w) behind) w n old mid
+    (refused-first n Unsure w (visits x (shape_of c.args.first.now) w) behind (rw c.in-Refused.is at c.vain_at.ensures w e) (λ v h. tt))
+    (tried ∙ ap (λ (p : Place). record old { spent = spent_times old.spent n (one_line (pos p.line)) }) (sym e)))
+
 pub look_at_branch-returns-in-One-clause-seen : goal.look_at_branch-returns-in-One-clause-seen
 look_at_branch-returns-in-One-clause-seen g t c = λ w e. rw c.in-One.is (c.look_at_one.ensures.seen w e)
 
@@ -220,7 +236,7 @@ go_on_beyond-returns-then-try_in_vain-clause-seen g t c =
     let mid : Sight = c.try_in_vain.new.sight in
     let n = c.in-Refused.ticks in
     let tried : mid ≡ record old { spent = spent_times old.spent n (one_line (pos old.at.line)) } = c.try_in_vain.ensures.tried c.if-try_in_vain.true in
-    λ w e. refused-seen (marks_behind x c.args.rest.now w) w n old mid (rw c.in-Refused.is at c.vain_beyond.ensures w e)
+    λ w e. refused-seen (marks_behind x c.args.rest.now w) w n old mid (rw c.in-Refused.is at c.vain_beyond.ensures.told w e)
     (tried ∙ ap (λ (p : Place). record old { spent = spent_times old.spent n (one_line (pos p.line)) }) (sym e))
 
 pub look_after_turn-returns-in-Some-clause-seen : goal.look_after_turn-returns-in-Some-clause-seen
@@ -353,6 +369,7 @@ look_at_stops-stops-preserved g t c =
     let goes : GoesOn text old here = went_to text old cur here.at c.stops.invariant.goes on_text in
     record {
       within = omega arith;
+      kept = c.go_on_beyond.ensures.kept;
       goes = went_on text old here new goes c.go_on_beyond.ensures.goes;
       seen = λ w e. c.stops.invariant.seen w e
           ∙ ap (λ m. answer_from cur.spent.cost cur.spent.looked (stops_of f w m)) one_more
@@ -485,6 +502,7 @@ look_at_lazy_atoms-loop-preserved g t c =
     let moves : is_after mid.at cur.at ≡ true = sym c.is_after.ensures ∙ c.if-not-is_after.false in
     record {
       goes = went_on text old from mid (went_back text old cur new goes c.go_on_beyond.ensures.goes) c.look_at_atom.ensures.goes;
+      kept = c.go_on_beyond.ensures.kept;
       comes = rw c.one_less-most.ensures (lazy_goes x f t u old cur c.loop.invariant.comes goes.stands.on_text c.requires.free c.requires.lazy new vain a c.requires.atom unspent from refl refl mid
           (λ v e. rw c.in-Reached.is at c.look_at_atom.ensures.seen v e) moves);
     }

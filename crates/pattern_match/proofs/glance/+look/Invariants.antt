@@ -1,6 +1,7 @@
 use Rattle.std.proofs.Common.{◌≡◌, ◌≤◌, ◌+◌, ◌*◌}
 use Rattle.match_rules.specs.Attempt.{answer_from}
 use Rattle.match_rules.specs.Ways.{Way}
+use Rattle.pattern_match.specs.Beyond.{IsKept}
 use Rattle.pattern_match.specs.Contexts.{context_in}
 use Rattle.pattern_match.specs.Glance.{GoesOn, marks_behind, stops_of}
 use Rattle.pattern_match.proofs.GlanceRuns.{ComesTo}
@@ -74,6 +75,7 @@ invariant-look_at_stops-stops g l =
     let f = marks_behind (context_in text l.context) l.rest in
     record {
       within : l.left ≤ l.count;
+      kept : IsKept l.context l.rest l.kept;
       goes : GoesOn text l.fn.sight l.sight;
       seen : (w : Way) → w.at ≡ l.from → answer_from l.fn.sight.spent.cost l.fn.sight.spent.looked (stops_of f w l.count) ≡ answer_from l.sight.spent.cost l.sight.spent.looked (stops_of f w l.left);
     }
@@ -85,5 +87,6 @@ invariant-look_at_lazy_atoms-loop g l =
     let x = context_in text l.context in
     record {
       goes : GoesOn text l.fn.sight l.sight;
+      kept : IsKept l.context l.rest l.kept;
       comes : ComesTo x (marks_behind x l.rest) l.turns (record l.turns { most = l.most }) l.fn.sight l.sight;
     }

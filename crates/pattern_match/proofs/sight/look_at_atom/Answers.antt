@@ -1,5 +1,5 @@
 use Rattle.std.proofs.Common.{◌≡◌, [], ◌∷◌, sym, ap, refl, ◌∙◌, arith, rules}
-use Rattle.std.specs.Prelude.{pos}
+use Rattle.std.specs.Prelude.{pos, nat_eq}
 use Rattle.syn_base.specs.Looked.{one_line}
 use Rattle.match_rules.specs.Ways.{way_from}
 use Rattle.match_rules.specs.Marks.{Tick}
@@ -11,7 +11,7 @@ use Rattle.pattern_match.proofs.sight.look_at_atom.Goals as goal
 pub returns-in-Takes : goal.returns-in-Takes
 returns-in-Takes g c =
     let text = g.T.Lines.lines c.args.lines.now in
-    let told = fit-tells c.args.context.now (atom_of c.args.test.now) c.in-Character.c c.args.sight.now.at.col c.fit_of.result c.fit_of.ensures text c.args.sight.now.at c.in-Character.behind c.requires.on_text refl (rw c.in-Character.is at c.standing_at.ensures) in
+    let told = fit-tells c.args.context.now (atom_of c.args.test.now) c.in-Character.c (nat_eq c.args.sight.now.at.col 0) c.fit_of.result c.fit_of.ensures text c.args.sight.now.at c.in-Character.behind c.requires.on_text refl (rw c.in-Character.is at c.standing_at.ensures) in
     let looked : c.one.result ≡ one_line (pos c.args.sight.now.at.line) = search rules in
     let here = rw c.in-Takes.is at told (way_from c.args.sight.now.at) refl in
     record {
@@ -34,7 +34,7 @@ returns-in-Takes g c =
 pub returns-in-Stays : goal.returns-in-Stays
 returns-in-Stays g c =
     let text = g.T.Lines.lines c.args.lines.now in
-    let told = fit-tells c.args.context.now (atom_of c.args.test.now) c.in-Character.c c.args.sight.now.at.col c.fit_of.result c.fit_of.ensures text c.args.sight.now.at c.in-Character.behind c.requires.on_text refl (rw c.in-Character.is at c.standing_at.ensures) in
+    let told = fit-tells c.args.context.now (atom_of c.args.test.now) c.in-Character.c (nat_eq c.args.sight.now.at.col 0) c.fit_of.result c.fit_of.ensures text c.args.sight.now.at c.in-Character.behind c.requires.on_text refl (rw c.in-Character.is at c.standing_at.ensures) in
     let looked : c.one-in-Stays.result ≡ one_line (pos c.args.sight.now.at.line) = search rules in
     record {
       seen = λ w e.
@@ -56,7 +56,7 @@ returns-in-Stays g c =
 pub returns-in-Refuses-clause-seen : goal.returns-in-Refuses-clause-seen
 returns-in-Refuses-clause-seen g c =
     let text = g.T.Lines.lines c.args.lines.now in
-    let told = fit-tells c.args.context.now (atom_of c.args.test.now) c.in-Character.c c.args.sight.now.at.col c.fit_of.result c.fit_of.ensures text c.args.sight.now.at c.in-Character.behind c.requires.on_text refl (rw c.in-Character.is at c.standing_at.ensures) in
+    let told = fit-tells c.args.context.now (atom_of c.args.test.now) c.in-Character.c (nat_eq c.args.sight.now.at.col 0) c.fit_of.result c.fit_of.ensures text c.args.sight.now.at c.in-Character.behind c.requires.on_text refl (rw c.in-Character.is at c.standing_at.ensures) in
     let looked : c.one-in-Refuses.result ≡ one_line (pos c.args.sight.now.at.line) = search rules in
     λ w e.
     let h = rw c.in-Refuses.is at told w e in

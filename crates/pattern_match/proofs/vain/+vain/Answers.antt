@@ -15,30 +15,30 @@ pub vain_by-returns-in-One : goal.vain_by-returns-in-One
 vain_by-returns-in-One t c = λ text w behind on_text is stands.
     rw c.in-One.is (c.vain_atom.ensures text w behind on_text is stands)
 
-pub vain_by-returns-in-Seq : goal.vain_by-returns-in-Seq
-vain_by-returns-in-Seq t c = λ text w behind on_text is stands.
+pub vain_by_parts-returns-in-Seq : goal.vain_by_parts-returns-in-Seq
+vain_by_parts-returns-in-Seq t c = λ text w behind on_text is stands.
     let part = λ (x : AnyContext). visits x (shape_of c.in-Seq.first.value) in
     rw c.in-Seq.is
     (rw c.deref-in-Seq.ensures at c.vain_pieces.ensures part (rw c.deref.ensures at c.vain_by-known.ensures)
     text w behind on_text is stands)
 
-pub vain_by-returns-then-is_refused : goal.vain_by-returns-then-is_refused
-vain_by-returns-then-is_refused t c = λ text w behind on_text is stands.
+pub vain_by_parts-returns-then-is_refused : goal.vain_by_parts-returns-then-is_refused
+vain_by_parts-returns-then-is_refused t c = λ text w behind on_text is stands.
     let x : AnyContext = context_in text c.args.context.now in
     rw c.in-Or.is
     (c.or.ensures w (visits x (shape_of c.in-Or.first.value) w) (visits x (shape_of c.in-Or.second.value) w)
     (rw c.deref-in-Or.ensures at c.vain_by-known-in-Or.ensures text w behind on_text is stands)
     (rw c.deref-then-is_refused.ensures at c.vain_by.ensures text w behind on_text is stands))
 
-pub vain_by-returns-in-Optional : goal.vain_by-returns-in-Optional
-vain_by-returns-in-Optional t c = λ text w behind on_text is stands.
+pub vain_by_parts-returns-in-Optional : goal.vain_by_parts-returns-in-Optional
+vain_by_parts-returns-in-Optional t c = λ text w behind on_text is stands.
     let x : AnyContext = context_in text c.args.context.now in
     rw (c.in-Optional.is, c.left_out.ensures)
     (left-out-or w (visits x (shape_of c.in-Optional.part.value) w) c.vain_by-in-Optional.result
     (rw c.deref-in-Optional.ensures at c.vain_by-in-Optional.ensures text w behind on_text is stands))
 
-pub vain_by-returns-then-is_free : goal.vain_by-returns-then-is_free
-vain_by-returns-then-is_free t c = λ text w behind on_text is stands.
+pub vain_by_parts-returns-then-is_free : goal.vain_by_parts-returns-then-is_free
+vain_by_parts-returns-then-is_free t c = λ text w behind on_text is stands.
     let x : AnyContext = context_in text c.args.context.now in
     let free = c.is_free.ensures c.if-is_free.true in
     rw (c.in-Repeat.is, c.left_out-then-is_free.ensures)
@@ -74,7 +74,7 @@ vain_pieces-loop-rest-preserved t c =
               λ text w behind on_text is stands.
                   let x : AnyContext = context_in text c.args.context.now in
                   c.then-known.ensures w (k.0 x w) (first x) (k.1.0 text w behind on_text is stands)
-                  (by-place c.args.context.now first c.args.c c.args.col c.vain_by.result c.vain_by.ensures text w.at behind on_text is stands),
+                  (by-place c.args.context.now first c.args.c c.args.at_start c.vain_by.result c.vain_by.ensures text w.at behind on_text is stands),
               λ x w. (rw (c.in-Seq.is, ← c.deref.ensures, ← c.deref-rest.ensures) at k.1.1 x w) ∙ sym (followed-assoc (k.0 x w) (first x) (others x)),
             ),
           );
@@ -92,4 +92,4 @@ vain_pieces-returns t c = λ part h text w behind on_text is stands.
     let rest = λ (y : AnyContext). visits y (shape_of c.loop-rest.rest.now) in
     subst (λ m. IsVain m w c.then.result) (sym (k.1.1 x w))
     (c.then.ensures w (k.0 x w) (rest x) (k.1.0 text w behind on_text is stands)
-    (by-place c.args.context.now rest c.args.c c.args.col c.vain_by-2.result c.vain_by-2.ensures text w.at behind on_text is stands))
+    (by-place c.args.context.now rest c.args.c c.args.at_start c.vain_by-2.result c.vain_by-2.ensures text w.at behind on_text is stands))
