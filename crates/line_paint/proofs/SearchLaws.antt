@@ -1,12 +1,32 @@
 -- Frames that search: what the code calls is what the rules say.
 use Rattle.line_paint.proofs.Common.{◌≡◌, ◌<◌, ℕ, Bool, true, false, List, [], ◌∷◌, refl, sym, ap, ◌∙◌, subst, ◌||◌, ◌&&◌, not, Option, None, Some, Result, Ok, Looked, Frame, Painted, Done, looked_first, done, ◌>>=◌, Here, Cause, item_of, has_extend, has_keepend, anew_over_keepend, at_line_start, below_at_line_start, searched_anew, untouched, Fits, bind_assoc, goes_on, ItemId, Stop, anew_or, anew_if, below_if, top_searched, frames_or, items_of, is_none, AnewComes, from_if, line_start_of, search_column, searched_from, searched_on, FramesCome}
 use Rattle.syntax_set.specs.declared.item.Item.{Item}
-use Rattle.paint_rules.specs.Close.{Anew, body_after_area, col_here, exposed_anew, frames_after, is_open, is_region_body, search_col, searched_if}
+use Rattle.paint_rules.specs.Close.{Anew, body_after_area, col_here, exposed_anew, frames_after, is_open, is_region_body, search_col, searched_if, with_end}
+use Rattle.paint_rules.specs.declared.RegionEnd.{RegionEnd}
+use Rattle.state_stack.specs.SameFrames.{SameEnds}
 use Rattle.line_paint.specs.declared.closing.Anew.{Anew as AnewCode}
 use Rattle.line_paint.specs.declared.ends.Occasion.{Occasion}
 use Rattle.line_paint.specs.declared.ends.Occasion.TheVariants.{LineStart, UnderArea, OverKeepend, Exposed}
 use Rattle.std.proofs.lemmas.Bool.{or_parts}
 use Rattle.line_paint.proofs.ComesLaws.{comes_of_then}
+
+-- a frame that has the ends which its search found stays as it is
+pub same_ends_stay : (h : Here) (f : Frame) (found : Option RegionEnd) →
+    SameEnds f (with_end h f found) → f ≡ with_end h f found
+same_ends_stay h f (Some e) same = λ i. record f {
+  known_end = same.0 i;
+  high_to = same.1 i;
+  area_end = same.2 i;
+  area_high = same.3 i;
+  area_shows = same.4 i;
+}
+same_ends_stay h f None same = λ i. record f {
+  known_end = same.0 i;
+  high_to = same.1 i;
+  area_end = same.2 i;
+  area_high = same.3 i;
+  area_shows = same.4 i;
+}
 
 turned : {A : Type 0} (b : Bool) (x y : A) →
     elim b as (λ _. A) [ true ↦ x | false ↦ y ] ≡ elim (not b) as (λ _. A) [ true ↦ y | false ↦ x ]

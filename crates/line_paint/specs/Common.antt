@@ -17,6 +17,7 @@ pub use Rattle.paint_rules.specs.Rules.{Here, item_of, no_externals, place_at, s
 pub use Rattle.paint_rules.specs.States.{Fits, StateFits, WaitFits, spot_of, stale}
 pub use Rattle.paint_rules.specs.declared.Spot.TheVariants.{At}
 pub use Rattle.region_ends.specs.Searches.{IsEnd}
+pub use Rattle.state_stack.specs.SameFrames.{SameEnds}
 pub use Rattle.state_stack.specs.TopFirst.{top_first}
 pub use Rattle.syn_base.specs.Looked.{moved_by, one_line}
 pub use Rattle.syn_base.specs.SpansFit.{IsFromColumn}

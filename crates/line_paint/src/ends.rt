@@ -1,6 +1,6 @@
 //! The searches of frames for their ends.
-ghost use Rattle.std.specs.Prelude.{◌≡◌, ◌<◌, IfOk, IsTrue, None, length, true};
-ghost use Rattle.line_paint.specs.Common.{is_region, is_region_body, with_end, search_col, is_open, line_end_if, search_column, searched, searched_from, searched_on, FrameComes, frame_or};
+ghost use Rattle.std.specs.Prelude.{◌≡◌, ◌<◌, IfOk, IsTrue, None, Some, length, true};
+ghost use Rattle.line_paint.specs.Common.{is_region, is_region_body, with_end, SameEnds, search_col, is_open, line_end_if, search_column, searched, searched_from, searched_on, FrameComes, frame_or};
 
 use crate::spots::spot_of;
 use crate::{Site, Stop};
@@ -12,15 +12,11 @@ use syn_base::{Looked, Memory};
 use syntax_set::ItemKind;
 
 /// A frame with the end that its search found, or with none.
-pub(crate) fn with_end<S: Site>(
-    site: &S,
-    frame: &Frame,
-    found: Option<RegionEnd>,
-) -> Result<Frame, Memory>
-    requires { (frame.now.item).0 < length (S.here site.now).rules.items }
-    ensures { IfOk result (λ f. f ≡ with_end (S.here site.now) frame.now found) }
+pub(crate) fn with_end<S: Site>(site: &S, frame: Frame, found: Option<RegionEnd>) -> Frame
+    requires { (frame.item).0 < length (S.here site.now).rules.items }
+    ensures { result ≡ with_end (S.here site.now) frame found }
 {
-    let mut searched = frame.copied()?;
+    let mut searched = frame;
     match found {
         Some(e) => {
             searched.known_end = Some(spot_of(site, e.end));
@@ -30,14 +26,14 @@ pub(crate) fn with_end<S: Site>(
             searched.area_shows = e.area_shows;
         }
         None => {
-            searched.known_end = line_end_if(site, site.item(frame.item).oneline);
+            searched.known_end = line_end_if(site, site.item(searched.item).oneline);
             searched.high_to = None;
             searched.area_end = None;
             searched.area_high = None;
             searched.area_shows = None;
         }
     }
-    Ok(searched)
+    searched
 }
 
 fn line_end_if<S: Site>(site: &S, wanted: bool) -> Option<Spot>
@@ -71,20 +67,42 @@ fn is_region(kind: &ItemKind) -> bool
 }
 
 /// Whether a search in vain leaves a frame as it is.
-fn stays_open<S: Site>(site: &S, frame: &Frame) -> bool
+fn has_no_end<S: Site>(site: &S, frame: &Frame) -> bool
     requires { (frame.now.item).0 < length (S.here site.now).rules.items }
-    ensures { IsTrue result → with_end (S.here site.now) frame.now None ≡ frame.now }
+    ensures { IsTrue result → SameEnds frame.now (with_end (S.here site.now) frame.now None) }
 {
-    frame.known_end.is_none()
-        && frame.high_to.is_none()
+    frame.high_to.is_none()
         && frame.area_end.is_none()
         && frame.area_high.is_none()
         && frame.area_shows.is_none()
-        && !site.item(frame.item).oneline
+        && frame.known_end == line_end_if(site, site.item(frame.item).oneline)
+}
+
+/// Whether a search that found an end leaves a frame as it is.
+fn has_that_end<S: Site>(site: &S, frame: &Frame, e: RegionEnd) -> bool
+    ensures { IsTrue result → SameEnds frame.now (with_end (S.here site.now) frame.now (Some e)) }
+{
+    frame.known_end == Some(spot_of(site, e.end))
+        && frame.high_to == Some(spot_of(site, e.high_to))
+        && frame.area_end == e.area_end.map(|place| spot_of(site, place))
+        && frame.area_high == e.area_high.map(|place| spot_of(site, place))
+        && frame.area_shows == e.area_shows
+}
+
+/// Whether a frame has the end that its search found, or none where it found none.
+fn has_end<S: Site>(site: &S, frame: &Frame, found: Option<RegionEnd>) -> bool
+    requires { (frame.now.item).0 < length (S.here site.now).rules.items }
+    ensures { IsTrue result → SameEnds frame.now (with_end (S.here site.now) frame.now found) }
+{
+    match found {
+        None => has_no_end(site, frame),
+        Some(e) => has_that_end(site, frame, e),
+    }
 }
 
 /// The frame with the end that its search found, or with none; none where it stays as it is. So a
 /// stack in the midst of a long region stays from line to line.
+#[tactic(auto, using(crate::proofs::SearchLaws::same_ends_stay))]
 fn ended_anew<S: Site>(
     site: &S,
     frame: &Frame,
@@ -94,15 +112,11 @@ fn ended_anew<S: Site>(
     ensures { IfOk result
         (λ f. frame_or frame.now f ≡ with_end (S.here site.now) frame.now found) }
 {
-    if found.is_none() && stays_open(site, frame) {
+    if has_end(site, frame, found) {
         return Ok(None);
     }
-    let anew = with_end(site, frame, found)?;
-    if frame.same(&anew) {
-        Ok(None)
-    } else {
-        Ok(Some(anew))
-    }
+    let anew = frame.copied()?;
+    Ok(Some(with_end(site, anew, found)))
 }
 
 /// On which occasion a frame may search its end.

@@ -204,6 +204,6 @@ pub(crate) fn body_ended<S: Site>(
 {
     match end {
         None => Ok(body),
-        Some(_) => with_end(site, &body, end),
+        Some(_) => Ok(with_end(site, body, end)),
     }
 }
