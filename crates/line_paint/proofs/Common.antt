@@ -28,7 +28,7 @@ pub use Rattle.line_paint.specs.Frames.{anew_if, below_if, top_searched, from_if
 pub use Rattle.line_paint.specs.Leads.{IsAt, Stands, standing_of}
 pub use Rattle.line_paint.specs.Line.{painted_rest, at_of, FailsAs}
 pub use Rattle.line_paint.specs.Quiet.{IsQuiet}
-pub use Rattle.line_paint.specs.Spans.{chained}
+pub use Rattle.line_paint.specs.Spans.{chained, front, joined_run, span_of}
 pub use Rattle.line_paint.specs.Standing.{frames_or, items_of, FramesCome, FrameComes}
 pub use Rattle.line_paint.specs.Stretches.{ShowsOver}
 pub use Rattle.line_paint.specs.Turns.{Last, More, next_start, turn, Next, after_pick, next_of}

@@ -6,5 +6,6 @@ pub mod StandingLaws
 pub mod TurnLaws
 pub mod LineLaws
 pub mod QuietLaws
+pub mod RunLaws
 pub mod RememberedLaws
 pub mod SpansLaws

@@ -32,6 +32,30 @@ at_fails (stop.TooCostly i) c m s = at_refused c _ m s
 at_fails stop.TooDeep c m s = at_refused c _ m s
 at_fails stop.Memory c m s = tt
 
+-- what is left of a line, where what stands to the left is put in front of its spans
+abbrev pub rest_by : Here → ℕ → List ℕ → Standing → (List Span → List Span) →
+    Painted Refusal PaintedLine
+rest_by h c line s f = painted_from h c line s >>= (λ r. done (record r { spans = f r.spans }))
+
+-- a column, and the character that stands there
+pub char_step_by : (h : Here) (c : ℕ) (j k : Looked) (s t : Standing) (x : ℕ) (line : List ℕ)
+    (f g : List Span → List Span) → looked_first (Some j) (at_col c (column h c s)) ≡ Done t (Some k) →
+    ((rest : List Span) → g rest ≡ f (joined c (shown h.rules (At 0 c) t.stack) rest)) →
+    looked_first (Some j) (rest_by h c (x ∷ line) s f)
+    ≡ looked_first (Some k) (rest_by h (suc c) line t g)
+char_step_by h c j k s t x line f g e show =
+    let head = at_col c (column h c s) in
+    let tail = painted_from h (suc c) line t in
+    let shows = λ (s : Standing) (r : PaintedLine). done {E = Refusal}
+    (record r { spans = joined c (shown h.rules (At 0 c) s.stack) r.spans }) in
+    let here = λ (s : Standing). painted_from h (suc c) line s >>= shows s in
+    let whole = λ (r : PaintedLine). done {E = Refusal} (record r { spans = f r.spans }) in
+    ap (looked_first (Some j)) (bind_assoc head here whole)
+    ∙ (goes_on j k head t (λ s. here s >>= whole) e
+    ∙ ap (looked_first (Some k)) (bind_assoc tail (shows t) whole
+    ∙ ap (λ (next : PaintedLine → Painted Refusal PaintedLine). tail >>= next)
+    (λ i r. done (record r { spans = sym (show r.spans) i }))))
+
 module _ (h : Here) (c : ℕ) (j k : Looked) (s t : Standing) (spans : Spans) where
   abbrev here : List ℕ → Standing → Painted Refusal PaintedLine
   here line s = painted_from h (suc c) line s
@@ -48,15 +72,7 @@ module _ (h : Here) (c : ℕ) (j k : Looked) (s t : Standing) (spans : Spans) wh
       looked_first (Some j) (painted_rest h c (x ∷ line) s spans) ≡ looked_first (Some k)
       (painted_rest h (suc c) line t more)
   char_step x line more e show =
-      let head = at_col c (column h c s) in
-      let tail = painted_from h (suc c) line t in
-      let shows = λ (r : PaintedLine). done {E = Refusal}
-      (record r { spans = joined c (shown h.rules (At 0 c) t.stack) r.spans }) in
-      ap (looked_first (Some j)) (bind_assoc head (here line) whole_of)
-      ∙ (goes_on j k head t (λ s. here line s >>= whole_of) e
-      ∙ ap (looked_first (Some k)) (bind_assoc tail shows whole_of
-      ∙ ap (λ (f : PaintedLine → Painted Refusal PaintedLine). tail >>= f)
-      (λ i r. done (record r { spans = sym (show r.spans) i }))))
+      char_step_by h c j k s t x line (chained spans) (chained more) e show
 
   pub end_step : looked_first (Some j) (at_col c (column h c s)) ≡ Done t (Some k) →
       looked_first (Some j) (painted_rest h c [] s spans) ≡ Done

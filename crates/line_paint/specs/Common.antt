@@ -31,7 +31,7 @@ pub use Rattle.line_paint.specs.Leads.{IsAt, Leads, LeadsOn, Stands, standing_of
 pub use Rattle.line_paint.specs.Line.{ComesAs, LeadsAt, PaintedAs, Paints, at_of, painted_rest}
 pub use Rattle.line_paint.specs.Painting.{here_in}
 pub use Rattle.line_paint.specs.Quiet.{IsQuiet}
-pub use Rattle.line_paint.specs.Spans.{chained, one_char}
+pub use Rattle.line_paint.specs.Spans.{chained, joined_run, span_of}
 pub use Rattle.line_paint.specs.Standing.{FrameComes, FramesCome, MaySearch, frame_or, frames_or, items_of}
 pub use Rattle.line_paint.specs.Starting.{start_one, start_two}
 pub use Rattle.line_paint.specs.Stretches.{ShowsOver}

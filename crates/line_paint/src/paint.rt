@@ -77,9 +77,9 @@ fn columns<S: Site>(
     'columns: while c < len {
         standing.column(site, memory, c)?;
         let stretch = shown_from(site, c, &standing.state.stack);
-        spans.show(c, stretch.group)?;
-        forget_tried(site.alloc(), standing);
         let next = c + 1;
+        spans.show(c, next, stretch.group)?;
+        forget_tried(site.alloc(), standing);
         let to = quiet_until(site, memory, next, standing)?;
         show_quiet(site, standing, &mut spans, stretch, next, to)?;
         c = to;
@@ -123,8 +123,9 @@ fn show_quiet<S: Site>(
     let mut stretch = stretch;
     'quiet: while c < to {
         stretch = stretch.at(site, c, &standing.state.stack);
-        spans.show(c, stretch.group)?;
-        c += 1;
+        let end = to.min(stretch.until);
+        spans.show(c, end, stretch.group)?;
+        c = end;
     }
     Ok(())
 }

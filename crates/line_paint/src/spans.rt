@@ -1,6 +1,6 @@
 //! The spans of a line, from the left: those that are whole, and the one that may go on.
-ghost use Rattle.std.specs.Prelude.{◌≡◌, ◌&&◌, [], List, suc, nat_eq, IfOk, None};
-ghost use Rattle.line_paint.specs.Common.{Span, same_group, joined, chained, one_char};
+ghost use Rattle.std.specs.Prelude.{◌≡◌, ◌<◌, ◌-◌, ◌&&◌, [], List, suc, nat_eq, IfOk, None};
+ghost use Rattle.line_paint.specs.Common.{Span, same_group, joined_run, chained, span_of};
 
 use std::alloc::Global;
 use syn_base::{GroupId, List, Memory, Span};
@@ -12,14 +12,10 @@ pub(crate) struct Spans {
     pub growing: Option<Span>,
 }
 
-fn one_char(c: usize, group: GroupId) -> Span
-    ensures { result ≡ one_char c group }
+fn span_of(first: usize, last: usize, group: GroupId) -> Span
+    ensures { result ≡ span_of first last group }
 {
-    Span {
-        first: c,
-        last: c,
-        group,
-    }
+    Span { first, last, group }
 }
 
 /// Whether a character goes on with a span.
@@ -42,30 +38,33 @@ impl Spans {
         }
     }
 
-    /// A character, right of all before, shows a group or none.
-    pub(crate) fn show(&mut self, c: usize, group: Option<GroupId>) -> Result<(), Memory>
+    /// The characters from a column up to, and without, another, right of all before, show a group or
+    /// none.
+    pub(crate) fn show(
+        &mut self,
+        first: usize,
+        end: usize,
+        group: Option<GroupId>,
+    ) -> Result<(), Memory>
+        requires { first < end }
         ensures { IfOk result
             (λ _. (rest : List Span) → chained self.new rest
-            ≡ chained self.old (joined c group rest)) }
+            ≡ chained self.old (joined_run (end - first) first group rest)) }
     {
         match group {
             None => Ok(()),
             Some(group) => match self.growing {
                 None => {
-                    self.growing = Some(one_char(c, group));
+                    self.growing = Some(span_of(first, end - 1, group));
                     Ok(())
                 }
                 Some(span) => {
-                    if adjoins(span, c, group) {
-                        self.growing = Some(Span {
-                            first: span.first,
-                            last: c,
-                            group,
-                        });
+                    if adjoins(span, first, group) {
+                        self.growing = Some(span_of(span.first, end - 1, group));
                         return Ok(());
                     }
                     self.done.push(span)?;
-                    self.growing = Some(one_char(c, group));
+                    self.growing = Some(span_of(first, end - 1, group));
                     Ok(())
                 }
             },

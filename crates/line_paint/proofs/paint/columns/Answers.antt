@@ -1,4 +1,4 @@
-use Rattle.line_paint.proofs.Common.{◌≡◌, ◌<◌, ◌≤◌, ◌+◌, ◌∙◌, ap, sym, subst, suc, List, ℕ, length, reverse, drop, get_or, drop-cons, arith, err_from_is_err_and, Some, Option, GroupId, Span, Done, looked_first, this_line, at_col, joined, painted_from, column, top_first, Spans, standing_of, painted_rest, chained, ShowsOver}
+use Rattle.line_paint.proofs.Common.{◌≡◌, ◌<◌, ◌≤◌, ◌+◌, ◌∙◌, ap, sym, subst, suc, List, ℕ, length, reverse, drop, get_or, drop-cons, arith, err_from_is_err_and, Some, Option, GroupId, Span, Done, looked_first, this_line, at_col, joined, painted_from, column, top_first, Spans, joined_run, ◌-◌, standing_of, painted_rest, chained, ShowsOver}
 use Rattle.line_paint.specs.declared.standing.Standing.{Standing}
 use Rattle.line_paint.proofs.TurnLaws.{at_later}
 use Rattle.line_paint.proofs.LineLaws.{char_step, end_step, fails_step, bind_done, drop_all, untried}
@@ -28,6 +28,7 @@ columns-preserved g c =
     let k = (c.column.new.self).looked in
     let less : at < length line = omega (arith, c.columns-test.true, c.len-len.ensures) in
     let next : suc at ≡ at + 1 = omega arith in
+    let one : (at + 1) - at ≡ 1 = omega arith in
     record {
       whole = c.columns.invariant.whole
           ∙ (ap (λ (l : List ℕ). looked_first (Some j) (painted_rest h at l s c.columns.spans))
@@ -35,6 +36,8 @@ columns-preserved g c =
           ∙ (char_step h at j k s t c.columns.spans (get_or line at 0)
           (drop (suc at) line) c.show.new.self c.in_ok-column.ensures.leads
           (λ rest. c.in_ok-show.ensures rest
+          ∙ ap (λ (n : ℕ). chained c.columns.spans
+          (joined_run n at (c.shown_from-stretch.result).group rest)) one
           ∙ ap (λ (g : Option GroupId). chained c.columns.spans (joined at g rest))
           (sym (c.shown_from-stretch.ensures.shows at (omega arith)
           c.shown_from-stretch.ensures.behind)))
