@@ -23,7 +23,7 @@ pub use Rattle.syn_base.specs.declared.places.ItemId.{ItemId}
 pub use Rattle.syn_base.specs.declared.places.Place.{Place}
 pub use Rattle.syn_base.specs.declared.places.Span.{Span}
 pub use Rattle.line_paint.specs.Answers.{Stops, Comes, ComesOf}
-pub use Rattle.line_paint.specs.Closing.{anew_or, AnewComes}
+pub use Rattle.line_paint.specs.Closing.{anew_or, AnewComes, closing_on}
 pub use Rattle.line_paint.specs.Frames.{anew_if, below_if, top_searched, from_if, line_start_of, search_column, searched_from, searched_on, rest_or}
 pub use Rattle.line_paint.specs.Leads.{IsAt, Stands, standing_of}
 pub use Rattle.line_paint.specs.Line.{painted_rest, at_of, FailsAs}

@@ -1,7 +1,14 @@
 -- One step of closing, and what is left of it.
-use Rattle.line_paint.proofs.Common.{◌≡◌, ℕ, suc, ◌-◌, ◌<◌, ap, ◌∙◌, arith, Option, Some, None, Looked, Painted, Done, looked_first, done, ◌>>=◌, Here, Cause, close_once, closed_in, Stop, Stops, goes_on}
+use Rattle.line_paint.proofs.Common.{◌≡◌, List, [], ◌∷◌, refl, Frame, closing_on, ℕ, suc, ◌-◌, ◌<◌, ap, ◌∙◌, arith, Option, Some, None, Looked, Painted, Done, looked_first, done, ◌>>=◌, Here, Cause, close_once, closed_in, Stop, Stops, goes_on}
 use Rattle.paint_rules.specs.States.{Standing}
+use Rattle.paint_rules.specs.Close.{Stays, close_top}
 use Rattle.line_paint.proofs.ComesLaws.{stops_whole}
+
+-- a top frame that stays is the end of closing
+pub stays_on : (h : Here) (c : ℕ) (s : Standing) (frames : List Frame) →
+    closing_on h c s.is_over frames ≡ Stays → close_once h c s frames ≡ done None
+stays_on h c s [] e = refl
+stays_on h c s (f ∷ fs) e = ap (close_top h c s f fs) e
 
 module _ (h : Here) (c left : ℕ) (j k : Looked) (p : Painted Cause Standing) (s : Standing)
     (some : 0 < left)

@@ -24,7 +24,7 @@ pub use Rattle.syn_base.specs.SpansFit.{IsFromColumn}
 pub use Rattle.syn_base.specs.declared.places.Span.{Span}
 pub use Rattle.syntax_set.specs.Soundness.{AreSound}
 pub use Rattle.line_paint.specs.Answers.{Gives}
-pub use Rattle.line_paint.specs.Closing.{AnewComes, closing}
+pub use Rattle.line_paint.specs.Closing.{AnewComes, closing, closing_on}
 pub use Rattle.line_paint.specs.Frames.{anew_if, below_if, line_end_if, line_start_of, plain_frame, rest_or, search_column, searched_from, searched_on, top_searched}
 pub use Rattle.line_paint.specs.Kinds.{all_clear, is_so, none_keeps}
 pub use Rattle.line_paint.specs.Leads.{IsAt, Leads, LeadsOn, Stands, standing_of}

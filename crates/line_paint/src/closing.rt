@@ -2,7 +2,7 @@
 //! `:syn-excludenl`).
 ghost use Rattle.std.specs.Prelude.{◌≡◌, ◌<◌, ◌∷◌, ◌&&◌, ◌||◌, false, length, reverse, IfOk, None};
 ghost use Rattle.std.specs.List.{list_any};
-ghost use Rattle.line_paint.specs.Common.{this_line, has_keepend, is_region_body, is_reached, goes_beyond, closing_of, end_area_of, waiting_after, frames_after, line_end_counts, has_line_end, is_region_body_on, container_goes_on, closing, AnewComes, anew_if, Fits, WaitFits, FramesCome, MaySearch};
+ghost use Rattle.line_paint.specs.Common.{this_line, has_keepend, is_region_body, is_reached, goes_beyond, closing_of, closing_on, end_area_of, waiting_after, frames_after, line_end_counts, has_line_end, is_region_body_on, container_goes_on, closing, AnewComes, anew_if, Fits, WaitFits, FramesCome, MaySearch};
 
 use crate::ends::{Occasion, is_region_body};
 use crate::frames::top_searched;
@@ -37,7 +37,7 @@ fn becomes_area<S: Site>(site: &S, place: Spot, top: &Frame) -> bool
 }
 
 /// What becomes of the top frame at a place.
-pub(crate) fn closing_of<S: Site>(site: &S, place: Spot, top: &Frame, below: &Stack) -> Closing
+fn closing_of<S: Site>(site: &S, place: Spot, top: &Frame, below: &Stack) -> Closing
     requires is_item { (top.now.item).0 < length (S.here site.now).rules.items }
     requires fits { Fits (length (S.here site.now).rules.items) (reverse below.now) }
     ensures { closing result
@@ -52,6 +52,20 @@ pub(crate) fn closing_of<S: Site>(site: &S, place: Spot, top: &Frame, below: &St
     match top.part {
         Part::StartArea => Closing::LeavesArea,
         _ => Closing::Leaves,
+    }
+}
+
+/// What becomes of the top frame of a stack at a column; it stays where closing is over for the line.
+pub(crate) fn closing_on<S: Site>(site: &S, c: usize, is_over: bool, stack: &Stack) -> Closing
+    requires { Fits (length (S.here site.now).rules.items) (reverse stack.now) }
+    ensures { closing result ≡ closing_on (S.here site.now) c is_over (reverse stack.now) }
+{
+    if is_over {
+        return Closing::Stays;
+    }
+    match stack.top_and_below() {
+        None => Closing::Stays,
+        Some((top, below)) => closing_of(site, Spot::At { ahead: 0, col: c }, top, below),
     }
 }
 

@@ -2,10 +2,10 @@
 //! pick finds, until a pick starts nothing.
 ghost use Rattle.std.specs.Prelude.{◌≡◌, ℕ, length, reverse, IfOk, Some, suc};
 ghost use Rattle.std.specs.Option.{option_map};
-ghost use Rattle.line_paint.specs.Common.{IsPicked, looked_first, picked, stale, WaitFits, at_col, turns, column, close_once, closed, standing_of, Stands, IsAt, Leads, LeadsAt, LeadsOn, LeadsNext, next_start, turn};
+ghost use Rattle.line_paint.specs.Common.{IsPicked, looked_first, picked, stale, WaitFits, at_col, turns, column, close_once, closed, closing, closing_on, standing_of, Stands, IsAt, Leads, LeadsAt, LeadsOn, LeadsNext, next_start, turn};
 
 use crate::closing::{
-    Closing, area_on, closing_of, container_goes_on, frames_after, waiting_after,
+    Closing, area_on, closing_on, container_goes_on, frames_after, waiting_after,
 };
 use crate::ends::Occasion;
 use crate::frames::{stack_or, top_searched};
@@ -30,7 +30,7 @@ pub(crate) struct Standing {
 
 impl Standing {
     /// One step of closing; false where the top frame stays.
-    #[tactic(auto, using(crate::proofs::SearchLaws::under_area))]
+    #[tactic(auto, using(crate::proofs::StandingLaws::stays_on))]
     fn closes<S: Site>(&mut self, site: &S, memory: &mut PickMemory, c: usize) -> Result<bool, Stop>
         requires memory { S.stands site.now memory.old }
         requires stands { Stands (S.here site.now) c self.old }
@@ -39,15 +39,37 @@ impl Standing {
         ensures stands { IfOk result (λ _. Stands (S.here site.now) c self.new) }
         ensures memory { S.stands site.now memory.new }
     {
-        if self.is_over {
-            return Ok(false);
+        match closing_on(site, c, self.is_over, &self.state.stack) {
+            Closing::Stays => Ok(false),
+            becomes => self.closes_so(site, memory, c, becomes),
         }
-        let place = Spot::At { ahead: 0, col: c };
+    }
+
+    /// The same step, where it is told what becomes of the top frame.
+    #[inline(never)]
+    #[tactic(auto, using(crate::proofs::SearchLaws::under_area))]
+    fn closes_so<S: Site>(
+        &mut self,
+        site: &S,
+        memory: &mut PickMemory,
+        c: usize,
+        becomes: Closing,
+    ) -> Result<bool, Stop>
+        requires memory { S.stands site.now memory.old }
+        requires stands { Stands (S.here site.now) c self.old }
+        requires becomes { closing becomes ≡ closing_on (S.here site.now) c self.old.is_over
+            (reverse self.old.state.stack) }
+        ensures leads { LeadsOn result self.old self.new
+            (close_once (S.here site.now) c (standing_of self.old) (reverse self.old.state.stack)) }
+        ensures stands { IfOk result (λ _. Stands (S.here site.now) c self.new) }
+        ensures memory { S.stands site.now memory.new }
+    {
         match self.state.stack.top_and_below() {
             None => Ok(false),
-            Some((top, below)) => match closing_of(site, place, top, below) {
+            Some((top, below)) => match becomes {
                 Closing::Stays => Ok(false),
                 Closing::BecomesArea => {
+                    let place = Spot::At { ahead: 0, col: c };
                     let stack = area_on(site.alloc(), place, top, below)?;
                     self.state.stack = stack;
                     self.state.waiting = None;
@@ -136,8 +158,10 @@ impl Standing {
         ensures stands { IfOk result (λ _. Stands (S.here site.now) c self.new) }
     {
         self.close(site, memory, c)?;
-        let found = site.pick(memory, c, self)?;
-        self.take_up(site, c, found)
+        match site.pick(memory, c, self) {
+            Ok(found) => self.take_up(site, c, found),
+            Err(_refused) => Err(Stop::Memory),
+        }
     }
 
     /// All turns at a column; at a column an item starts at most once.

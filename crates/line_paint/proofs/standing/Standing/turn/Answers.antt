@@ -10,8 +10,8 @@ pick-requires-clause-at g c =
     (closed h c.args.c (standing_of c.args.self.now)) (standing_of c.close.new.self)
     c.requires.at c.in_ok-close.ensures.stands c.in_ok-close.ensures.leads
 
-pub returns-clause-leads : goal.returns-clause-leads
-returns-clause-leads g c =
+pub returns-in-Ok-clause-leads : goal.returns-in-Ok-clause-leads
+returns-in-Ok-clause-leads g c =
     let h = g.S.Site.here c.args.site.now in
     comes_then (next_of (standing_of c.take_up.new.self)) c.take_up.result _ _ _
     (closed h c.args.c (standing_of c.args.self.now)) (standing_of c.close.new.self)

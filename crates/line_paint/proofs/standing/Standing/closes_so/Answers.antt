@@ -1,6 +1,6 @@
 use Rattle.line_paint.proofs.Common.{◌∙◌, ap, arith, List, length, reverse, subst, Frame, Fits, items_of}
 use Rattle.line_paint.proofs.SearchLaws.{fits_same}
-use Rattle.line_paint.proofs.standing.Standing.closes.Goals as goal
+use Rattle.line_paint.proofs.standing.Standing.closes_so.Goals as goal
 
 pub returns-in_ok-stack-in-LeavesArea-clause-stands : goal.returns-in_ok-stack-in-LeavesArea-clause-stands
 returns-in_ok-stack-in-LeavesArea-clause-stands g c =
