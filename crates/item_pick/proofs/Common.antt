@@ -46,7 +46,7 @@ pub use Rattle.syntax_set.specs.declared.item.Pattern.{Pattern}
 pub use Rattle.vim_pattern.specs.Tree.{PatternTree}
 pub use Rattle.item_pick.specs.Attempts.{IsFutile, IsFutileBy, EndsBelow}
 pub use Rattle.item_pick.specs.Columns.{may_start_at, Holds}
-pub use Rattle.item_pick.specs.Firsts.{AreFirstsOf, IsAnchored, IsCheapWithin, IsReachOf, IsToldOfFirst, first_asked, idles_before, is_asked, rest_asked, sits_by, some_idle, Asks, some_asked}
+pub use Rattle.item_pick.specs.Firsts.{AreFirstsOf, IsAnchored, IsCheapWithin, IsReachOf, IsToldOfFirst, TakesFirst, first_asked, idles_before, is_asked, rest_asked, sits_by, some_idle, Asks, some_asked}
 pub use Rattle.item_pick.specs.PartsSeen.{rules_by, rules_in}
 pub use Rattle.item_pick.specs.Picks.{IsPicked}
 pub use Rattle.item_pick.specs.Quiet.{IsEarlier, IsNextItem, IsPassed, IsQuiet, item_numbered}

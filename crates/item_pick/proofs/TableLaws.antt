@@ -348,8 +348,9 @@ cheap_by r i pattern first (Some most) told = λ other own.
 -- how far attempts lead by what was told of a first pattern
 pub reach_by : (r : Rules) (i : ItemId) (ignore : Bool) → ignore ≡ (item_of r.items i).ignore → (pattern : Pattern) → IsFirst r i pattern → (reach : Reach) →
     (reach.anchored ≡ true → (number : ℕ) → number < 777 → is_first (key_numbered number).last ≡ false → fails_at r.sets r.budget ignore number pattern.tree ≡ true) →
-    IfSome reach.longest (λ most. is_cheap_behind r.budget most pattern.tree ≡ true) → IsReachOf r i reach
-reach_by r i ignore same pattern first reach told cheap = record {
+    IfSome reach.longest (λ most. is_cheap_behind r.budget most pattern.tree ≡ true) → (reach.takes ≡ true → takes_first true pattern.tree.node ≡ true) → IsReachOf r i reach
+reach_by r i ignore same pattern first reach told cheap takes = record {
   anchored = λ e. anchored_by r i ignore same pattern first (told e);
   longest = cheap_by r i pattern first reach.longest cheap;
+  takes = λ e other its. subst (λ (q : Pattern). takes_first true q.tree.node ≡ true) (one_first r i pattern other first its) (takes e);
 }

@@ -24,7 +24,7 @@ pub use Rattle.syntax_set.specs.Soundness.{AreSound}
 pub use Rattle.syntax_set.specs.declared.added_item.AddedItem.{AddedItem}
 pub use Rattle.item_pick.specs.Attempts.{EndsBelow}
 pub use Rattle.item_pick.specs.Columns.{Holds, may_start_at}
-pub use Rattle.item_pick.specs.Firsts.{AreFirstsOf, IsAnchored, IsCheapWithin, IsReachOf, IsToldOfFirst, first_asked, idles_before, is_asked, sits_by}
+pub use Rattle.item_pick.specs.Firsts.{AreFirstsOf, IsAnchored, IsCheapWithin, IsReachOf, IsToldOfFirst, TakesFirst, first_asked, idles_before, is_asked, sits_by}
 pub use Rattle.item_pick.specs.Marks.{AreMarks}
 pub use Rattle.item_pick.specs.PartsSeen.{rules_by, rules_in}
 pub use Rattle.item_pick.specs.Picks.{IsPicked}

@@ -81,10 +81,15 @@ abbrev pub IsCheapWithin : Rules → ItemId → ℕ → Type 0
 IsCheapWithin r i most =
     (pattern : Pattern) → IsFirst r i pattern → is_cheap_behind r.budget most pattern.tree ≡ true
 
+-- the first pattern of an item begins with a piece of one character, behind a line's first column
+abbrev pub TakesFirst : Rules → ItemId → Type 0
+TakesFirst r i = (pattern : Pattern) → IsFirst r i pattern → takes_first true pattern.tree.node ≡ true
+
 -- how far attempts by the first pattern of an item lead
 pub record IsReachOf (r : Rules) (i : ItemId) (reach : Reach) : Type 0 where
   pub anchored : reach.anchored ≡ true → IsAnchored r i
   pub longest : IfSome reach.longest (IsCheapWithin r i)
+  pub takes : reach.takes ≡ true → TakesFirst r i
 
 -- what is kept of first patterns is true of these rules
 pub record AreFirstsOf (r : Rules) (firsts : Firsts) : Type 0 where

@@ -4,7 +4,9 @@ ghost use Rattle.item_pick.specs.Common.{Rules, first_asked, idles_before, is_as
 
 use crate::asked::Asked;
 use crate::picking::StartBy;
-use pattern_screens::{fails_after, fails_at, fails_past_first, longest_behind, rest_fails};
+use pattern_screens::{
+    fails_after, fails_at, fails_past_first, longest_behind, rest_fails, takes_first,
+};
 use region_ends::{KeyAnswers, item_of};
 use slots::Table;
 use std::alloc::Global;
@@ -29,6 +31,8 @@ pub(crate) struct Reach {
     /// Of how many characters a line and the one before may be together, so that attempts by the
     /// pattern, which begins with a look behind, are within the budget where what follows is in vain.
     pub(crate) longest: Option<u64>,
+    /// Its first piece is of one character, behind a line's first column.
+    pub(crate) takes: bool,
 }
 
 /// What is known of attempts by the first start patterns of items. It is made as it is asked.
@@ -172,6 +176,7 @@ impl Firsts {
         let reach = Reach {
             anchored: fails_past_first(tree, asked.parts.sets, ignore, asked.budget),
             longest: longest_behind(tree, asked.budget),
+            takes: takes_first(tree, true),
         };
         self.reaches.put(by.item.0 as usize, reach)?;
         Ok(reach)

@@ -87,6 +87,7 @@ impl LineKnown {
 impl PickMemory {
     /// A column from one on, up to which no column gives a match by the start pattern of that number
     /// with its item start at the place, nor looks at a line that wasn't looked at before.
+    #[inline(always)]
     pub(crate) fn next_column<T: Lines>(
         &mut self,
         picking: &Picking<'_, T>,
@@ -106,6 +107,24 @@ impl PickMemory {
         if by.number != 0 || !wanders(by.pattern) {
             return Ok(col);
         }
+        self.next_by_run(picking, by, col, looked)
+    }
+
+    /// The same, by what is known of the first start pattern of an item.
+    #[inline(never)]
+    fn next_by_run<T: Lines>(
+        &mut self,
+        picking: &Picking<'_, T>,
+        by: &StartBy<'_>,
+        col: usize,
+        looked: Looked,
+    ) -> Result<usize, Memory>
+        requires first { IsFirstOf (rules_by picking.now.asked.now) by.now }
+        requires may { MayPick T.lines picking.now looked self.old }
+        ensures next { IfOk result (IsLater (rules_by picking.now.asked.now)
+            (T.lines picking.now.lines.now) by.now.item by.now.pattern.now picking.now.at looked col) }
+        ensures may { MayAsk T.lines picking.now self.new }
+    {
         let _last = picking.last();
         let asked = picking.asked;
         let run = self.line.run_at(asked, by, col, picking.at);

@@ -1,6 +1,6 @@
 //! Columns from which an item isn't matched by its first start pattern, by what stands there.
 ghost use Rattle.std.specs.Prelude.{◌≡◌, ◌<◌, ◌≤◌, ◌+◌, ℕ, List, true, IfOk, IfSome, IsTrue};
-ghost use Rattle.item_pick.specs.Common.{Text, line_at, Rules, IsAnchored, IsFirst, IsFirstOf, AreFirstsOf, IsMissed, IsNumberAt, LineStands, rules_by};
+ghost use Rattle.item_pick.specs.Common.{Text, line_at, Rules, IsAnchored, IsFirst, IsFirstOf, TakesFirst, AreFirstsOf, IsMissed, IsNumberAt, LineStands, rules_by};
 
 use crate::asked::Asked;
 use crate::firsts::{Firsts, Question};
@@ -34,25 +34,13 @@ impl Firsts {
         }
     }
 
-    /// The same, where it is known by the key one behind.
+    /// The same, where it is known by what stands at the column or one column behind. It may be told that
+    /// the pattern's first piece is of one character, behind the line's first column.
     #[inline(always)]
-    fn is_told_before(&self, by: &StartBy<'_>, col: usize, behind: u16) -> bool
-        ensures { IsTrue result → (r : Rules) (line : List ℕ) →
-            AreFirstsOf r self.now → IsFirst r by.now.item by.now.pattern.now →
-            IsNumberAt r line (col + 1) behind →
-            IsMissed r line by.now.item by.now.pattern.now col }
-    {
-        if !self.is_told(Question::Before, behind, by.item) {
-            return false;
-        }
-        takes_first(&by.pattern.tree, col > 0)
-    }
-
-    /// The same, where it is known by what stands at the column or one column behind.
-    #[inline(always)]
-    fn is_told_missed(&self, line: &LineKnown, by: &StartBy<'_>, col: usize) -> bool
+    fn is_told_missed(&self, line: &LineKnown, by: &StartBy<'_>, takes: bool, col: usize) -> bool
         ensures { IsTrue result → (r : Rules) (t : Text) (l : ℕ) →
             AreFirstsOf r self.now → IsFirst r by.now.item by.now.pattern.now →
+            (takes ≡ true → TakesFirst r by.now.item) →
             LineStands r t l line.now →
             IsMissed r (line_at t l) by.now.item by.now.pattern.now col }
     {
@@ -62,8 +50,11 @@ impl Firsts {
         if self.is_told(Question::Here, number, by.item) {
             return true;
         }
-        match line.number_after(col) {
-            Some(behind) => self.is_told_before(by, col, behind),
+        if !takes {
+            return false;
+        }
+        match line.number_behind(col) {
+            Some(behind) => self.is_told(Question::Before, behind, by.item),
             None => false,
         }
     }
@@ -71,11 +62,19 @@ impl Firsts {
     /// The first column from one on of which that isn't known. An item that is anchored matches from a
     /// line's first column alone.
     #[inline(always)]
-    fn told_until(&self, line: &LineKnown, by: &StartBy<'_>, anchored: bool, from: usize) -> usize
+    fn told_until(
+        &self,
+        line: &LineKnown,
+        by: &StartBy<'_>,
+        anchored: bool,
+        takes: bool,
+        from: usize,
+    ) -> usize
         ensures from { from ≤ result }
         ensures missed { (r : Rules) (t : Text) (l : ℕ) →
             AreFirstsOf r self.now → IsFirst r by.now.item by.now.pattern.now →
-            (anchored ≡ true → IsAnchored r by.now.item) → LineStands r t l line.now →
+            (anchored ≡ true → IsAnchored r by.now.item) →
+            (takes ≡ true → TakesFirst r by.now.item) → LineStands r t l line.now →
             (c : ℕ) → from ≤ c → c < result →
             IsMissed r (line_at t l) by.now.item by.now.pattern.now c }
     {
@@ -84,7 +83,7 @@ impl Firsts {
             if anchored && col > 0 {
                 return end;
             }
-            if !self.is_told_missed(line, by, col) {
+            if !self.is_told_missed(line, by, takes, col) {
                 return col;
             }
         }
@@ -135,13 +134,13 @@ impl Firsts {
             (c : ℕ) → from ≤ c → c < to →
             IsMissed (rules_by asked.now) (line_at t l) by.now.item by.now.pattern.now c) }
     {
-        let anchored = self.reach(asked, by)?.anchored;
-        let mut col = self.told_until(line, by, anchored, from);
+        let reach = self.reach(asked, by)?;
+        let mut col = self.told_until(line, by, reach.anchored, reach.takes, from);
         'columns: while col < line.numbers.len() {
             if !self.is_missed_at(line, asked, by, col)? {
                 return Ok(col);
             }
-            col = self.told_until(line, by, anchored, col + 1);
+            col = self.told_until(line, by, reach.anchored, reach.takes, col + 1);
         }
         Ok(col)
     }

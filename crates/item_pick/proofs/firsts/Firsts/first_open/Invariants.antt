@@ -1,4 +1,4 @@
-use Rattle.item_pick.proofs.Common.{◌≡◌, ◌<◌, ◌≤◌, ◌-◌, ℕ, true, length, Text, line_at, rules_in, AreFirstsOf, IsAnchored, IsMissed, LineStands}
+use Rattle.item_pick.proofs.Common.{◌<◌, ◌≤◌, ◌-◌, ℕ, length, Text, line_at, rules_in, AreFirstsOf, IsReachOf, IsMissed, LineStands}
 use Rattle.item_pick.proofs.firsts.Firsts.first_open.Given as goal
 
 -- the columns before are missed
@@ -7,7 +7,7 @@ invariant-columns i =
     let r = rules_in i.asked.parts.now i.asked.budget in
     record {
       stands : AreFirstsOf r i.self;
-      anchored : i.anchored ≡ true → IsAnchored r i.by.item;
+      reaches : IsReachOf r i.by.item i.reach;
       from : i.from ≤ i.col;
       missed : (t : Text) (l : ℕ) → LineStands r t l i.line → (c : ℕ) → i.from ≤ c → c < i.col → IsMissed r (line_at t l) i.by.item i.by.pattern.now c;
     }
