@@ -4,7 +4,7 @@ ghost use Rattle.syn_reader.specs.Answers.{Gives, Makes};
 ghost use Rattle.syn_reader.specs.Clusters as clusters;
 ghost use Rattle.syn_reader.specs.Contents as spec;
 
-use crate::abbreviation::words_of;
+use crate::abbreviation::{Words, words_of};
 use crate::patterns::Patterns;
 use crate::read_list::{ReadList, list_read};
 use crate::refusal::Refusal;
@@ -30,7 +30,7 @@ pub(crate) enum Content {
     /// Not yet with its matchgroup and `excludenl`.
     Quote(Role, Pattern),
     /// The words that a keyword stands for.
-    Words(List<List<char>>),
+    Words(Words),
 }
 
 /// A piece, read.
@@ -50,7 +50,7 @@ fn content_of(
         Piece::Quote(role, quoted) => {
             Ok(Content::Quote(role, patterns.read(alloc, role, quoted)?))
         }
-        Piece::Word(text) => Ok(Content::Words(words_of(alloc, text.as_slice())?)),
+        Piece::Word(text) => Ok(Content::Words(words_of(alloc, text)?)),
     }
 }
 

@@ -3,6 +3,7 @@ ghost use Rattle.std.specs.Prelude.{◌≡◌, OnOk};
 ghost use Rattle.syn_reader.specs.Answers.{Gives, Leaves};
 ghost use Rattle.syn_reader.specs.Items as spec;
 
+use crate::abbreviation::Words;
 use crate::contents::Content;
 use crate::lists::list_made;
 use crate::names::Names;
@@ -170,13 +171,10 @@ impl Draft {
         }
     }
 
-    fn push_words(&mut self, words: List<List<char>>) -> Result<(), Memory>
+    fn push_words(&mut self, words: Words) -> Result<(), Memory>
         ensures { OnOk result (self.new ≡ spec.with_words self.old words) }
     {
-        for word in words.into_vec() {
-            self.words.push(word)?;
-        }
-        Ok(())
+        words.put_behind(&mut self.words)
     }
 
     /// Takes one piece more.

@@ -21,7 +21,9 @@ pub(crate) fn text_of(alloc: Global, characters: &[char]) -> Result<String, Memo
     ensures bytes { IfOk result (λ text. string_bytes text ≡ encode_utf8_all characters.now) }
     ensures characters { IfOk result (λ text. chars (string_bytes text) ≡ characters.now) }
 {
-    Ok(characters.iter().copied().collect(alloc)?)
+    let mut text = String::with_capacity(alloc, characters.len())?;
+    text.extend(characters.iter().copied())?;
+    Ok(text)
 }
 
 impl Names {

@@ -1,5 +1,5 @@
 //! Patterns of names.
-ghost use Rattle.std.specs.Prelude.{◌≡◌, ◌∷◌, [], chars, replicate, IfOk};
+ghost use Rattle.std.specs.Prelude.{◌≡◌, ◌∷◌, [], chars, replicate, IfOk, OnOk};
 ghost use Rattle.syntax_set.specs.Groups.{group_numbered, name_of};
 ghost use Rattle.vim_pattern.specs.GroupNumbers.{HasNumbers};
 ghost use Rattle.syn_reader.specs.Answers.{Gives};
@@ -22,11 +22,11 @@ pub(crate) const NAMES_BUDGET: u64 = 1_000_000;
 /// A text of one line.
 #[derive(Drop)]
 struct OneLine {
-    line: List<char>,
+    line: Vec<char>,
 }
 
 impl Lines for OneLine {
-    ghost lines = { λ text. text.line ∷ [] };
+    ghost lines = { λ text. text.line.items ∷ [] };
 
     fn len(&self) -> usize {
         1
@@ -37,13 +37,15 @@ impl Lines for OneLine {
     }
 }
 
-/// The characters of a name.
-fn line_of(alloc: Global, name: &str) -> Result<OneLine, Memory>
-    ensures { IfOk result (λ text. text.line ≡ chars name.now) }
-{
-    Ok(OneLine {
-        line: List::from_chars(alloc, name)?,
-    })
+impl OneLine {
+    /// Puts the characters of a name in place of those before.
+    fn set(&mut self, name: &str) -> Result<(), Memory>
+        ensures { OnOk result (self.new.line.items ≡ chars name.now) }
+    {
+        self.line.clear();
+        self.line.extend(name.chars())?;
+        Ok(())
+    }
 }
 
 /// The pattern that matches up to the end of the text.
@@ -126,10 +128,10 @@ fn is_found(attempt: &Attempt) -> Result<bool, Refusal>
 }
 
 /// Whether the pattern matches a whole name.
-fn has_name(alloc: Global, trial: &Trial, name: &str) -> Result<bool, Refusal>
+fn has_name(alloc: Global, trial: &Trial, text: &mut OneLine, name: &str) -> Result<bool, Refusal>
     ensures { Gives result (spec.has_name trial.now.whole (chars name.now)) }
 {
-    let text = line_of(alloc, name)?;
+    text.set(name)?;
     let context = Context {
         ignore: true,
         sets: &trial.sets,
@@ -138,7 +140,7 @@ fn has_name(alloc: Global, trial: &Trial, name: &str) -> Result<bool, Refusal>
     let start = Place { line: 0, col: 0 };
     let attempt = trial
         .programs
-        .attempt(alloc, PatternId(0), &text, &context, start, NAMES_BUDGET)?;
+        .attempt(alloc, PatternId(0), text, &context, start, NAMES_BUDGET)?;
     is_found(&attempt)
 }
 
@@ -156,6 +158,7 @@ fn group_at(number: usize) -> Result<GroupId, Memory>
 fn with_tried(
     alloc: Global,
     trial: &Trial,
+    text: &mut OneLine,
     groups: &Groups,
     found: List<GroupId>,
     number: usize,
@@ -166,7 +169,7 @@ fn with_tried(
 {
     let mut found = found;
     let group = group_at(number)?;
-    if has_name(alloc, trial, groups.name(group))? {
+    if has_name(alloc, trial, text, groups.name(group))? {
         found.push(group)?;
     }
     Ok(found)
@@ -177,8 +180,11 @@ fn matching_whole(alloc: Global, groups: &Groups, trial: &Trial) -> Result<List<
     ensures { Gives result (spec.matching_after trial.now.whole [] 0 groups.now) }
 {
     let mut found = List::new(alloc);
+    let mut text = OneLine {
+        line: Vec::new(alloc),
+    };
     for number in 0..groups.len() {
-        found = with_tried(alloc, trial, groups, found, number)?;
+        found = with_tried(alloc, trial, &mut text, groups, found, number)?;
     }
     Ok(found)
 }
