@@ -1,6 +1,6 @@
 -- Short looks: what was seen of a node and of what follows it.
-use Rattle.std.proofs.Common.{◌≡◌, ◌≢◌, ℕ, ◌-◌, ◌<◌, true, false, List, [], ◌∷◌, ◌++◌, refl, sym, ap, ◌∙◌, subst, append-nil}
-use Rattle.std.specs.Prelude.{Bool, Option, Some, None}
+use Rattle.std.proofs.Common.{◌≡◌, ◌≢◌, ℕ, ◌+◌, ◌-◌, ◌<◌, arith, true, false, List, [], ◌∷◌, ◌++◌, refl, sym, ap, ◌∙◌, subst, append-nil, append_assoc}
+use Rattle.std.specs.Prelude.{Bool, Option, Some, None, drop, length, take}
 use Rattle.syn_base.specs.declared.looked.Looked.{Looked}
 use Rattle.syn_base.specs.declared.places.Place.{Place}
 use Rattle.pattern_items.specs.declared.atom.Atom.{Atom}
@@ -19,48 +19,134 @@ use Rattle.match_rules.proofs.TurnLaws.{turns-spent, turns-free, turns-forced, a
 use Rattle.pattern_match.specs.declared.sight.Saw.{Saw}
 use Rattle.pattern_match.specs.declared.sight.Saw.TheVariants.{Reached, InVain, TooFar}
 use Rattle.pattern_match.specs.declared.sight.Sight.{Sight}
+use Rattle.pattern_match.specs.declared.spent.Spent.{Spent}
 use Rattle.pattern_match.specs.declared.task.Turns.{Turns}
 use Rattle.pattern_match.specs.Steps.{shape_of}
-use Rattle.pattern_match.specs.Glance.{IsSeen, IsAtomSeen, AreTurnsLeft, turns_of, turns_behind, turn_of}
+use Rattle.pattern_match.specs.Glance.{IsFirst, IsSeen, IsAtomSeen, notes_place, AreTurnsLeft, turns_of, turns_behind, turn_of}
+use Rattle.pattern_match.specs.Ways.{way_noted, with_all, with_note}
+use Rattle.pattern_match.specs.declared.ways.Note.{Note}
+use Rattle.pattern_match.specs.declared.ways.Note.TheVariants.{Captured, External}
+use Rattle.pattern_match.proofs.TakenNotes.{drop-whole, noted-moved, noted-more, take-whole}
 use Rattle.pattern_match.proofs.LookingBehind.{none_first, some_first}
 use Rattle.pattern_match.proofs.Looping.{through, way_is}
 
 -- ---- one look behind the other
 
--- no way is seen of the first marks, and so the others tell
-pub vain_then : (a b : List Mark) (old mid from new : Sight) (saw : Saw) → from.spent ≡ mid.spent → IsSeen a old mid InVain → IsSeen b from new saw → IsSeen (a ++ b) old new saw
-vain_then a b old mid from new Reached e h k = (
-  k.0,
+-- what was seen behind what an earlier look has spent
+pub seen_behind : (w : Way) (m k : List Mark) (old mid from new : Sight) (saw : Saw) → from.spent ≡ mid.spent → from.notes.items ≡ old.notes.items
+    → answer_from old.spent.cost old.spent.looked m ≡ answer_from mid.spent.cost mid.spent.looked k → IsSeen w k from new saw → IsSeen w m old new saw
+seen_behind w m k old mid from new Reached e n is h =
+    (h.0, (h.1.0 ∙ ap (λ r. r ++ h.0) n, is ∙ ap (λ s. answer_from s.cost s.looked k) (sym e) ∙ h.1.1))
+seen_behind w m k old mid from new InVain e n is h = (h.0 ∙ n, is ∙ ap (λ s. answer_from s.cost s.looked k) (sym e) ∙ h.1)
+seen_behind w m k old mid from new TooFar e n is h = tt
+
+-- what was seen of a way is seen of one that stands elsewhere
+pub seen_moved : (w : Way) (p : Place) (m : List Mark) (old new : Sight) (saw : Saw) → IsSeen (record w { at = p }) m old new saw → IsSeen w m old new saw
+seen_moved w p m old new Reached h =
+    (h.0, (h.1.0, h.1.1 ∙ ap (λ v. record { way = Some v; cost = new.spent.cost; looked = new.spent.looked }) (noted-moved w p h.0 new.at)))
+seen_moved w p m old new InVain h = h
+seen_moved w p m old new TooFar h = tt
+
+-- what was seen to have no first way, or not seen, tells the same of any way
+pub seen_unless_reached : (v w : Way) (m : List Mark) (old new : Sight) (saw : Saw) → saw ≢ Reached → IsSeen v m old new saw → IsSeen w m old new saw
+seen_unless_reached v w m old new Reached n h = absurd (n refl)
+seen_unless_reached v w m old new InVain n h = h
+seen_unless_reached v w m old new TooFar n h = tt
+
+-- notes of the way that come before those of what was seen
+pub seen_noted : (w : Way) (more : List Note) (m : List Mark) (old mid new : Sight) → IsSeen (with_all more w) m old mid Reached → new.at ≡ mid.at → new.spent ≡ mid.spent → new.notes.items ≡ mid.notes.items ++ more → IsSeen w m old new Reached
+seen_noted w more m old mid new h at spent joins = (
+  h.0 ++ more,
   (
-    none_first old.spent.cost old.spent.looked a b (ap (λ r. r.way) h)
-        ∙ ap (λ r. answer_from r.cost r.looked b) h ∙ ap (λ s. answer_from s.cost s.looked b) (sym e) ∙ k.1.0,
-    k.1.1,
+    joins ∙ ap (λ r. r ++ more) h.1.0 ∙ append_assoc old.notes.items h.0 more,
+    h.1.1 ∙ (λ i. record { way = Some (way_noted (with_all more w) h.0 (sym at i)); cost = (sym spent i).cost; looked = (sym spent i).looked })
+        ∙ ap (λ v. record { way = Some v; cost = new.spent.cost; looked = new.spent.looked }) (sym (noted-more w h.0 more new.at)),
   ),
 )
-vain_then a b old mid from new InVain e h k =
-    none_first old.spent.cost old.spent.looked a b (ap (λ r. r.way) h)
-    ∙ ap (λ r. answer_from r.cost r.looked b) h ∙ ap (λ s. answer_from s.cost s.looked b) (sym e) ∙ k
-vain_then a b old mid from new TooFar e h k = tt
+
+-- notes that were there before those of what was seen are put behind them
+pub seen_later : (w : Way) (inner : List Note) (m : List Mark) (base old mid new : Sight) → base.notes.items ≡ [] → base.spent ≡ old.spent → old.notes.items ≡ inner → IsSeen (with_all inner w) m old mid Reached
+    → new.at ≡ mid.at → new.spent ≡ mid.spent → new.notes.items ≡ drop (length inner) mid.notes.items ++ take (length inner) mid.notes.items → IsSeen w m base new Reached
+seen_later w inner m base old mid new none same is h at spent rotated =
+    let joined : mid.notes.items ≡ inner ++ h.0 = h.1.0 ∙ ap (λ r. r ++ h.0) is in (
+      h.0 ++ inner,
+      (
+        rotated ∙ ap (λ r. drop (length inner) r ++ take (length inner) r) joined ∙ (λ i. drop-whole inner h.0 i ++ take-whole inner h.0 i) ∙ ap (λ r. r ++ (h.0 ++ inner)) (sym none),
+        ap (λ s. answer_from s.cost s.looked m) same
+            ∙ h.1.1 ∙ (λ i. record { way = Some (way_noted (with_all inner w) h.0 (sym at i)); cost = (sym spent i).cost; looked = (sym spent i).looked })
+            ∙ ap (λ v. record { way = Some v; cost = new.spent.cost; looked = new.spent.looked }) (sym (noted-more w h.0 inner new.at)),
+      ),
+    )
+
+-- a look that had taken no note
+pub seen_first : (w : Way) (m : List Mark) (old new : Sight) (saw : Saw) (spent : Spent) → old.notes.items ≡ [] → old.spent ≡ spent → IsSeen w m old new saw → IsFirst w m spent new saw
+seen_first w m old new Reached spent none same h =
+    let notes : h.0 ≡ new.notes.items = sym (h.1.0 ∙ ap (λ r. r ++ h.0) none) in
+    ap (λ s. answer_from s.cost s.looked m) (sym same) ∙ h.1.1
+    ∙ ap (λ r. record { way = Some (way_noted w r new.at); cost = new.spent.cost; looked = new.spent.looked }) notes
+seen_first w m old new InVain spent none same h = ap (λ s. answer_from s.cost s.looked m) (sym same) ∙ h.1
+seen_first w m old new TooFar spent none same h = tt
+
+-- no way is seen of the first marks, and so the others tell
+pub vain_then : (w : Way) (a b : List Mark) (old mid from new : Sight) (saw : Saw) → from.spent ≡ mid.spent → from.notes.items ≡ mid.notes.items → IsSeen w a old mid InVain → IsSeen w b from new saw → IsSeen w (a ++ b) old new saw
+vain_then w a b old mid from new saw e n h k =
+    seen_behind w (a ++ b) b old mid from new saw e (n ∙ h.0)
+    (none_first old.spent.cost old.spent.looked a b (ap (λ r. r.way) h.1) ∙ ap (λ r. answer_from r.cost r.looked b) h.1) k
 
 -- a way is seen of the first marks, or nothing
-pub first_stops : (a b : List Mark) (old new : Sight) (saw : Saw) → saw ≢ InVain → IsSeen a old new saw → IsSeen (a ++ b) old new saw
-first_stops a b old new Reached n h =
-    (h.0, (some_first old.spent.cost old.spent.looked a b h.0 (ap (λ r. r.way) h.1.0) ∙ h.1.0, h.1.1))
-first_stops a b old new InVain n h = absurd (n refl)
-first_stops a b old new TooFar n h = tt
+pub first_stops : (w : Way) (a b : List Mark) (old new : Sight) (saw : Saw) → saw ≢ InVain → IsSeen w a old new saw → IsSeen w (a ++ b) old new saw
+first_stops w a b old new Reached n h =
+    (h.0, (h.1.0, some_first old.spent.cost old.spent.looked a b (way_noted w h.0 new.at) (ap (λ r. r.way) h.1.1) ∙ h.1.1))
+first_stops w a b old new InVain n h = absurd (n refl)
+first_stops w a b old new TooFar n h = tt
 
 -- what was seen of marks that are the same
-pub seen_as : (m k : List Mark) (old new : Sight) (saw : Saw) → m ≡ k → IsSeen k old new saw → IsSeen m old new saw
-seen_as m k old new saw e h = subst (λ r. IsSeen r old new saw) (sym e) h
-
--- what was seen behind what an earlier look has spent
-pub seen_behind : (m k : List Mark) (old mid from new : Sight) (saw : Saw) → from.spent ≡ mid.spent → answer_from old.spent.cost old.spent.looked m ≡ answer_from mid.spent.cost mid.spent.looked k → IsSeen k from new saw → IsSeen m old new saw
-seen_behind m k old mid from new Reached e is h =
-    (h.0, (is ∙ ap (λ s. answer_from s.cost s.looked k) (sym e) ∙ h.1.0, h.1.1))
-seen_behind m k old mid from new InVain e is h = is ∙ ap (λ s. answer_from s.cost s.looked k) (sym e) ∙ h
-seen_behind m k old mid from new TooFar e is h = tt
+pub seen_as : (w : Way) (m k : List Mark) (old new : Sight) (saw : Saw) → m ≡ k → IsSeen w k old new saw → IsSeen w m old new saw
+seen_as w m k old new saw e h = subst (λ r. IsSeen w r old new saw) (sym e) h
 
 -- ---- an atom
+
+-- an atom that notes nothing moves the way alone
+pub moves_behind : (w : Way) (p : Place) (a : Atom) → notes_place a ≡ false → way_behind w p a ≡ record w { at = p }
+moves_behind w p (Char c) e = refl
+moves_behind w p (Any takes_end) e = refl
+moves_behind w p (Is class negative takes_end) e = refl
+moves_behind w p (Set ranges) e = refl
+moves_behind w p LineEnd e = refl
+moves_behind w p LineStart e = refl
+moves_behind w p LineStop e = refl
+moves_behind w p WordStart e = refl
+moves_behind w p WordStop e = refl
+moves_behind w p FileStart e = refl
+moves_behind w p FileStop e = refl
+moves_behind w p MatchStart e = absurd (cc)
+moves_behind w p MatchStop e = absurd (cc)
+moves_behind w p (LineNumber how number) e = refl
+moves_behind w p (Ref number) e = refl
+moves_behind w p (ExternalRef number) e = refl
+
+-- an atom that takes a character notes nothing
+pub takes_plain : (x : Context) (w : Way) (a : Atom) (p : Place) → fits x w a ≡ Some p → p.col ≡ w.at.col + 1 → notes_place a ≡ false
+takes_plain x w (Char c) p e k = refl
+takes_plain x w (Any takes_end) p e k = refl
+takes_plain x w (Is class negative takes_end) p e k = refl
+takes_plain x w (Set ranges) p e k = refl
+takes_plain x w LineEnd p e k = refl
+takes_plain x w LineStart p e k = refl
+takes_plain x w LineStop p e k = refl
+takes_plain x w WordStart p e k = refl
+takes_plain x w WordStop p e k = refl
+takes_plain x w FileStart p e k = refl
+takes_plain x w FileStop p e k = refl
+takes_plain x w MatchStart p e k =
+    let same : w.at.col ≡ p.col = ap (λ (o : Option Place). elim o [ None ↦ w.at.col | Some q ↦ q.col ]) e in
+    absurd (omega arith)
+takes_plain x w MatchStop p e k =
+    let same : w.at.col ≡ p.col = ap (λ (o : Option Place). elim o [ None ↦ w.at.col | Some q ↦ q.col ]) e in
+    absurd (omega arith)
+takes_plain x w (LineNumber how number) p e k = refl
+takes_plain x w (Ref number) p e k = refl
+takes_plain x w (ExternalRef number) p e k = refl
 
 pub at_behind : (x : Context) (w : Way) (a : Atom) (p : Place) → fits x w a ≡ Some p → (way_behind w p a).at ≡ p
 at_behind x w (Char c) p e = refl
@@ -85,24 +171,37 @@ module _ (x : Context) (a : Atom) (w : Way) (f : Way → List Mark) (old mid : S
   looked = lines_looked x w a
 
   -- where it leads to a place, what follows there tells
-  pub atom_then : (new : Sight) (saw : Saw) → IsAtomSeen x a w old mid Reached → ((v : Way) → v.at ≡ mid.at → IsSeen (f v) mid new saw) → IsSeen (followed (visits x (one a) w) f) old new saw
+  pub atom_then : (new : Sight) (saw : Saw) → IsAtomSeen x a w old mid Reached → ((v : Way) → v.at ≡ mid.at → IsSeen v (f v) mid new saw) → IsSeen w (followed (visits x (one a) w) f) old new saw
   atom_then new saw h next =
-      let v : Way = way_behind w mid.at a in
-      let k : followed (visits x (one a) w) f ≡ (Tick looked ∷ []) ++ f v = rw h.place_is (ap (λ r. Tick looked ∷ r) (append-nil (f v))) in
-      let s : mid.spent ≡ mid.spent = refl in
-      subst (λ m. IsSeen m old new saw) (sym k)
-      (vain_then (Tick looked ∷ []) (f v) old mid mid new saw refl (rw h.spent refl) (next v (at_behind x w a mid.at h.place_is)))
+      let v : Way = record w { at = mid.at } in
+      let behind : way_behind w mid.at a ≡ v = moves_behind w mid.at a h.plain in
+      let k : followed (visits x (one a) w) f ≡ Tick looked ∷ f v = rw h.place_is (ap (λ r. Tick looked ∷ r) (append-nil (f (way_behind w mid.at a)) ∙ ap f behind)) in
+      seen_behind w (followed (visits x (one a) w) f) (f v) old mid mid new saw refl h.notes
+      (ap (answer_from old.spent.cost old.spent.looked) k ∙ ap (λ s. answer_from s.cost s.looked (f v)) (sym h.spent))
+      (seen_moved w mid.at (f v) mid new saw (next v refl))
 
   -- where it doesn't fit, nothing follows
-  pub atom_stops : (saw : Saw) → saw ≢ Reached → IsAtomSeen x a w old mid saw → IsSeen (followed (visits x (one a) w) f) old mid saw
+  pub atom_vain : IsAtomSeen x a w old mid InVain → IsSeen w (followed (visits x (one a) w) f) old mid InVain
+  atom_vain h = (h.notes, rw (h.place_is, h.spent) refl)
+
+  pub atom_stops : (saw : Saw) → saw ≢ Reached → IsAtomSeen x a w old mid saw → IsSeen w (followed (visits x (one a) w) f) old mid saw
   atom_stops Reached n h = absurd (n refl)
-  atom_stops InVain n h = rw (h.place_is, h.spent) refl
+  atom_stops InVain n h = atom_vain h
   atom_stops TooFar n h = tt
 
 -- ---- what follows
 
 pub followed-one : (w : Way) (f : Way → List Mark) → followed (Reach w ∷ []) f ≡ f w
 followed-one w f = append-nil (f w)
+
+-- a group that ends at the place of the way takes a note there
+pub close_is : (number : ℕ) (from p : Place) (w : Way) (f : Way → List Mark) → w.at ≡ p → followed (noted number from w) f ≡ f (with_note w (Captured number from p))
+close_is number from p w f e =
+    append-nil (f (with_note w (Captured number from w.at))) ∙ ap (λ q. f (with_note w (Captured number from q))) e
+
+pub close_external_is : (number : ℕ) (from p : Place) (w : Way) (f : Way → List Mark) → w.at ≡ p → followed (noted_external number from w) f ≡ f (with_note w (External number from p))
+close_external_is number from p w f e =
+    append-nil (f (with_note w (External number from w.at))) ∙ ap (λ q. f (with_note w (External number from q))) e
 
 pub either_is : (x : Context) (a b : Shape) (w : Way) (f : Way → List Mark) → followed (visits x (or a b) w) f ≡ followed (visits x a w) f ++ followed (visits x b w) f
 either_is x a b w f = followed-append (visits x a w) (visits x b w) f

@@ -3,7 +3,7 @@ use Rattle.std.proofs.Common.{◌≡◌, ◌≢◌, ℕ, zero, suc, ◌+◌, ◌
 use Rattle.syn_base.specs.declared.places.Place.{Place}
 use Rattle.pattern_items.specs.declared.atom.Atom.{Atom}
 use Rattle.vim_pattern.specs.Shape.{one}
-use Rattle.match_rules.specs.Ways.{Context, Text, Way, IsPlaceOf, is_after}
+use Rattle.match_rules.specs.Ways.{Context, Text, Way, IsPlaceOf, is_after, way_from}
 use Rattle.match_rules.specs.Atoms.{lines_looked, own_line, way_behind}
 use Rattle.match_rules.specs.Attempt.{answer_from}
 use Rattle.match_rules.specs.Counts.{one_less, less_by, is_spent}
@@ -19,14 +19,14 @@ use Rattle.pattern_match.specs.Runs.{AreAllowed, IsRun}
 use Rattle.pattern_match.specs.Spending.{spent_times}
 use Rattle.pattern_match.specs.Steps.{shape_of}
 use Rattle.pattern_match.specs.Ways.{columns_on}
-use Rattle.pattern_match.proofs.GlanceLaws.{at_behind, atom_stops, atom_then, first_stops, greedy_is, lazy_is, left_none, left_took, seen_behind, spent_is, turn_is}
+use Rattle.pattern_match.proofs.GlanceLaws.{atom_stops, atom_then, first_stops, greedy_is, lazy_is, left_none, left_took, moves_behind, seen_behind, seen_moved, spent_is, turn_is}
 use Rattle.pattern_match.proofs.LookingBehind.{none_first}
 use Rattle.pattern_match.proofs.RunLaws.{is_after-next, less-next, less-none, less-unspent, plain-looks, plain-moves, run-fits}
 
 -- where marks have no way, what follows them goes on from there
-pub none_then : (a b : List Mark) (old new : Sight) → IsSeen a old new InVain → answer_from old.spent.cost old.spent.looked (a ++ b) ≡ answer_from new.spent.cost new.spent.looked b
-none_then a b old new h =
-    none_first old.spent.cost old.spent.looked a b (ap (λ r. r.way) h) ∙ ap (λ r. answer_from r.cost r.looked b) h
+pub none_then : (w : Way) (a b : List Mark) (old new : Sight) → IsSeen w a old new InVain → answer_from old.spent.cost old.spent.looked (a ++ b) ≡ answer_from new.spent.cost new.spent.looked b
+none_then w a b old new h =
+    none_first old.spent.cost old.spent.looked a b (ap (λ r. r.way) h.1) ∙ ap (λ r. answer_from r.cost r.looked b) h.1
 
 -- one look behind another goes on
 pub went_on : (text : Text) (old mid new : Sight) → GoesOn text old mid → GoesOn text mid new → GoesOn text old new
@@ -107,56 +107,58 @@ module _ (x : Context) (t : Turns) (w : Way) (f : Way → List Mark) (free : t.l
       run_is r.0 r.1.0 (suc n) r.1.1 h.allowed old (suc n) (omega arith)
 
   -- what was seen behind these turns was seen of all
-  pub greedy_seen : (count : ℕ) → AreTaken x t w.at count → (old mid new : Sight) (saw : Saw) → mid.spent ≡ spent_times old.spent count (own_line w)
-      → IsSeen (followed (turns_of x (turns_less t count) (way_on w count)) f ++ stops_of f w count) mid new saw → IsSeen (followed (turns_of x t w) f) old new saw
-  greedy_seen count taken old mid new saw spent h =
+  pub greedy_seen : (count : ℕ) → AreTaken x t w.at count → (old mid new : Sight) (saw : Saw) → mid.spent ≡ spent_times old.spent count (own_line w) → mid.notes.items ≡ old.notes.items
+      → IsSeen w (followed (turns_of x (turns_less t count) (way_on w count)) f ++ stops_of f w count) mid new saw → IsSeen w (followed (turns_of x t w) f) old new saw
+  greedy_seen count taken old mid new saw spent notes h =
       let all : List Mark = followed (turns_of x (turns_less t count) (way_on w count)) f ++ stops_of f w count in
-      seen_behind (followed (turns_of x t w) f) all old mid mid new saw refl (taken_is count taken old ∙ ap (λ s. answer_from s.cost s.looked all) (sym spent)) h
+      seen_behind w (followed (turns_of x t w) f) all old mid mid new saw refl notes (taken_is count taken old ∙ ap (λ s. answer_from s.cost s.looked all) (sym spent)) h
 
 -- ---- turns of a lazy count, one behind the other
 
--- what turns come to from a place on is what others come to from another
+-- what turns come to from a place on is what others come to from another, with no note between
 abbrev pub ComesTo : Context → (Way → List Mark) → Turns → Turns → Sight → Sight → Type 0
-ComesTo x f t u old now = (w : Way) → w.at ≡ old.at → (v : Way) × ((v.at ≡ now.at) ×
-    (answer_from old.spent.cost old.spent.looked (followed (turns_of x t w) f) ≡ answer_from now.spent.cost now.spent.looked (followed (turns_of x u v) f)))
+ComesTo x f t u old now = (now.notes.items ≡ old.notes.items) × ((w : Way) → w.at ≡ old.at →
+    answer_from old.spent.cost old.spent.looked (followed (turns_of x t w) f) ≡ answer_from now.spent.cost now.spent.looked (followed (turns_of x u (record w { at = now.at })) f))
 
 -- so it was seen of the first ones what was seen of the others
 abbrev pub IsSeenOf : Context → (Way → List Mark) → Turns → Sight → Sight → Saw → Type 0
-IsSeenOf x f t old new saw = (w : Way) → w.at ≡ old.at → IsSeen (followed (turns_of x t w) f) old new saw
+IsSeenOf x f t old new saw = (w : Way) → w.at ≡ old.at → IsSeen w (followed (turns_of x t w) f) old new saw
 
 pub comes_first : (x : Context) (f : Way → List Mark) (t : Turns) (s : Sight) → ComesTo x f t t s s
-comes_first x f t s = λ w e. (w, (e, refl))
+comes_first x f t s = (refl, λ w e. ap (λ p. answer_from s.spent.cost s.spent.looked (followed (turns_of x t (record w { at = p })) f)) e)
 
 module _ (x : Context) (f : Way → List Mark) (t u : Turns) (old cur : Sight) (c : ComesTo x f t u old cur) (on_text : IsPlaceOf x.text cur.at) (free : u.least ≡ 0) (lazy : u.lazy ≡ true) where
   -- what was seen of the turns that are left was seen of all
-  seen_of_left : (from new : Sight) (saw : Saw) → ((v : Way) → v.at ≡ cur.at → (m : List Mark) × ((answer_from cur.spent.cost cur.spent.looked (followed (turns_of x u v) f) ≡ answer_from from.spent.cost from.spent.looked m) × IsSeen m from new saw)) → IsSeenOf x f t old new saw
-  seen_of_left from new saw h = λ w e.
-      let r = c w e in
-      let k = h r.0 r.1.0 in
-      seen_behind (followed (turns_of x t w) f) k.0 old from from new saw refl (r.1.1 ∙ k.1.0) k.1.1
+  seen_of_left : (from new : Sight) (saw : Saw) → from.notes.items ≡ cur.notes.items → ((v : Way) → v.at ≡ cur.at → (m : List Mark) × ((answer_from cur.spent.cost cur.spent.looked (followed (turns_of x u v) f) ≡ answer_from from.spent.cost from.spent.looked m) × IsSeen v m from new saw)) → IsSeenOf x f t old new saw
+  seen_of_left from new saw notes h = λ w e.
+      let k = h (record w { at = cur.at }) refl in
+      seen_behind w (followed (turns_of x t w) f) k.0 old from from new saw refl (notes ∙ c.0) (c.1 w e ∙ k.1.0) (seen_moved w cur.at k.0 from new saw k.1.1)
 
   -- a stop that has a way, or nothing is known of
-  pub lazy_stops : (new : Sight) (saw : Saw) → saw ≢ InVain → ((v : Way) → v.at ≡ cur.at → IsSeen (f v) cur new saw) → IsSeenOf x f t old new saw
-  lazy_stops new saw n h = seen_of_left cur new saw (λ v e.
+  pub lazy_stops : (new : Sight) (saw : Saw) → saw ≢ InVain → ((v : Way) → v.at ≡ cur.at → IsSeen v (f v) cur new saw) → IsSeenOf x f t old new saw
+  lazy_stops new saw n h = seen_of_left cur new saw refl (λ v e.
       let here : IsPlaceOf x.text v.at = subst (IsPlaceOf x.text) (sym e) on_text in (
         followed (turns_of x u v) f,
         (
           refl,
-          elim (is_spent u.most) as (λ b. is_spent u.most ≡ b → IsSeen (followed (turns_of x u v) f) cur new saw) [
-            | true ↦ λ b. subst (λ m. IsSeen m cur new saw) (sym (spent_is x u v f here b)) (h v e)
-            | false ↦ λ b. subst (λ m. IsSeen m cur new saw) (sym (lazy_is x u v f here b free lazy)) (first_stops (f v) (followed (turn_of x u v) f) cur new saw n (h v e))
+          elim (is_spent u.most) as (λ b. is_spent u.most ≡ b → IsSeen v (followed (turns_of x u v) f) cur new saw) [
+            | true ↦ λ b. subst (λ m. IsSeen v m cur new saw) (sym (spent_is x u v f here b)) (h v e)
+            | false ↦ λ b. subst (λ m. IsSeen v m cur new saw) (sym (lazy_is x u v f here b free lazy)) (first_stops v (f v) (followed (turn_of x u v) f) cur new saw n (h v e))
           ] refl,
         ),
       ))
 
-  module _ (new : Sight) (vain : (v : Way) → v.at ≡ cur.at → IsSeen (f v) cur new InVain) where
+  module _ (new : Sight) (vain : (v : Way) → v.at ≡ cur.at → IsSeen v (f v) cur new InVain) where
     -- no stop has a way, and no turn is allowed
     pub lazy_ends : is_spent u.most ≡ true → IsSeenOf x f t old new InVain
-    lazy_ends b = seen_of_left cur new InVain (λ v e.
+    lazy_ends b = seen_of_left cur new InVain refl (λ v e.
         let here : IsPlaceOf x.text v.at = subst (IsPlaceOf x.text) (sym e) on_text in
         (f v, (ap (answer_from cur.spent.cost cur.spent.looked) (spent_is x u v f here b), vain v e)))
 
-    module _ (a : Atom) (k : shape_of u.part.now ≡ one a) (b : is_spent u.most ≡ false) (from : Sight) (same : from.spent ≡ new.spent) (place : from.at ≡ cur.at) where
+    module _ (a : Atom) (k : shape_of u.part.now ≡ one a) (b : is_spent u.most ≡ false) (from : Sight) (same : from.spent ≡ new.spent) (noted : from.notes.items ≡ new.notes.items) (place : from.at ≡ cur.at) where
+      kept : from.notes.items ≡ cur.notes.items
+      kept = noted ∙ (vain (way_from cur.at) refl).0
+
       -- what follows a turn
       abbrev behind : Way → Way → List Mark
       behind v z = followed (turns_behind x u v.at z) f
@@ -165,44 +167,41 @@ module _ (x : Context) (f : Way → List Mark) (t u : Turns) (old cur : Sight) (
       turn_left v e =
           let here : IsPlaceOf x.text v.at = subst (IsPlaceOf x.text) (sym e) on_text in
           ap (answer_from cur.spent.cost cur.spent.looked) (lazy_is x u v f here b free lazy)
-          ∙ none_then (f v) (followed (turn_of x u v) f) cur new (vain v e)
+          ∙ none_then v (f v) (followed (turn_of x u v) f) cur new (vain v e)
           ∙ ap (λ s. answer_from s.cost s.looked (followed (turn_of x u v) f)) (sym same)
           ∙ ap (answer_from from.spent.cost from.spent.looked) (turn_is x u v f ∙ ap (λ s. followed (visits x s v) (behind v)) k)
 
       -- the atom of the next turn doesn't fit
       pub lazy_misses : (mid : Sight) (saw : Saw) → saw ≢ Reached → ((v : Way) → v.at ≡ from.at → IsAtomSeen x a v from mid saw) → IsSeenOf x f t old mid saw
-      lazy_misses mid saw n h = seen_of_left from mid saw (λ v e.
+      lazy_misses mid saw n h = seen_of_left from mid saw kept (λ v e.
           (followed (visits x (one a) v) (behind v), (turn_left v e, atom_stops x a v (behind v) from mid saw n (h v (e ∙ sym place)))))
 
       module _ (mid : Sight) (h : (v : Way) → v.at ≡ from.at → IsAtomSeen x a v from mid Reached) where
         -- it takes nothing
         pub lazy_stays : is_after mid.at from.at ≡ false → IsSeenOf x f t old mid InVain
-        lazy_stays after = seen_of_left from mid InVain (λ v e. (
+        lazy_stays after = seen_of_left from mid InVain kept (λ v e. (
           followed (visits x (one a) v) (behind v),
           (
             turn_left v e,
             atom_then x a v (behind v) from mid mid InVain (h v (e ∙ sym place)) (λ z ez.
                 let p : is_after mid.at v.at ≡ false = ap (is_after mid.at) (e ∙ sym place) ∙ after in
-                ap (λ m. answer_from mid.spent.cost mid.spent.looked (followed m f)) (left_none u v.at mid.at p free x z ez)),
+                (refl, ap (λ m. answer_from mid.spent.cost mid.spent.looked (followed m f)) (left_none u v.at mid.at p free x z ez))),
           ),
         ))
 
         -- it goes on
         pub lazy_goes : is_after mid.at from.at ≡ true → ComesTo x f t (record u { most = one_less u.most }) old mid
-        lazy_goes after = λ w e.
-            let r = c w e in
-            let v : Way = r.0 in
-            let tried = h v (r.1.0 ∙ sym place) in
-            let next : Way = way_behind v mid.at a in
-            let at : next.at ≡ mid.at = at_behind x v a mid.at tried.place_is in
-            let p : is_after mid.at v.at ≡ true = ap (is_after mid.at) (r.1.0 ∙ sym place) ∙ after in
-            let left = (left_took u v.at mid.at u.least (one_less u.most) p (rw free refl) refl).1 x next at in
-            let followed_is : followed (visits x (one a) v) (behind v) ≡ Tick (lines_looked x v a) ∷ behind v next = rw tried.place_is (ap (λ m. Tick (lines_looked x v a) ∷ m) (append-nil (behind v next))) in (
-              next,
-              (
-                at,
-                r.1.1 ∙ turn_left v r.1.0 ∙ ap (answer_from from.spent.cost from.spent.looked) followed_is
-                    ∙ ap (λ s. answer_from s.cost s.looked (behind v next)) (sym tried.spent)
-                    ∙ ap (λ m. answer_from mid.spent.cost mid.spent.looked (followed m f)) left,
-              ),
-            )
+        lazy_goes after = (
+          (h (way_from from.at) refl).notes ∙ kept ∙ c.0,
+          λ w e.
+              let v : Way = record w { at = cur.at } in
+              let tried = h v (sym place) in
+              let next : Way = record w { at = mid.at } in
+              let p : is_after mid.at v.at ≡ true = ap (is_after mid.at) (sym place) ∙ after in
+              let left = (left_took u v.at mid.at u.least (one_less u.most) p (rw free refl) refl).1 x next refl in
+              let followed_is : followed (visits x (one a) v) (behind v) ≡ Tick (lines_looked x v a) ∷ behind v next = rw tried.place_is
+              (ap (λ m. Tick (lines_looked x v a) ∷ m) (append-nil (behind v (way_behind v mid.at a)) ∙ ap (behind v) (moves_behind v mid.at a tried.plain))) in
+              c.1 w e ∙ turn_left v refl ∙ ap (answer_from from.spent.cost from.spent.looked) followed_is
+              ∙ ap (λ s. answer_from s.cost s.looked (behind v next)) (sym tried.spent)
+              ∙ ap (λ m. answer_from mid.spent.cost mid.spent.looked (followed m f)) left,
+        )

@@ -1,7 +1,8 @@
 pub mod LastPartLaws
 pub mod EntryLaws
 pub mod PendingLaws
-pub mod PlainWays
+pub mod SeenWays
+pub mod TakenNotes
 pub mod WayLaws
 pub mod Leading
 pub mod Counting

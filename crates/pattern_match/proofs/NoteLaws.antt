@@ -22,7 +22,7 @@ pub record HasNine (w : Way) : Type 0 where
   pub captures : length w.captures ≡ 9
   pub externals : length w.externals ≡ 9
 
-nine-note : (w : Way) (note : Note) → HasNine w → HasNine (with_note w note)
+pub nine-note : (w : Way) (note : Note) → HasNine w → HasNine (with_note w note)
 nine-note w (Captured number from to) nine = record { captures = length-set w.captures (number - 1) (Some (from, to)) ∙ nine.captures; externals = nine.externals }
 nine-note w (External number from to) nine = record { captures = nine.captures; externals = length-set w.externals (number - 1) (Some (from, to)) ∙ nine.externals }
 nine-note w (Start p) nine = record { captures = nine.captures; externals = nine.externals }

@@ -27,7 +27,7 @@ use Rattle.pattern_match.specs.declared.sight.Sight.{Sight}
 use Rattle.pattern_match.proofs.GlanceLaws.{seen_behind}
 use Rattle.pattern_match.specs.declared.spent.Spent.{Spent}
 use Rattle.pattern_match.specs.declared.vain.Vain.{Vain}
-use Rattle.pattern_match.specs.declared.vain.Vain.TheVariants.{Refused, LeftOut, Unsure}
+use Rattle.pattern_match.specs.declared.vain.Vain.TheVariants.{Refused, LeftOut, Noted, Unsure}
 
 -- ---- so many ticks
 
@@ -77,7 +77,11 @@ pub behind-left-out : (l : Looked) (v : Way) (marks : List Mark) (f : Way → Li
 behind-left-out l v marks f n e =
     ap (λ m. followed m f) e ∙ followed-vain n l (Reach v ∷ []) f ∙ ap (λ r. ticks n l ++ r) (append-nil (f v))
 
-pub then-refused : (n m k : ℕ) → k ≡ n + m → IsThen (LeftOut n) (Refused m) (Refused k)
+-- a way that notes nothing may have noted something
+pub noted-too : (w : Way) (marks : List Mark) (n : ℕ) → IsVain marks w (LeftOut n) → IsVain marks w (Noted n)
+noted-too w marks n h = (w, (refl, h))
+
+pub then-refused : (n m k : ℕ) → k ≡ n + m → IsThen (Noted n) (Refused m) (Refused k)
 then-refused n m k is w marks f first next =
     let v : Way = first.0 in
     let line : own_line v ≡ own_line w = same-line v w (ap (λ (p : Place). p.line) first.1.0) in
@@ -87,6 +91,13 @@ then-refused n m k is w marks f first next =
 
 pub then-left-out : (n m k : ℕ) → k ≡ n + m → IsThen (LeftOut n) (LeftOut m) (LeftOut k)
 then-left-out n m k is w marks f first next =
+    behind-left-out (own_line w) w marks f n first
+    ∙ ap (λ r. ticks n (own_line w) ++ r) (next w refl)
+    ∙ sym (append-again (ticks n (own_line w)) (ticks m (own_line w)) (Reach w ∷ []))
+    ∙ ap (λ r. r ++ Reach w ∷ []) (ticks-more n m (own_line w) ∙ ap (λ c. ticks c (own_line w)) (sym is))
+
+pub then-noted : (n m k : ℕ) → k ≡ n + m → IsThen (Noted n) (Noted m) (Noted k)
+then-noted n m k is w marks f first next =
     let v : Way = first.0 in
     let line : own_line v ≡ own_line w = same-line v w (ap (λ (p : Place). p.line) first.1.0) in
     let behind = next v first.1.0 in
@@ -105,10 +116,11 @@ pub refused-first : (n : ℕ) (next : Vain) → IsThen (Refused n) next (Refused
 refused-first n next w marks f first more = ap (λ m. followed m f) first ∙ followed-ticks n (own_line w) f
 
 -- where nothing is left out, what stands behind tells no more
-pub decided : (v : Vain) → ((n : ℕ) → v ≢ LeftOut n) → (next : Vain) → IsThen v next v
-decided (Refused n) none next = refused-first n next
-decided (LeftOut n) none next = absurd (none n refl)
-decided Unsure none next = λ w marks f first more. tt
+pub decided : (v : Vain) → ((n : ℕ) → v ≢ LeftOut n) → ((n : ℕ) → v ≢ Noted n) → (next : Vain) → IsThen v next v
+decided (Refused n) none no_note next = refused-first n next
+decided (LeftOut n) none no_note next = absurd (none n refl)
+decided (Noted n) none no_note next = absurd (no_note n refl)
+decided Unsure none no_note next = λ w marks f first more. tt
 
 -- ---- one part or another, and an atom before a part
 
@@ -125,14 +137,16 @@ one-behind n k is w v marks line h =
 -- ---- a part that need not be there
 
 pub left-out-or : (w : Way) (marks : List Mark) (v : Vain) → IsVain marks w v → IsVain (marks ++ Reach w ∷ []) w (left_out v)
-left-out-or w marks (Refused n) h = (w, (refl, ap (λ m. m ++ Reach w ∷ []) h))
+left-out-or w marks (Refused n) h = ap (λ m. m ++ Reach w ∷ []) h
 left-out-or w marks (LeftOut n) h = tt
+left-out-or w marks (Noted n) h = tt
 left-out-or w marks Unsure h = tt
 
 -- the same where its ways would go on
 pub left-out-behind : (w : Way) (marks : List Mark) (f : Way → List Mark) (v : Vain) → IsVain marks w v → IsVain (followed marks f ++ Reach w ∷ []) w (left_out v)
-left-out-behind w marks f (Refused n) h = (w, (refl, ap (λ m. m ++ Reach w ∷ []) (ap (λ m. followed m f) h ∙ followed-ticks n (own_line w) f)))
+left-out-behind w marks f (Refused n) h = ap (λ m. m ++ Reach w ∷ []) (ap (λ m. followed m f) h ∙ followed-ticks n (own_line w) f)
 left-out-behind w marks f (LeftOut n) h = tt
+left-out-behind w marks f (Noted n) h = tt
 left-out-behind w marks f Unsure h = tt
 
 pub count-left-out : (x : Context) (part : Shape) (least : ℕ) (most : Option ℕ) (lazy : Bool) (w : Way) (v : Vain) → IsPlaceOf x.text w.at → least ≡ 0 → lazy ≡ false → is_spent most ≡ false →
@@ -162,16 +176,17 @@ refused-tells part p old new h wanted w e =
     ∙ spent-ticks old n l [] ∙ ap (λ s. record { way = None; cost = s.cost; looked = s.looked }) (sym h.1.1)
 
 -- what is refused at a place is seen to be in vain
-pub refused-seen : (marks : List Mark) (w : Way) (n : ℕ) (old new : Sight) → IsVain marks w (Refused n) → new ≡ record old { spent = spent_times old.spent n (own_line w) } → IsSeen marks old new InVain
-refused-seen marks w n old new is spent =
-    ap (answer_from old.spent.cost old.spent.looked) (is ∙ sym (append-nil (ticks n (own_line w))))
-    ∙ spent-ticks old.spent n (own_line w) [] ∙ ap (λ (s : Sight). record { way = None; cost = s.spent.cost; looked = s.spent.looked }) (sym spent)
+pub refused-seen : (marks : List Mark) (w : Way) (n : ℕ) (old new : Sight) → IsVain marks w (Refused n) → new ≡ record old { spent = spent_times old.spent n (own_line w) } → IsSeen w marks old new InVain
+refused-seen marks w n old new is spent = (
+  ap (λ (s : Sight). s.notes.items) spent,
+  ap (answer_from old.spent.cost old.spent.looked) (is ∙ sym (append-nil (ticks n (own_line w))))
+      ∙ spent-ticks old.spent n (own_line w) [] ∙ ap (λ (s : Sight). record { way = None; cost = s.spent.cost; looked = s.spent.looked }) (sym spent),
+)
 
 -- a part that is left out at a place, and what is seen behind it
 pub left-out-seen : (marks : List Mark) (f : Way → List Mark) (w : Way) (n : ℕ) (old mid new : Sight) (saw : Saw) → IsVain marks w (LeftOut n) → mid ≡ record old { spent = spent_times old.spent n (own_line w) } →
-    ((v : Way) → v.at ≡ w.at → IsSeen (f v) mid new saw) → IsSeen (followed marks f) old new saw
+    IsSeen w (f w) mid new saw → IsSeen w (followed marks f) old new saw
 left-out-seen marks f w n old mid new saw is spent h =
-    let v : Way = is.0 in
-    seen_behind (followed marks f) (f v) old mid mid new saw refl
-    (ap (answer_from old.spent.cost old.spent.looked) (behind-left-out (own_line w) v marks f n is.1.1) ∙ spent-ticks old.spent n (own_line w) (f v)
-    ∙ ap (λ s. answer_from s.spent.cost s.spent.looked (f v)) (sym spent)) (h v is.1.0)
+    seen_behind w (followed marks f) (f w) old mid mid new saw refl (ap (λ (s : Sight). s.notes.items) spent)
+    (ap (answer_from old.spent.cost old.spent.looked) (behind-left-out (own_line w) w marks f n is) ∙ spent-ticks old.spent n (own_line w) (f w)
+    ∙ ap (λ (s : Sight). answer_from s.spent.cost s.spent.looked (f w)) (sym spent)) h

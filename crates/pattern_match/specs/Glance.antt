@@ -1,11 +1,11 @@
 -- A short look: what a node and what follows it come to, told up to the first way.
-use Rattle.std.specs.Prelude.{◌≡◌, ◌≤◌, ◌<◌, ◌+◌, ◌++◌, ℕ, zero, suc, length, Bool, true, false, List, [], ◌∷◌, Option, Some, None}
+use Rattle.std.specs.Prelude.{◌≡◌, ◌≤◌, ◌<◌, ◌+◌, ◌++◌, ℕ, zero, suc, length, Bool, true, false, List, [], ◌∷◌, Option, Some, None, IfSome}
 use Rattle.syn_base.specs.declared.places.Place.{Place}
 use Rattle.vim_pattern.specs.Shape.{one}
 use Rattle.match_rules.specs.Ways.{Context, Text, Way, IsPlaceOf, line_at}
 use Rattle.pattern_items.specs.declared.atom.Atom.{Atom}
-use Rattle.pattern_items.specs.declared.atom.Atom.TheVariants.{Ref, ExternalRef}
-use Rattle.match_rules.specs.Atoms.{fits, lines_looked}
+use Rattle.pattern_items.specs.declared.atom.Atom.TheVariants.{MatchStart, MatchStop, Ref, ExternalRef}
+use Rattle.match_rules.specs.Atoms.{fits, lines_looked, own_line}
 use Rattle.match_rules.specs.Marks.{Mark, Tick, Reach, followed}
 use Rattle.match_rules.specs.Counts.{after_turn, turns}
 use Rattle.match_rules.specs.Looks.{ending_at}
@@ -21,7 +21,8 @@ use Rattle.pattern_match.specs.declared.task.Turns.{Turns}
 use Rattle.pattern_match.specs.Spending.{spent_on}
 use Rattle.pattern_match.specs.Runs.{AreAllowed, IsRun}
 use Rattle.pattern_match.specs.Steps.{shape_of}
-use Rattle.pattern_match.specs.Ways.{columns_on}
+use Rattle.pattern_match.specs.Ways.{columns_on, way_noted, with_note}
+use Rattle.pattern_match.specs.declared.ways.Note.{Note}
 
 -- the turns of a count that are left, and those behind one that began at a place
 abbrev pub turns_of : Context → Turns → Way → List Mark
@@ -65,18 +66,27 @@ marks_behind x (rest.Close' number from p r) w =
 marks_behind x (rest.CloseExternal' number from p r) w =
     followed (noted_external number from w) (marks_behind x r)
 
--- these marks come to a first way, which stands at a place, or to none
-abbrev pub ComesTo : List Mark → Spent → Spent → Option Place → Type 0
-ComesTo marks old new (Some p) = (v : Way) × ((answer_from old.cost old.looked marks
-    ≡ record { way = Some v; cost = new.cost; looked = new.looked }) × (v.at ≡ p))
-ComesTo marks old new None = answer_from old.cost old.looked marks
-    ≡ record { way = None; cost = new.cost; looked = new.looked }
+-- these marks come to a first way, or to none
+abbrev pub ComesTo : List Mark → Spent → Spent → Option Way → Type 0
+ComesTo marks old new way =
+    answer_from old.cost old.looked marks ≡ record { way = way; cost = new.cost; looked = new.looked }
 
--- that was seen, if it was
-abbrev pub IsSeen : List Mark → Sight → Sight → Saw → Type 0
-IsSeen marks old new Reached = ComesTo marks old.spent new.spent (Some new.at)
-IsSeen marks old new InVain = ComesTo marks old.spent new.spent None
-IsSeen marks old new TooFar = Unit {0}
+-- that was seen of the marks of a way, if it was: the first way is that one with the notes that were
+-- taken, at the place of the look
+abbrev pub IsSeen : Way → List Mark → Sight → Sight → Saw → Type 0
+IsSeen w marks old new Reached =
+    (notes : List Note) × ((new.notes.items ≡ old.notes.items ++ notes)
+    × ComesTo marks old.spent new.spent (Some (way_noted w notes new.at)))
+IsSeen w marks old new InVain =
+    (new.notes.items ≡ old.notes.items) × ComesTo marks old.spent new.spent None
+IsSeen w marks old new TooFar = Unit {0}
+
+-- the same of a look that had taken no note
+abbrev pub IsFirst : Way → List Mark → Spent → Sight → Saw → Type 0
+IsFirst w marks old new Reached =
+    ComesTo marks old new.spent (Some (way_noted w new.notes.items new.at))
+IsFirst w marks old new InVain = ComesTo marks old new.spent None
+IsFirst w marks old new TooFar = Unit {0}
 
 -- an atom that asks for the text of a group
 abbrev pub asks_for_group : Atom → Bool
@@ -84,16 +94,30 @@ asks_for_group (Ref number) = true
 asks_for_group (ExternalRef number) = true
 asks_for_group _ = false
 
--- an atom was tried, and leads to this place, if to one
+-- an atom that notes its place
+abbrev pub notes_place : Atom → Bool
+notes_place MatchStart = true
+notes_place MatchStop = true
+notes_place _ = false
+
+-- at a place such an atom takes this note
+abbrev pub IsNoteOf : Atom → Place → Note → Type 0
+IsNoteOf a p note =
+    (x : Context) (w : Way) → w.at ≡ p →
+    visits x (one a) w ≡ Tick (own_line w) ∷ Reach (with_note w note) ∷ []
+
+-- an atom that notes nothing was tried, and leads to this place, if to one
 pub record IsTried (x : Context) (a : Atom) (w : Way) (old new : Sight) (place : Option Place)
     : Type 0 where
   pub place_is : fits x w a ≡ place
   pub spent : new.spent ≡ spent_on old.spent (Tick (lines_looked x w a) ∷ [])
+  pub notes : new.notes.items ≡ old.notes.items
+  pub plain : IfSome place (λ p. notes_place a ≡ false)
 
 abbrev pub IsAtomSeen : Context → Atom → Way → Sight → Sight → Saw → Type 0
 IsAtomSeen x a w old new Reached = IsTried x a w old new (Some new.at)
 IsAtomSeen x a w old new InVain = IsTried x a w old new None
-IsAtomSeen x a w old new TooFar = Unit {0}
+IsAtomSeen x a w old new TooFar = new ≡ old
 
 -- a short look stands on the text, within its budget
 pub record Stands (text : Text) (s : Sight) : Type 0 where

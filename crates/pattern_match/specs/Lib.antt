@@ -12,7 +12,6 @@ pub mod Takes
 pub mod Entries
 pub mod Ways
 pub mod Machine
-pub mod Noteless
 pub mod Spending
 pub mod Heights
 pub mod Search

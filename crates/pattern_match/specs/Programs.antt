@@ -3,7 +3,6 @@ use Rattle.std.specs.Prelude.{◌≡◌}
 use Rattle.vim_pattern.specs.GroupNumbers.{HasNumbers}
 use Rattle.pattern_screens.specs.FirstAtoms.{first_cost}
 use Rattle.pattern_match.specs.declared.programs.Program.{Program}
-use Rattle.pattern_match.specs.Noteless.{is_noteless}
 use Rattle.pattern_match.specs.StandsFor.{StandsFor}
 use Rattle.pattern_match.specs.Steps.{shape_of}
 
@@ -11,4 +10,3 @@ pub record IsReady (program : Program) : Type 0 where
   pub numbers : HasNumbers program.tree.node
   pub stands : StandsFor (shape_of program.step) program.tree.node
   pub screen : program.screen_cost ≡ first_cost program.tree.node
-  pub plain : program.plain ≡ is_noteless program.tree.node

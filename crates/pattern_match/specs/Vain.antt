@@ -13,17 +13,19 @@ use Rattle.pattern_match.specs.declared.context.Context.{Context as ContextOf}
 use Rattle.pattern_match.specs.declared.standing.Standing.TheVariants.{Character}
 use Rattle.pattern_match.specs.declared.spent.Spent.{Spent}
 use Rattle.pattern_match.specs.declared.vain.Vain.{Vain}
-use Rattle.pattern_match.specs.declared.vain.Vain.TheVariants.{Refused, LeftOut, Unsure}
+use Rattle.pattern_match.specs.declared.vain.Vain.TheVariants.{Refused, LeftOut, Noted, Unsure}
 
 -- so many ticks that looked at the same lines
 abbrev pub ticks : ℕ → Looked → List Mark
 ticks zero looked = []
 ticks (suc count) looked = Tick looked ∷ ticks count looked
 
--- what a way tries and reaches is so many atoms that look at its own line, and no way, or one at its place
+-- what a way tries and reaches is so many atoms that look at its own line, and no way, or itself, or one
+-- at its place
 abbrev pub IsVain : List Mark → Way → Vain → Type 0
 IsVain marks w (Refused count) = marks ≡ ticks count (own_line w)
-IsVain marks w (LeftOut count) =
+IsVain marks w (LeftOut count) = marks ≡ ticks count (own_line w) ++ Reach w ∷ []
+IsVain marks w (Noted count) =
     (v : Way) × ((v.at ≡ w.at) × (marks ≡ ticks count (own_line w) ++ Reach v ∷ []))
 IsVain marks w Unsure = Unit {0}
 

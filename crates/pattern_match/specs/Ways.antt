@@ -66,6 +66,15 @@ with_note w (External number from to) = record w {
 with_note w (Start p) = record w { start = Some p }
 with_note w (Stop p) = record w { stop = Some p }
 
+-- the way with these notes, the last one first
+abbrev pub with_all : List Note → Way → Way
+with_all [] w = w
+with_all (note ∷ earlier) w = with_note (with_all earlier w) note
+
+-- the same, at the place to which it has come
+abbrev pub way_noted : Way → List Note → Place → Way
+way_noted w notes p = record (with_all notes w) { at = p }
+
 -- the way that notes make, the last one first, but for its place
 abbrev pub with_notes : List Noted → Way
 with_notes [] = way_from (place 0 0)

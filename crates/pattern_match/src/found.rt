@@ -2,12 +2,12 @@
 ghost use Rattle.std.specs.Prelude.{◌≡◌, List, map, replicate, None, IfOk, IsTrue};
 ghost use Rattle.match_rules.specs.Ways.{Text, Capture, way_from};
 ghost use Rattle.match_rules.specs.Attempt.{not_before, external_of, externals_of};
-ghost use Rattle.pattern_match.specs.Ways.{found_way};
+ghost use Rattle.pattern_match.specs.Ways.{found_way, way_noted};
 ghost use Rattle.pattern_match.specs.Answers.{match_of};
 
 use crate::answer::{Caps, GROUPS, Match};
 use crate::walks::part_of_line;
-use crate::ways::{FoundWay, Ways};
+use crate::ways::{FoundWay, Note, Ways, way_with};
 use std::alloc::Global;
 use syn_base::{Externals, Lines, List, Memory, Place};
 
@@ -24,6 +24,24 @@ pub(crate) fn found_match<T: Lines, I: Copy>(
         plain_match(alloc, start, ways.place())
     } else {
         noted_match(alloc, lines, start, &ways.way())
+    }
+}
+
+/// The match of a way that was seen from a start, with what was noted on it, the last note first.
+pub(crate) fn seen_match<T: Lines>(
+    alloc: Global,
+    lines: &T,
+    start: Place,
+    at: Place,
+    notes: &[Note],
+) -> Result<Match, Memory>
+    ensures { IfOk result (λ found. found ≡ match_of (T.lines lines.now) start
+        (way_noted (way_from start) notes.now at)) }
+{
+    if notes.is_empty() {
+        plain_match(alloc, start, at)
+    } else {
+        noted_match(alloc, lines, start, &way_with(at, notes))
     }
 }
 

@@ -1,6 +1,6 @@
 //! A short look from a place: where a node and what follows it lead is told with no list of ways, as
 //! long as few nodes are visited.
-ghost use Rattle.std.specs.Prelude.{◌≡◌, ◌≤◌, ◌+◌, ◌<◌, ◌^◌, None, IfSome, IsTrue, IsFalse, false, length, true};
+ghost use Rattle.std.specs.Prelude.{◌≡◌, List, [], ◌++◌, ◌≤◌, ◌+◌, ◌<◌, ◌^◌, None, IfSome, IsTrue, IsFalse, false, length, true};
 ghost use Rattle.match_rules.specs.Attempt.{answer_from};
 ghost use Rattle.match_rules.specs.Counts.{is_spent};
 ghost use Rattle.match_rules.specs.Marks.{followed};
@@ -8,11 +8,12 @@ ghost use Rattle.match_rules.specs.Visits.{visits};
 ghost use Rattle.match_rules.specs.Ways.{IsPlaceOf, Way, line_at};
 ghost use Rattle.pattern_match.specs.Beyond.{IsKept};
 ghost use Rattle.pattern_match.specs.Contexts.{context_in};
-ghost use Rattle.pattern_match.specs.Glance.{ComesTo, GoesOn, IsSeen, Stands, marks_behind, stops_of, turn_of, turns_behind, turns_of};
+ghost use Rattle.pattern_match.specs.Glance.{GoesOn, IsFirst, IsSeen, Stands, marks_behind, stops_of, turn_of, turns_behind, turns_of};
+ghost use Rattle.pattern_match.specs.declared.sight.Sight.{Sight as AnySight};
 ghost use Rattle.pattern_match.specs.Others.{AreOthers};
 ghost use Rattle.pattern_match.specs.Search.{wanted_marks};
 ghost use Rattle.pattern_match.specs.Steps.{atom_of, shape_of};
-ghost use Rattle.pattern_match.specs.Ways.{columns_on};
+ghost use Rattle.pattern_match.specs.Ways.{columns_on, with_all, with_note};
 ghost use Rattle.vim_pattern.specs.Shape.{ahead, empty, one, or, seq};
 
 use crate::beyond::{Refusal, vain_beyond};
@@ -20,14 +21,17 @@ use crate::context::Context;
 use crate::others::{Others, other_refuses};
 use crate::runs::less_by;
 use crate::sight::{
-    Rest, Saw, Sight, columns_on, go_further, look_at_atom, try_in_vain, turns_at_once,
+    Rest, Saw, Sight, columns_on, go_further, look_at_atom, note_of, take_note, try_in_vain,
+    turns_at_once,
 };
 use crate::spent::Spent;
 use crate::step::{Step, Test};
 use crate::task::Turns;
 use crate::turns::{is_after, next_turns, one_less};
 use crate::vain::{Vain, is_refused, vain_at};
+use crate::ways::Note;
 use pattern_screens::is_spent;
+use std::alloc::Global;
 use syn_base::{Lines, Place};
 
 /// How many nodes a short look visits.
@@ -36,6 +40,7 @@ const NODES: u32 = 1000;
 /// Whether a short look tells that a node has no way from a place that ends where one is wanted, if at
 /// one place. Then its ticks are spent.
 pub(crate) fn is_in_vain<T: Lines>(
+    alloc: Global,
     lines: &T,
     context: &Context<'_>,
     step: &Step,
@@ -62,11 +67,8 @@ pub(crate) fn is_in_vain<T: Lines>(
     if is_refused(lines, context, step, start, spent) {
         return true;
     }
-    let mut sight = Sight {
-        at: start,
-        left: NODES,
-        spent: *spent,
-    };
+    let mut sight = Sight::new(alloc, start, *spent);
+    sight.left = NODES;
     let rest = match wanted {
         None => Rest::End,
         Some(place) => Rest::EndAt(place),
@@ -80,40 +82,27 @@ pub(crate) fn is_in_vain<T: Lines>(
     }
 }
 
-/// What a short look tells of a node from a place: where its first way stands, or that it has none;
-/// nothing, where it doesn't see that. The ticks up to there are spent.
+/// A short look at a node from a place. Where it has seen the first way, it stands there, with what that
+/// way noted.
 pub(crate) fn first_way<T: Lines>(
     lines: &T,
     context: &Context<'_>,
     step: &Step,
     start: Place,
-    spent: &mut Spent,
-) -> Option<Option<Place>>
+    budget: u64,
+    sight: &mut Sight,
+) -> Saw
     requires on_text { IsPlaceOf (T.lines lines.now) start }
-    requires within { spent.old.cost ≤ spent.old.budget }
-    ensures seen { IfSome result (λ found. (w : Way) → w.at ≡ start →
-        ComesTo (visits (context_in (T.lines lines.now) context.now) (shape_of step.now) w)
-        spent.old spent.new found) }
-    ensures budget { spent.new.budget ≡ spent.old.budget }
-    ensures within { spent.new.cost ≤ spent.new.budget }
+    ensures seen { (w : Way) → w.at ≡ start →
+        IsFirst w (visits (context_in (T.lines lines.now) context.now) (shape_of step.now) w)
+        (record { cost = 0; budget = budget; looked = None }) sight.new result }
+    ensures within { sight.new.spent.cost ≤ budget }
 {
-    let mut sight = Sight {
-        at: start,
-        left: NODES,
-        spent: *spent,
-    };
-    let saw = look_at(lines, context, step, &Rest::End, &mut sight);
-    match saw {
-        Saw::Reached => {
-            *spent = sight.spent;
-            Some(Some(sight.at))
-        }
-        Saw::InVain => {
-            *spent = sight.spent;
-            Some(None)
-        }
-        Saw::TooFar => None,
-    }
+    sight.at = start;
+    sight.left = NODES;
+    sight.spent = Spent::nothing(budget);
+    sight.notes.clear();
+    look_at(lines, context, step, &Rest::End, sight)
 }
 
 /// A short look at a node and what follows it.
@@ -128,7 +117,7 @@ fn look_at<T: Lines>(
     requires { Stands (T.lines lines.now) sight.old }
     ensures seen { (w : Way) → w.at ≡ sight.old.at →
         let x = context_in (T.lines lines.now) context.now in
-        IsSeen (followed (visits x (shape_of step.now) w) (marks_behind x rest.now))
+        IsSeen w (followed (visits x (shape_of step.now) w) (marks_behind x rest.now))
         sight.old sight.new result }
     ensures goes { GoesOn (T.lines lines.now) sight.old sight.new }
 {
@@ -159,7 +148,7 @@ fn look_at_other<T: Lines>(
     requires { Stands (T.lines lines.now) sight.old }
     ensures seen { (w : Way) → w.at ≡ sight.old.at →
         let x = context_in (T.lines lines.now) context.now in
-        IsSeen (followed (visits x (shape_of step.now) w) (marks_behind x rest.now))
+        IsSeen w (followed (visits x (shape_of step.now) w) (marks_behind x rest.now))
         sight.old sight.new result }
     ensures goes { GoesOn (T.lines lines.now) sight.old sight.new }
 {
@@ -199,14 +188,41 @@ fn look_at_one<T: Lines>(
     requires { Stands (T.lines lines.now) sight.old }
     ensures seen { (w : Way) → w.at ≡ sight.old.at →
         let x = context_in (T.lines lines.now) context.now in
-        IsSeen (followed (visits x (one (atom_of test.now)) w) (marks_behind x rest.now))
+        IsSeen w (followed (visits x (one (atom_of test.now)) w) (marks_behind x rest.now))
         sight.old sight.new result }
     ensures goes { GoesOn (T.lines lines.now) sight.old sight.new }
 {
     match look_at_atom(lines, context, test, sight) {
         Saw::Reached => go_on(lines, context, rest, sight),
-        saw => saw,
+        Saw::InVain => Saw::InVain,
+        Saw::TooFar => look_at_noting(lines, context, test, rest, sight),
     }
+}
+
+/// The same, of an atom that notes its place. Of any other it tells nothing.
+#[cycle(look)]
+#[inline(never)]
+fn look_at_noting<T: Lines>(
+    lines: &T,
+    context: &Context<'_>,
+    test: &Test,
+    rest: &Rest<'_>,
+    sight: &mut Sight,
+) -> Saw
+    requires { Stands (T.lines lines.now) sight.old }
+    ensures seen { (w : Way) → w.at ≡ sight.old.at →
+        let x = context_in (T.lines lines.now) context.now in
+        IsSeen w (followed (visits x (one (atom_of test.now)) w) (marks_behind x rest.now))
+        sight.old sight.new result }
+    ensures goes { GoesOn (T.lines lines.now) sight.old sight.new }
+{
+    let Some(note) = note_of(test, sight.at) else {
+        return Saw::TooFar;
+    };
+    if !try_in_vain(lines, 1, sight) {
+        return Saw::TooFar;
+    }
+    go_on_noting(lines, context, note, rest, sight)
 }
 
 /// A short look at two parts, the one behind the other.
@@ -222,7 +238,7 @@ fn look_at_both<T: Lines>(
     requires { Stands (T.lines lines.now) sight.old }
     ensures seen { (w : Way) → w.at ≡ sight.old.at →
         let x = context_in (T.lines lines.now) context.now in
-        IsSeen (followed (visits x (seq (shape_of first.now) (shape_of second.now)) w)
+        IsSeen w (followed (visits x (seq (shape_of first.now) (shape_of second.now)) w)
         (marks_behind x rest.now))
         sight.old sight.new result }
     ensures goes { GoesOn (T.lines lines.now) sight.old sight.new }
@@ -230,10 +246,34 @@ fn look_at_both<T: Lines>(
     match first {
         Step::One(test) => match look_at_atom(lines, context, test, sight) {
             Saw::Reached => look_at(lines, context, second, rest, sight),
-            saw => saw,
+            Saw::InVain => Saw::InVain,
+            Saw::TooFar => look_at_noting_first(lines, context, test, second, rest, sight),
         },
         first => look_at_first(lines, context, first, second, rest, sight),
     }
+}
+
+/// The same, where the first part is an atom that notes its place. Of any other it tells nothing.
+#[cycle(look)]
+#[inline(never)]
+fn look_at_noting_first<T: Lines>(
+    lines: &T,
+    context: &Context<'_>,
+    test: &Test,
+    second: &Step,
+    rest: &Rest<'_>,
+    sight: &mut Sight,
+) -> Saw
+    requires { Stands (T.lines lines.now) sight.old }
+    ensures seen { (w : Way) → w.at ≡ sight.old.at →
+        let x = context_in (T.lines lines.now) context.now in
+        IsSeen w (followed (visits x (seq (one (atom_of test.now)) (shape_of second.now)) w)
+        (marks_behind x rest.now))
+        sight.old sight.new result }
+    ensures goes { GoesOn (T.lines lines.now) sight.old sight.new }
+{
+    let rest = Rest::Then(&*second, &*rest);
+    look_at_noting(lines, context, test, &rest, sight)
 }
 
 /// The same, where the first part is no atom.
@@ -250,7 +290,7 @@ fn look_at_first<T: Lines>(
     requires { Stands (T.lines lines.now) sight.old }
     ensures seen { (w : Way) → w.at ≡ sight.old.at →
         let x = context_in (T.lines lines.now) context.now in
-        IsSeen (followed (visits x (seq (shape_of first.now) (shape_of second.now)) w)
+        IsSeen w (followed (visits x (seq (shape_of first.now) (shape_of second.now)) w)
         (marks_behind x rest.now))
         sight.old sight.new result }
     ensures goes { GoesOn (T.lines lines.now) sight.old sight.new }
@@ -270,7 +310,7 @@ fn look_at_first<T: Lines>(
                 Saw::TooFar
             };
         }
-        Vain::Unsure => {}
+        Vain::Noted(_) | Vain::Unsure => {}
     }
     let rest = Rest::Then(&*second, &*rest);
     look_at(lines, context, first, &rest, sight)
@@ -288,7 +328,7 @@ fn look_at_branch<T: Lines>(
     requires { Stands (T.lines lines.now) sight.old }
     ensures seen { (w : Way) → w.at ≡ sight.old.at →
         let x = context_in (T.lines lines.now) context.now in
-        IsSeen (followed (visits x (shape_of step.now) w) (marks_behind x rest.now))
+        IsSeen w (followed (visits x (shape_of step.now) w) (marks_behind x rest.now))
         sight.old sight.new result }
     ensures goes { GoesOn (T.lines lines.now) sight.old sight.new }
 {
@@ -311,7 +351,7 @@ fn look_at_either<T: Lines>(
     requires { Stands (T.lines lines.now) sight.old }
     ensures seen { (w : Way) → w.at ≡ sight.old.at →
         let x = context_in (T.lines lines.now) context.now in
-        IsSeen (followed (visits x (or (shape_of first.now) (shape_of second.now)) w)
+        IsSeen w (followed (visits x (or (shape_of first.now) (shape_of second.now)) w)
         (marks_behind x rest.now))
         sight.old sight.new result }
     ensures goes { GoesOn (T.lines lines.now) sight.old sight.new }
@@ -338,7 +378,7 @@ fn look_at_optional<T: Lines>(
     requires { Stands (T.lines lines.now) sight.old }
     ensures seen { (w : Way) → w.at ≡ sight.old.at →
         let x = context_in (T.lines lines.now) context.now in
-        IsSeen (followed (visits x (or (shape_of part.now) empty) w) (marks_behind x rest.now))
+        IsSeen w (followed (visits x (or (shape_of part.now) empty) w) (marks_behind x rest.now))
         sight.old sight.new result }
     ensures goes { GoesOn (T.lines lines.now) sight.old sight.new }
 {
@@ -358,7 +398,7 @@ fn go_on<T: Lines>(lines: &T, context: &Context<'_>, rest: &Rest<'_>, sight: &mu
     requires { Stands (T.lines lines.now) sight.old }
     ensures seen { (w : Way) → w.at ≡ sight.old.at →
         let x = context_in (T.lines lines.now) context.now in
-        IsSeen (marks_behind x rest.now w)
+        IsSeen w (marks_behind x rest.now w)
         sight.old sight.new result }
     ensures goes { GoesOn (T.lines lines.now) sight.old sight.new }
 {
@@ -377,8 +417,43 @@ fn go_on<T: Lines>(lines: &T, context: &Context<'_>, rest: &Rest<'_>, sight: &mu
         Rest::AfterTurn(turns, from, others) => {
             look_after_turn(lines, context, turns, from, others, sight)
         }
-        Rest::Close(_, _, others) => go_on(lines, context, others, sight),
-        Rest::CloseExternal(_, _, others) => go_on(lines, context, others, sight),
+        Rest::Close(number, from, others) => {
+            let to = sight.at;
+            let note = Note::Captured { number, from, to };
+            go_on_noting(lines, context, note, others, sight)
+        }
+        Rest::CloseExternal(number, from, others) => {
+            let to = sight.at;
+            let note = Note::External { number, from, to };
+            go_on_noting(lines, context, note, others, sight)
+        }
+    }
+}
+
+/// Goes on with what follows on a way that takes a note here.
+#[cycle(look)]
+#[inline(never)]
+fn go_on_noting<T: Lines>(
+    lines: &T,
+    context: &Context<'_>,
+    note: Note,
+    rest: &Rest<'_>,
+    sight: &mut Sight,
+) -> Saw
+    requires { Stands (T.lines lines.now) sight.old }
+    ensures seen { (w : Way) → w.at ≡ sight.old.at →
+        let x = context_in (T.lines lines.now) context.now in
+        IsSeen w (marks_behind x rest.now (with_note w note))
+        sight.old sight.new result }
+    ensures goes { GoesOn (T.lines lines.now) sight.old sight.new }
+{
+    match go_on(lines, context, rest, sight) {
+        Saw::Reached => if take_note(note, sight) {
+            Saw::Reached
+        } else {
+            Saw::TooFar
+        },
+        saw => saw,
     }
 }
 
@@ -395,7 +470,7 @@ fn go_on_beyond<T: Lines>(
     requires kept { IsKept context.now rest.now kept.old }
     ensures seen { (w : Way) → w.at ≡ sight.old.at →
         let x = context_in (T.lines lines.now) context.now in
-        IsSeen (marks_behind x rest.now w)
+        IsSeen w (marks_behind x rest.now w)
         sight.old sight.new result }
     ensures goes { GoesOn (T.lines lines.now) sight.old sight.new }
     ensures kept { IsKept context.now rest.now kept.new }
@@ -423,7 +498,7 @@ fn look_after_turn<T: Lines>(
     requires { Stands (T.lines lines.now) sight.old }
     ensures seen { (w : Way) → w.at ≡ sight.old.at →
         let x = context_in (T.lines lines.now) context.now in
-        IsSeen (followed (turns_behind x turns.now from w) (marks_behind x rest.now))
+        IsSeen w (followed (turns_behind x turns.now from w) (marks_behind x rest.now))
         sight.old sight.new result }
     ensures goes { GoesOn (T.lines lines.now) sight.old sight.new }
 {
@@ -449,7 +524,7 @@ fn look_at_count<T: Lines>(
     requires { Stands (T.lines lines.now) sight.old }
     ensures seen { (w : Way) → w.at ≡ sight.old.at →
         let x = context_in (T.lines lines.now) context.now in
-        IsSeen (followed (turns_of x turns.now w) (marks_behind x rest.now))
+        IsSeen w (followed (turns_of x turns.now w) (marks_behind x rest.now))
         sight.old sight.new result }
     ensures goes { GoesOn (T.lines lines.now) sight.old sight.new }
 {
@@ -481,7 +556,7 @@ fn look_at_greedy<T: Lines>(
     requires greedy { turns.now.lazy ≡ false }
     ensures seen { (w : Way) → w.at ≡ sight.old.at →
         let x = context_in (T.lines lines.now) context.now in
-        IsSeen (followed (turns_of x turns.now w) (marks_behind x rest.now))
+        IsSeen w (followed (turns_of x turns.now w) (marks_behind x rest.now))
         sight.old sight.new result }
     ensures goes { GoesOn (T.lines lines.now) sight.old sight.new }
 {
@@ -515,7 +590,7 @@ fn look_at_more<T: Lines>(
     requires greedy { turns.now.lazy ≡ false }
     ensures seen { (w : Way) → w.at ≡ sight.old.at →
         let x = context_in (T.lines lines.now) context.now in
-        IsSeen (followed (turns_of x turns.now w) (marks_behind x rest.now))
+        IsSeen w (followed (turns_of x turns.now w) (marks_behind x rest.now))
         sight.old sight.new result }
     ensures goes { GoesOn (T.lines lines.now) sight.old sight.new }
 {
@@ -549,7 +624,7 @@ fn look_at_stops<T: Lines>(
     requires fits { from.col + count < 2 ^ 64 }
     ensures seen { (w : Way) → w.at ≡ from →
         let x = context_in (T.lines lines.now) context.now in
-        IsSeen (stops_of (marks_behind x rest.now) w count) sight.old sight.new result }
+        IsSeen w (stops_of (marks_behind x rest.now) w count) sight.old sight.new result }
     ensures goes { GoesOn (T.lines lines.now) sight.old sight.new }
 {
     let mut left = count;
@@ -580,7 +655,7 @@ fn look_at_lazy<T: Lines>(
     requires lazy { turns.now.lazy ≡ true }
     ensures seen { (w : Way) → w.at ≡ sight.old.at →
         let x = context_in (T.lines lines.now) context.now in
-        IsSeen (followed (turns_of x turns.now w) (marks_behind x rest.now))
+        IsSeen w (followed (turns_of x turns.now w) (marks_behind x rest.now))
         sight.old sight.new result }
     ensures goes { GoesOn (T.lines lines.now) sight.old sight.new }
 {
@@ -613,7 +688,7 @@ fn look_at_lazy_atoms<T: Lines>(
     requires lazy { turns.now.lazy ≡ true }
     ensures seen { (w : Way) → w.at ≡ sight.old.at →
         let x = context_in (T.lines lines.now) context.now in
-        IsSeen (followed (turns_of x turns.now w) (marks_behind x rest.now))
+        IsSeen w (followed (turns_of x turns.now w) (marks_behind x rest.now))
         sight.old sight.new result }
     ensures goes { GoesOn (T.lines lines.now) sight.old sight.new }
 {
@@ -653,7 +728,7 @@ fn look_at_turn<T: Lines>(
     requires { Stands (T.lines lines.now) sight.old }
     ensures seen { (w : Way) → w.at ≡ sight.old.at →
         let x = context_in (T.lines lines.now) context.now in
-        IsSeen (followed (turn_of x turns.now w) (marks_behind x rest.now))
+        IsSeen w (followed (turn_of x turns.now w) (marks_behind x rest.now))
         sight.old sight.new result }
     ensures goes { GoesOn (T.lines lines.now) sight.old sight.new }
 {
@@ -685,17 +760,19 @@ fn look_ahead<T: Lines>(
     requires { Stands (T.lines lines.now) sight.old }
     ensures seen { (w : Way) → w.at ≡ sight.old.at →
         let x = context_in (T.lines lines.now) context.now in
-        IsSeen (followed (visits x (ahead (shape_of part.now) not) w) (marks_behind x rest.now))
+        IsSeen w (followed (visits x (ahead (shape_of part.now) not) w) (marks_behind x rest.now))
         sight.old sight.new result }
     ensures goes { GoesOn (T.lines lines.now) sight.old sight.new }
 {
     let from = sight.at;
+    let before = sight.notes.len();
     match look_at(lines, context, part, &Rest::End, sight) {
         Saw::Reached => if not {
+            sight.notes.truncate(before);
             Saw::InVain
         } else {
             sight.at = from;
-            go_on(lines, context, rest, sight)
+            go_on_behind(lines, context, rest, before, sight)
         },
         Saw::InVain => if not {
             sight.at = from;
@@ -703,6 +780,62 @@ fn look_ahead<T: Lines>(
         } else {
             Saw::InVain
         },
+        Saw::TooFar => Saw::TooFar,
+    }
+}
+
+/// Goes on behind a look, before which so many notes were taken.
+#[cycle(look)]
+fn go_on_behind<T: Lines>(
+    lines: &T,
+    context: &Context<'_>,
+    rest: &Rest<'_>,
+    before: usize,
+    sight: &mut Sight,
+) -> Saw
+    requires { Stands (T.lines lines.now) sight.old }
+    ensures seen { (base : AnySight) (w : Way) (inner : List Note) → w.at ≡ sight.old.at →
+        base.spent ≡ sight.old.spent → before ≡ length base.notes.items →
+        sight.old.notes.items ≡ base.notes.items ++ inner →
+        let x = context_in (T.lines lines.now) context.now in
+        IsSeen w (marks_behind x rest.now (with_all inner w)) base sight.new result }
+    ensures goes { GoesOn (T.lines lines.now) sight.old sight.new }
+{
+    if sight.notes.len() == before {
+        go_on(lines, context, rest, sight)
+    } else if before == 0 {
+        go_on_later(lines, context, rest, sight)
+    } else {
+        Saw::TooFar
+    }
+}
+
+/// Goes on with what follows on a way that has all notes so far, which come before those taken now.
+#[cycle(look)]
+#[inline(never)]
+fn go_on_later<T: Lines>(
+    lines: &T,
+    context: &Context<'_>,
+    rest: &Rest<'_>,
+    sight: &mut Sight,
+) -> Saw
+    requires { Stands (T.lines lines.now) sight.old }
+    ensures seen { (base : AnySight) (w : Way) → w.at ≡ sight.old.at → base.spent ≡ sight.old.spent →
+        base.notes.items ≡ [] →
+        let x = context_in (T.lines lines.now) context.now in
+        IsSeen w (marks_behind x rest.now (with_all sight.old.notes.items w)) base sight.new result }
+    ensures goes { GoesOn (T.lines lines.now) sight.old sight.new }
+{
+    let noted = sight.notes.len();
+    match go_on(lines, context, rest, sight) {
+        Saw::Reached => {
+            sight.notes.rotate_left(noted);
+            Saw::Reached
+        }
+        Saw::InVain => {
+            sight.notes.clear();
+            Saw::InVain
+        }
         Saw::TooFar => Saw::TooFar,
     }
 }

@@ -19,7 +19,6 @@ mod found;
 mod glance;
 mod look;
 mod made;
-mod noteless;
 mod others;
 mod parts;
 mod programs;

@@ -8,23 +8,24 @@ ghost use Rattle.match_rules.specs.Visits.{visits};
 ghost use Rattle.match_rules.specs.Attempt.{answer_of};
 ghost use Rattle.pattern_screens.specs.FirstAtoms.{first_cost};
 ghost use Rattle.pattern_match.specs.Contexts.{context_in};
-ghost use Rattle.pattern_match.specs.Noteless.{is_noteless};
 ghost use Rattle.pattern_match.specs.Programs.{IsReady};
 ghost use Rattle.pattern_match.specs.Screens.{IsVainAt, passes_at};
 ghost use Rattle.pattern_match.specs.StandsFor.{StandsFor};
 ghost use Rattle.pattern_match.specs.Steps.{shape_of};
-ghost use Rattle.pattern_match.specs.Answers.{answered, lines_or_start, IsAttempt};
+ghost use Rattle.pattern_match.specs.Answers.{answered, lines_or_start, match_of, IsAttempt};
+ghost use Rattle.pattern_match.specs.Ways.{way_noted};
+ghost use Rattle.pattern_match.specs.declared.answer.Attempt.TheVariants.{Found};
 ghost use Rattle.pattern_match.specs.OnText.{AnswersStayOnText};
 
 use crate::answer::Attempt;
 use crate::context::Context;
-use crate::found::{found_match, plain_match};
+use crate::found::{found_match, seen_match};
 use crate::glance::first_way;
-use crate::noteless::is_noteless;
 use crate::parts::fails_at_once;
 use crate::ready::ready;
 use crate::screens::some_first_fits;
 use crate::search::{Sought, search};
+use crate::sight::{Saw, Sight};
 use crate::spent::Spent;
 use crate::step::Step;
 use crate::task::Task;
@@ -42,8 +43,6 @@ struct Program {
     tree: Tree,
     step: Step,
     screen_cost: u64,
-    /// Its ways note nothing, so a place tells all of one.
-    plain: bool,
 }
 
 impl Program {
@@ -55,13 +54,11 @@ impl Program {
     {
         let step = ready(alloc, &tree.node)?;
         let screen_cost = screen_cost(tree)?;
-        let plain = is_noteless(&tree.node);
         let tree = tree.copy(alloc)?;
         Ok(Program {
             tree,
             step,
             screen_cost,
-            plain,
         })
     }
 
@@ -78,20 +75,19 @@ impl Program {
         requires place { IsPlaceOf (T.lines lines.now) start }
         requires numbers { HasNumbers self.now.tree.node }
         requires stands { StandsFor (shape_of self.now.step) self.now.tree.node }
-        requires plain { self.now.plain ≡ is_noteless self.now.tree.node }
         requires budget { 1 ≤ budget }
         ensures { let x = context_in (T.lines lines.now) context.now in
             IfOk result (λ told. told ≡ answered budget (T.lines lines.now) start
             (answer_of (visits x self.now.tree.node (way_from start)))) }
     {
-        let mut spent = Spent::nothing(budget);
-        match first_way(lines, context, &self.step, start, &mut spent) {
-            Some(None) => Ok(Attempt::Absent(looked_or_start(lines, spent.looked, start))),
-            Some(Some(at)) if self.plain => {
-                let looked = looked_or_start(lines, spent.looked, start);
-                Ok(Attempt::Found(plain_match(alloc, start, at)?, looked))
+        let sight = &mut scratch.sight;
+        match first_way(lines, context, &self.step, start, budget, sight) {
+            Saw::InVain => {
+                let looked = looked_or_start(lines, sight.spent.looked, start);
+                Ok(Attempt::Absent(looked))
             }
-            _ => searched(
+            Saw::Reached => seen(alloc, lines, start, sight),
+            Saw::TooFar => searched(
                 alloc,
                 &mut scratch.ways,
                 &self.step,
@@ -108,13 +104,16 @@ impl Program {
 #[derive(Drop)]
 pub struct Scratch<'p> {
     ways: Ways<Task<'p>>,
+    sight: Sight,
 }
 
 impl<'p> Scratch<'p> {
     /// No memory yet.
     pub fn new(alloc: Global) -> Scratch<'p> {
+        let nowhere = Place { line: 0, col: 0 };
         Scratch {
-            ways: Ways::new(alloc, Place { line: 0, col: 0 }),
+            ways: Ways::new(alloc, nowhere),
+            sight: Sight::new(alloc, nowhere, Spent::nothing(0)),
         }
     }
 }
@@ -258,7 +257,21 @@ pub fn answers_stay_on_the_text()
     ensures { (trees : List PatternTree) → AnswersStayOnText trees }
 {}
 
+/// What is answered where a short look from a place has seen the first way.
+#[inline(never)]
+fn seen<T: Lines>(alloc: Global, lines: &T, start: Place, sight: &Sight) -> Result<Attempt, Memory>
+    requires place { IsPlaceOf (T.lines lines.now) start }
+    ensures { IfOk result (λ told. told ≡ Found
+        (match_of (T.lines lines.now) start (way_noted (way_from start) sight.now.notes.items
+        sight.now.at)) (lines_or_start start sight.now.spent.looked)) }
+{
+    let looked = looked_or_start(lines, sight.spent.looked, start);
+    let found = seen_match(alloc, lines, start, sight.at, &sight.notes)?;
+    Ok(Attempt::Found(found, looked))
+}
+
 /// Tries a node at a place, way by way.
+#[inline(never)]
 fn searched<'p, T: Lines>(
     alloc: Global,
     ways: &mut Ways<Task<'p>>,

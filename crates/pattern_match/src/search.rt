@@ -335,10 +335,11 @@ fn search_behind<'p, T: Lines>(
         pending: ways.pending(),
     };
     ways.put_aside()?;
+    let alloc = ways.allocator();
     let others = others_of(part);
     let mut starts = Starts::new(at, limit);
     while let Some(start) = starts.next(lines) {
-        if is_in_vain(lines, context, part, others, start, Some(at), spent) {
+        if is_in_vain(alloc, lines, context, part, others, start, Some(at), spent) {
             continue;
         }
         ways.move_to(start);

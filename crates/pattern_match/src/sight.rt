@@ -1,9 +1,9 @@
 //! Where a short look stands: what it has told, what follows, and the steps of it that go no deeper.
-ghost use Rattle.std.specs.Prelude.{◌≡◌, ◌≤◌, ◌+◌, ◌<◌, ◌^◌, IsTrue, IsFalse, length, pos};
+ghost use Rattle.std.specs.Prelude.{◌≡◌, [], ◌∷◌, ◌++◌, IfSome, ◌≤◌, ◌+◌, ◌<◌, ◌^◌, IsTrue, IsFalse, length, pos};
 ghost use Rattle.syn_base.specs.Looked.{one_line};
 ghost use Rattle.match_rules.specs.Ways.{Way, line_at};
 ghost use Rattle.pattern_match.specs.Contexts.{context_in};
-ghost use Rattle.pattern_match.specs.Glance.{AreTaken, GoesOn, IsAtomSeen, Stands, asks_for_group};
+ghost use Rattle.pattern_match.specs.Glance.{AreTaken, GoesOn, IsAtomSeen, IsNoteOf, Stands, asks_for_group};
 ghost use Rattle.pattern_match.specs.Spending.{spent_times};
 ghost use Rattle.pattern_match.specs.Steps.{atom_of};
 ghost use Rattle.pattern_match.specs.Ways.{columns_on};
@@ -13,9 +13,11 @@ use crate::context::Context;
 use crate::runs::run_length;
 use crate::spent::Spent;
 use crate::standing::{Standing, standing_at};
-use crate::step::{Step, Test};
+use crate::step::{Step, Test, notes_place};
 use crate::task::Turns;
 use crate::told::{Fit, fit_of};
+use crate::ways::Note;
+use std::alloc::Global;
 use syn_base::{Lines, Looked, Place};
 
 /// What a short look has told of a node and what follows it.
@@ -46,12 +48,52 @@ pub(crate) enum Rest<'a> {
     CloseExternal(u8, Place, &'a Rest<'a>),
 }
 
-/// Where a short look stands, what it has spent, and how many nodes it may still visit.
-#[derive(Clone, Copy)]
+/// Where a short look stands, what it has spent, how many nodes it may still visit, and what the way that
+/// it has seen noted, the last note first. Notes are taken on the way back, so one in vain takes none.
+#[derive(Drop)]
 pub(crate) struct Sight {
     pub at: Place,
     pub left: u32,
     pub spent: Spent,
+    pub notes: Vec<Note>,
+}
+
+impl Sight {
+    /// A look that begins at a place, and may visit no node.
+    pub(crate) fn new(alloc: Global, at: Place, spent: Spent) -> Sight
+        ensures at { result.at ≡ at }
+        ensures spent { result.spent ≡ spent }
+        ensures notes { result.notes.items ≡ [] }
+    {
+        Sight {
+            at,
+            left: 0,
+            spent,
+            notes: Vec::new(alloc),
+        }
+    }
+}
+
+/// Takes a note that came before those that a look has taken, if there is memory.
+#[inline(never)]
+pub(crate) fn take_note(note: Note, sight: &mut Sight) -> bool
+    ensures at { sight.new.at ≡ sight.old.at }
+    ensures left { sight.new.left ≡ sight.old.left }
+    ensures spent { sight.new.spent ≡ sight.old.spent }
+    ensures taken { IsTrue result → sight.new.notes.items ≡ sight.old.notes.items ++ note ∷ [] }
+{
+    sight.notes.push(note).is_ok()
+}
+
+/// The note of an atom that notes its place.
+pub(crate) fn note_of(test: &Test, at: Place) -> Option<Note>
+    ensures { IfSome result (IsNoteOf (atom_of test.now) at) }
+{
+    match test {
+        Test::MatchStart => Some(Note::Start(at)),
+        Test::MatchStop => Some(Note::Stop(at)),
+        _ => None,
+    }
 }
 
 /// Tries so many atoms of the line in vain, if the budget allows it.
@@ -111,6 +153,9 @@ pub(crate) fn look_at_atom<T: Lines>(
             Saw::Reached
         }
         Fit::Stays => {
+            if notes_place(test) {
+                return Saw::TooFar;
+            }
             sight
                 .spent
                 .tick(Looked::one(numbered(lines, sight.at.line)));
@@ -140,7 +185,7 @@ fn look_at_any_atom<T: Lines>(
         sight.new result }
     ensures goes { GoesOn (T.lines lines.now) sight.old sight.new }
 {
-    if asks_for_group(test) || sight.spent.cost >= sight.spent.budget {
+    if asks_for_group(test) || notes_place(test) || sight.spent.cost >= sight.spent.budget {
         return Saw::TooFar;
     }
     let tried = try_plain(lines, context, sight.at, test);

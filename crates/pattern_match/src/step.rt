@@ -3,6 +3,7 @@ ghost use Rattle.std.specs.Prelude.{◌≡◌, MatchOption, None, Some};
 ghost use Rattle.pattern_match.specs.Fates.{stops_first};
 ghost use Rattle.pattern_match.specs.FirstAtom.{first_atom, is_forced};
 ghost use Rattle.pattern_match.specs.Steps.{atom_of, shape_of};
+ghost use Rattle.pattern_match.specs.Glance.{notes_place};
 
 use crate::collection::Collection;
 use crate::runs::less_by;
@@ -119,4 +120,14 @@ pub(crate) fn stops_first(least: u32, most: Option<u32>, lazy: bool) -> bool
     ensures { result ≡ stops_first least most lazy }
 {
     lazy || (is_forced(least, most) && is_spent(less_by(most, least as usize)))
+}
+
+/// Whether an atom notes its place.
+pub(crate) fn notes_place(test: &Test) -> bool
+    ensures { result ≡ notes_place (atom_of test.now) }
+{
+    match test {
+        Test::MatchStart | Test::MatchStop => true,
+        _ => false,
+    }
 }

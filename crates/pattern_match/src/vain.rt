@@ -1,6 +1,6 @@
 //! Parts that are tried in vain: the character here fits none of the atoms that they begin with, and so
 //! they come to a number of ticks.
-ghost use Rattle.std.specs.Prelude.{◌≡◌, ◌≤◌, IsFalse, IsTrue, List, false};
+ghost use Rattle.std.specs.Prelude.{◌≡◌, ◌≤◌, ◌+◌, IsFalse, IsTrue, List, false};
 ghost use Rattle.match_rules.specs.Counts.{is_spent};
 ghost use Rattle.match_rules.specs.Marks.{Mark, followed};
 ghost use Rattle.match_rules.specs.Visits.{tried, visits};
@@ -8,13 +8,14 @@ ghost use Rattle.match_rules.specs.Ways.{Context as AnyContext, IsPlaceOf, Way};
 ghost use Rattle.pattern_match.specs.Contexts.{context_in};
 ghost use Rattle.pattern_match.specs.Steps.{atom_of, shape_of};
 ghost use Rattle.pattern_match.specs.declared.vain.Vain.{Vain as AnyVain};
+ghost use Rattle.pattern_match.specs.declared.vain.Vain.TheVariants.{Noted};
 ghost use Rattle.pattern_match.specs.Vain.{IsBehindOne, IsEither, IsRefused, IsThen, IsVain, IsVainBy, is_refused, left_out};
 
 use crate::atoms::numbered;
 use crate::context::Context;
 use crate::spent::Spent;
 use crate::standing::{Standing, standing_at};
-use crate::step::{Step, Test};
+use crate::step::{Step, Test, notes_place};
 use crate::told::{Fit, fit_of};
 use pattern_screens::is_spent;
 use syn_base::{Lines, Looked, Place};
@@ -24,8 +25,10 @@ use syn_base::{Lines, Looked, Place};
 pub(crate) enum Vain {
     /// It tries so many atoms in vain, and has no way.
     Refused(u64),
-    /// It tries so many atoms in vain, and its one way stays here.
+    /// It tries so many atoms in vain, and its one way stays here and notes nothing.
     LeftOut(u64),
+    /// The same, but that way notes its place.
+    Noted(u64),
     /// Nothing.
     Unsure,
 }
@@ -44,8 +47,26 @@ impl Vain {
                 Some(all) => Vain::LeftOut(all),
                 None => Vain::Unsure,
             },
+            (Vain::LeftOut(ticks), Vain::Noted(more)) => Vain::noted(ticks, more),
+            (Vain::Noted(ticks), Vain::Refused(more)) => match ticks.checked_add(more) {
+                Some(all) => Vain::Refused(all),
+                None => Vain::Unsure,
+            },
+            (Vain::Noted(ticks), Vain::LeftOut(more)) => Vain::noted(ticks, more),
+            (Vain::Noted(ticks), Vain::Noted(more)) => Vain::noted(ticks, more),
             (Vain::Refused(ticks), _) => Vain::Refused(ticks),
             _ => Vain::Unsure,
+        }
+    }
+
+    /// What is told where so many atoms and more are tried in vain, and the one way notes its place.
+    fn noted(ticks: u64, more: u64) -> Vain
+        ensures { (w : Way) (marks : List Mark) → IsVain marks w (Noted (ticks + more)) →
+            IsVain marks w result }
+    {
+        match ticks.checked_add(more) {
+            Some(all) => Vain::Noted(all),
+            None => Vain::Unsure,
         }
     }
 
@@ -54,7 +75,7 @@ impl Vain {
         ensures { IsFalse result → (next : AnyVain) → IsThen self.now next self.now }
     {
         match self {
-            Vain::LeftOut(_) => true,
+            Vain::LeftOut(_) | Vain::Noted(_) => true,
             _ => false,
         }
     }
@@ -113,7 +134,11 @@ fn vain_atom(context: &Context<'_>, test: &Test, c: char, at_start: bool) -> Vai
 {
     match fit_of(test, c, at_start, context) {
         Fit::Refuses => Vain::Refused(1),
-        Fit::Stays => Vain::LeftOut(1),
+        Fit::Stays => if notes_place(test) {
+            Vain::Noted(1)
+        } else {
+            Vain::LeftOut(1)
+        },
         _ => Vain::Unsure,
     }
 }

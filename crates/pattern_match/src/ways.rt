@@ -6,8 +6,9 @@
 //! after it are forgotten.
 ghost use Rattle.std.specs.Prelude.{◌≡◌, ◌≤◌, [], ◌∷◌, ◌++◌, List, drop, length, reverse, ◌+◌, ◌-◌, ◌<◌, ◌^◌, IfOk, OnOk, MatchOption, ℕ, IsTrue, IsFalse, Some, true};
 ghost use Rattle.match_rules.specs.Ways.{way_from, with_capture, capture_of};
-ghost use Rattle.pattern_match.specs.Ways.{Thread, with_note, place_of, found_way, IsNumbered, entries_named, capture_in, with_earlier, with_earlier_capture, IsLast, NameLast, with_last, run_of, run_aside, IsNextCounted, ways_counted, last_of, shorter, kept_to};
+ghost use Rattle.pattern_match.specs.Ways.{Thread, with_note, place_of, found_way, IsNumbered, entries_named, capture_in, way_noted, with_earlier, with_earlier_capture, IsLast, NameLast, with_last, run_of, run_aside, IsNextCounted, ways_counted, last_of, shorter, kept_to};
 ghost use Rattle.pattern_match.specs.declared.ways.Pending.{Pending as AnyPending};
+ghost use Rattle.syn_base.specs.declared.places.Place.{Place};
 
 use std::alloc::Global;
 use std::marker::Model;
@@ -22,7 +23,7 @@ struct Later<T> {
 
 /// What a way noted.
 #[derive(Clone, Copy)]
-enum Note {
+pub(crate) enum Note {
     Captured { number: u8, from: Place, to: Place },
     External { number: u8, from: Place, to: Place },
     Start(Place),
@@ -115,6 +116,11 @@ impl<T: Copy> Ways<T> {
             next: 0,
             noted: 0,
         };
+    }
+
+    /// Where its memory comes from.
+    pub(crate) fn allocator(&self) -> Global {
+        *self.later.allocator()
     }
 
     /// Where the present way stands.
@@ -530,7 +536,6 @@ pub(crate) struct FoundWay {
 impl FoundWay {
     /// Takes a note where nothing later was noted.
     fn fill(&mut self, note: Note)
-        requires { IsNumbered note }
         ensures { found_way self.new ≡ with_earlier (found_way self.old) note }
     {
         match note {
@@ -542,13 +547,31 @@ impl FoundWay {
     }
 }
 
-/// Takes the places of a group that has none yet.
+/// The way at a place with what was noted on it, the last note first.
+pub(crate) fn way_with(at: Place, notes: &[Note]) -> FoundWay
+    ensures { (p : Place) → found_way result ≡ way_noted (way_from p) notes.now at }
+{
+    let mut way = FoundWay {
+        at,
+        captures: [None; 9],
+        externals: [None; 9],
+        start: None,
+        stop: None,
+    };
+    for note in notes {
+        way.fill(*note);
+    }
+    way
+}
+
+/// Takes the places of a group that has none yet, if its number is that of one.
 fn fill(captures: &mut [Option<(Place, Place)>; 9], number: u8, from: Place, to: Place)
-    requires { (1 ≤ number) × (number ≤ 9) }
     ensures { captures.new ≡ with_earlier_capture captures.old number from to }
 {
-    let index = number as usize - 1;
-    captures[index] = captures[index].or(Some((from, to)));
+    let index = (number as usize).saturating_sub(1);
+    if index < 9 {
+        captures[index] = captures[index].or(Some((from, to)));
+    }
 }
 
 /// Where a note says that a counted group matched.

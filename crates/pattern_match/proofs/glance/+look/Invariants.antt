@@ -21,10 +21,25 @@ abbrev pub decreases-look_after_turn : goal.decreases-look_after_turn
 decreases-look_after_turn g l = 8 * l.sight.now.left
 
 abbrev pub decreases-look_at_one : goal.decreases-look_at_one
-decreases-look_at_one g l = 8 * l.sight.now.left + 1
+decreases-look_at_one g l = 8 * l.sight.now.left + 3
 
 abbrev pub decreases-look_at_both : goal.decreases-look_at_both
-decreases-look_at_both g l = 8 * l.sight.now.left + 2
+decreases-look_at_both g l = 8 * l.sight.now.left + 4
+
+abbrev pub decreases-look_at_noting : goal.decreases-look_at_noting
+decreases-look_at_noting g l = 8 * l.sight.now.left + 2
+
+abbrev pub decreases-look_at_noting_first : goal.decreases-look_at_noting_first
+decreases-look_at_noting_first g l = 8 * l.sight.now.left + 3
+
+abbrev pub decreases-go_on_noting : goal.decreases-go_on_noting
+decreases-go_on_noting g l = 8 * l.sight.now.left + 1
+
+abbrev pub decreases-go_on_behind : goal.decreases-go_on_behind
+decreases-go_on_behind g l = 8 * l.sight.now.left + 2
+
+abbrev pub decreases-go_on_later : goal.decreases-go_on_later
+decreases-go_on_later g l = 8 * l.sight.now.left + 1
 
 abbrev pub decreases-look_at_first : goal.decreases-look_at_first
 decreases-look_at_first g l = 8 * l.sight.now.left + 1
@@ -33,10 +48,10 @@ abbrev pub decreases-look_at_other : goal.decreases-look_at_other
 decreases-look_at_other g l = 8 * l.sight.now.left + 5
 
 abbrev pub decreases-look_at_either : goal.decreases-look_at_either
-decreases-look_at_either g l = 8 * l.sight.now.left + 3
+decreases-look_at_either g l = 8 * l.sight.now.left + 5
 
 abbrev pub decreases-look_at_branch : goal.decreases-look_at_branch
-decreases-look_at_branch g l = 8 * l.sight.now.left + 2
+decreases-look_at_branch g l = 8 * l.sight.now.left + 4
 
 abbrev pub decreases-look_at_optional : goal.decreases-look_at_optional
 decreases-look_at_optional g l = 8 * l.sight.now.left + 1
@@ -48,7 +63,7 @@ abbrev pub decreases-look_at_count : goal.decreases-look_at_count
 decreases-look_at_count g l = 8 * l.sight.now.left + 4
 
 abbrev pub decreases-look_ahead : goal.decreases-look_ahead
-decreases-look_ahead g l = 8 * l.sight.now.left + 1
+decreases-look_ahead g l = 8 * l.sight.now.left + 3
 
 abbrev pub decreases-look_at_greedy : goal.decreases-look_at_greedy
 decreases-look_at_greedy g l = 8 * l.sight.now.left + 3
@@ -77,6 +92,7 @@ invariant-look_at_stops-stops g l =
       within : l.left ≤ l.count;
       kept : IsKept l.context l.rest l.kept;
       goes : GoesOn text l.fn.sight l.sight;
+      notes : l.sight.notes.items ≡ l.fn.sight.notes.items;
       seen : (w : Way) → w.at ≡ l.from → answer_from l.fn.sight.spent.cost l.fn.sight.spent.looked (stops_of f w l.count) ≡ answer_from l.sight.spent.cost l.sight.spent.looked (stops_of f w l.left);
     }
 

@@ -1,22 +1,19 @@
-use Rattle.std.proofs.Common.{List, subst}
+use Rattle.std.proofs.Common.{◌≡◌, [], ◌∷◌, refl, sym, ap, ◌∙◌}
+use Rattle.std.specs.Prelude.{Some}
 use Rattle.match_rules.specs.Ways.{Context as AnyContext}
-use Rattle.match_rules.specs.Marks.{Mark}
+use Rattle.match_rules.specs.Marks.{Reach, followed}
 use Rattle.match_rules.specs.Visits.{visits}
 use Rattle.match_rules.proofs.MarkLaws.{followed-reach}
-use Rattle.std.specs.Prelude.{Some, None}
 use Rattle.pattern_match.specs.Contexts.{context_in}
-use Rattle.pattern_match.specs.Glance.{ComesTo}
 use Rattle.pattern_match.specs.Steps.{shape_of}
+use Rattle.pattern_match.specs.declared.sight.Sight.{Sight}
+use Rattle.pattern_match.proofs.GlanceLaws.{seen_as, seen_first}
 use Rattle.pattern_match.proofs.glance.first_way.Goals as goal
 
-pub returns-in-Reached-clause-seen : goal.returns-in-Reached-clause-seen
-returns-in-Reached-clause-seen g c = λ w e.
+pub returns-clause-seen : goal.returns-clause-seen
+returns-clause-seen g c = λ w e.
     let x : AnyContext = context_in (g.T.Lines.lines c.args.lines.now) c.args.context.now in
-    let h = rw c.in-Reached.is at c.look_at-saw.ensures.seen w e in
-    subst (λ (marks : List Mark). ComesTo marks c.args.spent.now c.look_at-saw.new.sight.spent (Some c.look_at-saw.new.sight.at)) (followed-reach (visits x (shape_of c.args.step.now) w)) h
-
-pub returns-in-InVain-clause-seen : goal.returns-in-InVain-clause-seen
-returns-in-InVain-clause-seen g c = λ w e.
-    let x : AnyContext = context_in (g.T.Lines.lines c.args.lines.now) c.args.context.now in
-    let h = rw c.in-InVain.is at c.look_at-saw.ensures.seen w e in
-    subst (λ (marks : List Mark). ComesTo marks c.args.spent.now c.look_at-saw.new.sight.spent None) (followed-reach (visits x (shape_of c.args.step.now) w)) h
+    let marks = visits x (shape_of c.args.step.now) w in
+    let sight : Sight = record { at = c.args.start; left = 1000; spent = c.nothing-sight.result; notes = c.clear.new.self } in
+    seen_first w marks sight c.look_at.new.sight c.look_at.result _ c.clear.ensures.items c.nothing-sight.ensures
+    (seen_as w marks (followed marks (λ v. Reach v ∷ [])) sight c.look_at.new.sight c.look_at.result (sym (followed-reach marks)) (c.look_at.ensures.seen w e))

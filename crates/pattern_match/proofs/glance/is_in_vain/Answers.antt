@@ -16,15 +16,15 @@ pub returns-in-InVain-clause-seen : goal.returns-in-InVain-clause-seen
 returns-in-InVain-clause-seen g c = λ yes w e.
     let x : AnyContext = context_in (g.T.Lines.lines c.args.lines.now) c.args.context.now in
     let marks : List Mark = visits x (shape_of c.args.step.now) w in
-    let h = rw (c.in-InVain.is, c.is_refused.ensures.unchanged c.if-is_refused.false ∙ c.other_refuses.ensures.unchanged c.if-other_refuses.false) at c.look_at.ensures.seen w e in
+    let h = rw (c.in-InVain.is, c.new-sight.ensures.spent, c.is_refused.ensures.unchanged c.if-is_refused.false ∙ c.other_refuses.ensures.unchanged c.if-other_refuses.false) at c.look_at.ensures.seen w (e ∙ sym c.new-sight.ensures.at) in
     elim c.match-wanted.branch [
       | in-None b ↦ rw b.in-None.is
           (ap (answer_from c.args.spent.now.cost c.args.spent.now.looked) (sym (followed-reach marks))
-          ∙ (rw b.rest-is at h))
+          ∙ (rw b.rest-is at h.1))
       | in-Some b ↦ rw b.in-Some.is
           (ap (answer_from c.args.spent.now.cost c.args.spent.now.looked)
           (sym (followed-wanted b.in-Some.place marks))
-          ∙ (rw b.rest-is at h))
+          ∙ (rw b.rest-is at h.1))
     ]
 
 pub returns-then-is_refused-clause-seen : goal.returns-then-is_refused-clause-seen

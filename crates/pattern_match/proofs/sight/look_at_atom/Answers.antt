@@ -1,7 +1,10 @@
-use Rattle.std.proofs.Common.{◌≡◌, [], ◌∷◌, sym, ap, refl, ◌∙◌, arith, rules}
+use Rattle.std.proofs.Common.{◌≡◌, ◌+◌, [], ◌∷◌, sym, ap, refl, ◌∙◌, arith, rules}
 use Rattle.std.specs.Prelude.{pos, nat_eq}
 use Rattle.syn_base.specs.Looked.{one_line}
-use Rattle.match_rules.specs.Ways.{way_from}
+use Rattle.syn_base.specs.declared.places.Place.{Place}
+use Rattle.match_rules.specs.Ways.{Context as AnyContext, way_from}
+use Rattle.pattern_match.specs.Contexts.{context_in}
+use Rattle.pattern_match.proofs.GlanceLaws.{takes_plain}
 use Rattle.match_rules.specs.Marks.{Tick}
 use Rattle.pattern_match.specs.Spending.{spent_on}
 use Rattle.pattern_match.specs.Steps.{atom_of}
@@ -11,6 +14,8 @@ use Rattle.pattern_match.proofs.sight.look_at_atom.Goals as goal
 pub returns-in-Takes : goal.returns-in-Takes
 returns-in-Takes g c =
     let text = g.T.Lines.lines c.args.lines.now in
+    let x : AnyContext = context_in text c.args.context.now in
+    let stands = rw c.in-Character.is at c.standing_at.ensures in
     let told = fit-tells c.args.context.now (atom_of c.args.test.now) c.in-Character.c (nat_eq c.args.sight.now.at.col 0) c.fit_of.result c.fit_of.ensures text c.args.sight.now.at c.in-Character.behind c.requires.on_text refl (rw c.in-Character.is at c.standing_at.ensures) in
     let looked : c.one.result ≡ one_line (pos c.args.sight.now.at.line) = search rules in
     let here = rw c.in-Takes.is at told (way_from c.args.sight.now.at) refl in
@@ -23,6 +28,8 @@ returns-in-Takes g c =
                 c.tick.ensures
                 ∙ ap (λ l. spent_on c.args.sight.now.spent (Tick l ∷ []))
                 (looked ∙ sym (ap (λ p. one_line (pos p.line)) e) ∙ sym h.1);
+            notes = refl;
+            plain = takes_plain x w (atom_of c.args.test.now) c.in-Character.behind h.0 (ap (λ (p : Place). p.col) stands.2 ∙ sym (ap (λ (p : Place). p.col + 1) e));
           };
       goes = record {
         stands = record { on_text = here.2; within = rw c.tick.ensures (omega arith) };
@@ -31,8 +38,8 @@ returns-in-Takes g c =
       };
     }
 
-pub returns-in-Stays : goal.returns-in-Stays
-returns-in-Stays g c =
+pub returns-else-notes_place : goal.returns-else-notes_place
+returns-else-notes_place g c =
     let text = g.T.Lines.lines c.args.lines.now in
     let told = fit-tells c.args.context.now (atom_of c.args.test.now) c.in-Character.c (nat_eq c.args.sight.now.at.col 0) c.fit_of.result c.fit_of.ensures text c.args.sight.now.at c.in-Character.behind c.requires.on_text refl (rw c.in-Character.is at c.standing_at.ensures) in
     let looked : c.one-in-Stays.result ≡ one_line (pos c.args.sight.now.at.line) = search rules in
@@ -45,6 +52,8 @@ returns-in-Stays g c =
                 c.tick-in-Stays.ensures
                 ∙ ap (λ l. spent_on c.args.sight.now.spent (Tick l ∷ []))
                 (looked ∙ sym (ap (λ p. one_line (pos p.line)) e) ∙ sym h.1);
+            notes = refl;
+            plain = sym c.notes_place.ensures ∙ c.if-notes_place.false;
           };
       goes = record {
         stands = record { on_text = c.requires.on_text; within = rw c.tick-in-Stays.ensures (omega arith) };
@@ -66,4 +75,6 @@ returns-in-Refuses-clause-seen g c =
           c.tick-in-Refuses.ensures
           ∙ ap (λ l. spent_on c.args.sight.now.spent (Tick l ∷ []))
           (looked ∙ sym (ap (λ p. one_line (pos p.line)) e) ∙ sym h.1);
+      notes = refl;
+      plain = tt;
     }
