@@ -1,5 +1,4 @@
-use Rattle.std.proofs.Common.{◌≡◌, [], ◌∷◌, refl, sym, ap, ◌∙◌}
-use Rattle.std.specs.Prelude.{Some}
+use Rattle.std.proofs.Common.{[], ◌∷◌, sym}
 use Rattle.match_rules.specs.Ways.{Context as AnyContext}
 use Rattle.match_rules.specs.Marks.{Reach, followed}
 use Rattle.match_rules.specs.Visits.{visits}

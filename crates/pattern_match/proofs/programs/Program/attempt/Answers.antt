@@ -1,11 +1,9 @@
 use Rattle.std.proofs.Common.{List, refl, ap, subst, ◌∙◌}
 use Rattle.std.specs.Prelude.{Some, None}
 use Rattle.match_rules.specs.Marks.{Mark}
-use Rattle.match_rules.specs.Visits.{visits}
 use Rattle.match_rules.specs.Ways.{Context as AnyContext, way_from}
 use Rattle.pattern_match.specs.Contexts.{context_in}
 use Rattle.pattern_match.specs.Glance.{ComesTo}
-use Rattle.pattern_match.specs.Steps.{shape_of}
 use Rattle.pattern_match.specs.Ways.{way_noted}
 use Rattle.pattern_match.specs.declared.answer.Attempt.TheVariants.{Absent}
 use Rattle.pattern_match.proofs.SeenWays.{told_absent, told_found, told_ok}
