@@ -1,6 +1,7 @@
 //! What is known of the line that is painted: where items don't start, and where regions end.
 ghost use Rattle.std.specs.Prelude.{◌≡◌, ◌<◌, ◌≤◌, ◌+◌, ◌^◌, ℕ, length, IfOk, IfSome, IsTrue};
 ghost use Rattle.std.specs.List.{All};
+ghost use Rattle.pattern_needs.specs.LineNeeds.{AreHeld};
 ghost use Rattle.item_pick.specs.Common.{Text, line_at, Rules, place_at, rules_in, IsQuiet, item_numbered, TellsOf, HoldsLine, HoldsLines, IsBarren, IsNear, IsNumberAt, IsWanted, LineStands, RunStands, two_lines};
 ghost use Rattle.item_pick.specs.declared.parts.Parts.{Parts as PartsOf};
 ghost use Rattle.syn_base.specs.declared.looked.Looked.{Looked as LookedOf};
@@ -70,35 +71,34 @@ impl LineKnown {
         self.numbers.len().saturating_sub(1)
     }
 
-    /// Notes that an item starts nowhere, if the line lacks what it needs, and tells whether it does.
+    /// Notes that an item starts nowhere, if the line lacks what it needs, by what is held of the line and
+    /// how many characters it has.
     #[inline(always)]
-    pub(crate) fn note_lacking(&mut self, wanted: &Wanted) -> Result<bool, Memory>
-        ensures stands { (parts : PartsOf) (budget : ℕ) (t : Text) (l : ℕ) →
+    fn note_lacking(&mut self, wanted: &Wanted, held: &Held, width: usize) -> Result<(), Memory>
+        ensures { (parts : PartsOf) (budget : ℕ) (t : Text) (l : ℕ) →
+            AreHeld held.now width (line_at t l) →
             IsWanted (rules_in parts budget) wanted.now →
             LineStands (rules_in parts budget) t l self.old →
             LineStands (rules_in parts budget) t l self.new }
-        ensures lacking { IfOk result (λ lacking. IsTrue lacking →
-            (parts : PartsOf) (budget : ℕ) (t : Text) (l : ℕ) →
-            IsWanted (rules_in parts budget) wanted.now →
-            LineStands (rules_in parts budget) t l self.old →
-            IsBarren (rules_in parts budget) t l wanted.now.item) }
     {
-        let lacking = wanted.need.is_lacked(&self.held, self.width());
-        if lacking {
+        if wanted.need.is_lacked(held, width) {
             self.barren.put(wanted.item.0 as usize)?;
         }
-        Ok(lacking)
+        Ok(())
     }
 
     /// Notes those of some items that start nowhere, since the line lacks what they need.
+    #[inline(never)]
     pub(crate) fn note_all_lacking(&mut self, wanted: &[Wanted]) -> Result<(), Memory>
         ensures { (parts : PartsOf) (budget : ℕ) (t : Text) (l : ℕ) →
             All (IsWanted (rules_in parts budget)) wanted.now →
             LineStands (rules_in parts budget) t l self.old →
             LineStands (rules_in parts budget) t l self.new }
     {
+        let held = self.held;
+        let width = self.width();
         for one in wanted {
-            self.note_lacking(one)?;
+            self.note_lacking(one, &held, width)?;
         }
         Ok(())
     }

@@ -145,9 +145,9 @@ impl PickMemory {
         }
         match asked.need_of(id) {
             Some(need) => {
-                let wanted = Wanted { item: id, need };
-                self.tables.want(wanted)?;
-                self.line.note_lacking(&wanted)
+                self.tables.want(Wanted { item: id, need })?;
+                self.line.note_all_lacking(self.tables.wanted.as_slice())?;
+                Ok(self.line.is_barren(id.0))
             }
             None => Ok(false),
         }
