@@ -1,5 +1,6 @@
 pub mod CutLaws
 pub mod EndLaws
+pub mod EvenLaws
 pub mod FillLaws
 pub mod FlatLaws
 pub mod ReplacedLaws

@@ -3,8 +3,9 @@ use Rattle.std.proofs.Common.{arith, sym, ap, ◌∙◌, ◌≡◌, ◌<◌, ◌
 use Rattle.std.specs.Prelude.{Some, slice_get}
 use Rattle.std.proofs.lemmas.List.{set-append_left, set-append_right}
 use Rattle.std.proofs.lemmas.Option.{slice_get_read}
-use Rattle.chunk_list.specs.Flat.{Holds, ends_from, flat, start_in}
+use Rattle.chunk_list.specs.Flat.{Holds, ends_from, even_of, flat, start_in}
 use Rattle.chunk_list.proofs.EndLaws.{found, stand_of, start_is}
+use Rattle.chunk_list.proofs.EvenLaws.{even_set}
 
 flat_set : {X : Type 0} (cs : List (List X)) (i at within : ℕ) (c : List X) (x : X) → slice_get cs i ≡ Some c → at ≡ length (flat (take i cs)) + within → within < length c → flat (set cs i (set c within x)) ≡ set (flat cs) at x
 flat_set [] i at within c x is place inside = absurd cc
@@ -30,6 +31,7 @@ ends_set (d ∷ cs) s (suc i) c e is same = ap (λ (l : List ℕ). (s + length d
 pub record Exchanged {X : Type 0} (cs : List (List X)) (ends : List ℕ) (at j : ℕ) (x : X) (own : List X) : Type 0 where
   pub list : flat (set cs j own) ≡ set (flat cs) at x
   pub ends_are : ends ≡ ends_from 0 (set cs j own)
+  pub even_is : even_of (set cs j own) ≡ even_of cs
 
 pub exchanged : {X : Type 0} (cs : List (List X)) (ends : List ℕ) (at j start : ℕ) (c own : List X) (x : X) → ends ≡ ends_from 0 cs → Holds ends at j → start ≡ start_in ends j → c ≡ get_or cs j c → own ≡ set c (at - start) x → Exchanged cs ends at j x own
 exchanged {X} cs ends at j start c own x are holds begins here is =
@@ -41,4 +43,5 @@ exchanged {X} cs ends at j start c own x are holds begins here is =
     record {
       list = ap (λ (l : List X). flat (set cs j l)) is ∙ flat_set cs j at (at - start) c x chunk place within;
       ends_are = are ∙ sym (ends_set cs 0 j c own chunk (ap length is ∙ length-set c (at - start) x));
+      even_is = even_set cs j c own chunk (ap length is ∙ length-set c (at - start) x);
     }

@@ -1,5 +1,5 @@
 -- Chunks, and the list that they are.
-use Rattle.std.specs.Prelude.{Some, ◌⊎◌, ◌≡◌, ◌+◌, ◌-◌, ◌<◌, ◌≤◌, ℕ, zero, suc, slice_get, slice_index, List, [], ◌∷◌, ◌++◌, length, take, drop}
+use Rattle.std.specs.Prelude.{Some, ◌⊎◌, ◌≡◌, ◌==◌, cond, min, ◌+◌, ◌-◌, ◌<◌, ◌≤◌, ℕ, zero, suc, slice_get, slice_index, List, [], ◌∷◌, ◌++◌, length, take, drop}
 
 -- the chunks, one after another
 abbrev pub flat : {X : Type 0} → List (List X) → List X
@@ -27,6 +27,11 @@ cut_of (c ∷ cs) a b = (take a c ++ drop b c) ∷ cut_of cs (a - length c) (b -
 abbrev pub ends_from : {X : Type 0} → ℕ → List (List X) → List ℕ
 ends_from at [] = []
 ends_from at (c ∷ cs) = (at + length c) ∷ ends_from (at + length c) cs
+
+-- how many elements the full chunks at the front have, with those of the chunk behind them
+abbrev pub even_of : {X : Type 0} → List (List X) → ℕ
+even_of [] = 0
+even_of (c ∷ cs) = cond (length c == 512) (512 + even_of cs) (min 512 (length c))
 
 -- where chunk i begins, as the ends tell it
 abbrev pub start_in : List ℕ → ℕ → ℕ

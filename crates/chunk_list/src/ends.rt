@@ -1,6 +1,6 @@
 //! Where chunks end in the list that they are: the chunk of an element is found by halving.
 ghost use Rattle.std.specs.Prelude.{◌≡◌, ◌+◌, ◌<◌, ◌≤◌, ◌-◌, ◌^◌, length, slice_index, vec_capacity, vec_len};
-ghost use Rattle.chunk_list.specs.Flat.{Holds, ends_from, flat, start_in};
+ghost use Rattle.chunk_list.specs.Flat.{Holds, ends_from, even_of, flat, start_in};
 
 use crate::chunk::{Chunk, MOST};
 
@@ -17,6 +17,22 @@ pub(crate) fn note_ends<T>(chunks: &Vec<Chunk<T>>, ends: &mut Vec<usize>)
         end += chunk.len();
         ends.push_reserved(end);
     }
+}
+
+/// How many elements the full chunks at the front have, with those of the chunk behind them: each of
+/// them stands where it does in a list all of whose chunks are full.
+pub(crate) fn even_count<T>(chunks: &Vec<Chunk<T>>) -> usize
+    requires { length (flat chunks.now.items) < 2 ^ 32 }
+    ensures { result ≡ even_of chunks.now.items }
+{
+    let mut count = 0;
+    for chunk in chunks {
+        count += chunk.len();
+        if chunk.len() < MOST {
+            return count;
+        }
+    }
+    count
 }
 
 /// Where chunk `i` begins.

@@ -4,7 +4,7 @@ ghost use Rattle.chunk_list.specs.Replaced.{replaced};
 
 use crate::chunk::{Chunk, MOST};
 use crate::chunks::{join_at, put_in, take_out};
-use crate::ends::{chunk_of, note_ends, start_of};
+use crate::ends::{chunk_of, even_count, note_ends, start_of};
 use std::alloc::Global;
 use std::marker::Model;
 use syn_base::{List, Memory};
@@ -17,6 +17,8 @@ pub struct ChunkList<T> {
     chunks: Vec<Chunk<T>>,
     /// Where each chunk ends in the list.
     ends: Vec<usize>,
+    /// How many elements the full chunks at the front have, with those of the chunk behind them.
+    even: usize,
     /// Chunks that were made before.
     empty: Vec<Chunk<T>>,
     spare: usize,
@@ -31,7 +33,7 @@ impl<T> Model for ChunkList<T> {
 
     ghost view = { λ l. (flat l.chunks.items, l.spare) };
 
-    ghost invariant = { λ l. Stands l.chunks.items l.ends.items l.spare (vec_len l.empty)
+    ghost invariant = { λ l. Stands l.chunks.items l.ends.items l.even l.spare (vec_len l.empty)
         (vec_capacity l.chunks - vec_len l.chunks) (vec_capacity l.ends - vec_len l.ends) };
 }
 
@@ -44,6 +46,7 @@ impl<T> ChunkList<T> {
             alloc,
             chunks: Vec::new(alloc),
             ends: Vec::new(alloc),
+            even: 0,
             empty: Vec::new(alloc),
             spare: 0,
         }
@@ -60,6 +63,19 @@ impl<T> ChunkList<T> {
 
     /// The element at `i`, from 0.
     pub fn get(&self, i: usize) -> &T
+        requires { i < length self.now.0 }
+        ensures { Some result.now ≡ slice_get self.now.0 i }
+    {
+        if i < self.even {
+            self.chunks[i / MOST].get(i % MOST)
+        } else {
+            self.uneven(i)
+        }
+    }
+
+    /// An element wherever it stands.
+    #[inline(never)]
+    fn uneven(&self, i: usize) -> &T
         requires { i < length self.now.0 }
         ensures { Some result.now ≡ slice_get self.now.0 i }
     {
@@ -121,6 +137,7 @@ impl<T: Drop> ChunkList<T> {
         join_at(&mut self.chunks, a + count);
         join_at(&mut self.chunks, a);
         note_ends(&self.chunks, &mut self.ends);
+        self.even = even_count(&self.chunks);
         self.spare = 0;
     }
 }

@@ -1,41 +1,24 @@
-use Rattle.std.proofs.Common.{arith, ap, sym, ◌∙◌, ◌<◌, ℕ, List, length}
+use Rattle.std.proofs.Common.{arith, ap, sym, ◌∙◌, ◌/◌, ◌%◌, length, refl}
+use Rattle.std.proofs.lemmas.Option.{slice_get_read}
 use Rattle.std.specs.Prelude.{slice_get}
-use Rattle.chunk_list.specs.Flat.{flat, start_in}
-use Rattle.chunk_list.proofs.EndLaws.{found, last_holds, stand_of}
+use Rattle.chunk_list.proofs.EvenLaws.{even_found}
 use Rattle.chunk_list.proofs.list.ChunkList.get.Goals as goal
-
-pub chunk_of-chunk-requires-clause-some : goal.chunk_of-chunk-requires-clause-some
-chunk_of-chunk-requires-clause-some g c =
-    let seen = ap (λ p. p.0) c.self.view_is in
-    let cs = c.self.inside.chunks.items in
-    let within : c.args.i < length (flat cs) = omega (arith, ap length seen, c.requires) in
-    (last_holds cs c.deref.result.now c.args.i (c.deref.ensures.value ∙ c.self.invariant.ends_are) within).0
-
-pub chunk_of-chunk-requires-clause-inside : goal.chunk_of-chunk-requires-clause-inside
-chunk_of-chunk-requires-clause-inside g c =
-    let seen = ap (λ p. p.0) c.self.view_is in
-    let cs = c.self.inside.chunks.items in
-    let within : c.args.i < length (flat cs) = omega (arith, ap length seen, c.requires) in
-    (last_holds cs c.deref.result.now c.args.i (c.deref.ensures.value ∙ c.self.invariant.ends_are) within).1
 
 pub index-requires : goal.index-requires
 index-requires g c =
-    let cs = c.self.inside.chunks.items in
-    let stand = stand_of cs c.deref.result.now c.args.i c.chunk_of-chunk.result (c.deref.ensures.value ∙ c.self.invariant.ends_are) c.chunk_of-chunk.ensures in
-    omega (arith, stand.inside, c.self.inside.chunks.ok.0)
+    let e = even_found c.self.inside.chunks.items c.args.i (c.args.i / 512) (c.args.i % 512) (omega (arith, c.if-i-self.true, c.self.invariant.even_is)) (omega arith) (omega arith) in
+    omega (arith, e.inside, c.self.inside.chunks.ok.0)
 
 pub get-requires : goal.get-requires
 get-requires g c =
     let cs = c.self.inside.chunks.items in
-    let is = c.deref.ensures.value ∙ c.self.invariant.ends_are in
-    let begins = c.start_of.ensures ∙ ap (λ (e : List ℕ). start_in e c.chunk_of-chunk.result) (c.deref-2.ensures.value ∙ sym c.deref.ensures.value) in
-    (found cs c.deref.result.now c.args.i c.chunk_of-chunk.result c.start_of.result c.index.result.now is c.chunk_of-chunk.ensures begins c.index.ensures).within
+    let e = even_found cs c.args.i (c.args.i / 512) (c.args.i % 512) (omega (arith, c.if-i-self.true, c.self.invariant.even_is)) (omega arith) (omega arith) in
+    (e.element c.index.result.now (slice_get_read cs (length cs) (c.args.i / 512) c.index.result.now refl e.inside c.index.ensures)).0
 
-pub returns : goal.returns
-returns g c =
+pub returns-then-i-self : goal.returns-then-i-self
+returns-then-i-self g c =
     let cs = c.self.inside.chunks.items in
     let seen = ap (λ p. p.0) c.self.view_is in
-    let is = c.deref.ensures.value ∙ c.self.invariant.ends_are in
-    let begins = c.start_of.ensures ∙ ap (λ (e : List ℕ). start_in e c.chunk_of-chunk.result) (c.deref-2.ensures.value ∙ sym c.deref.ensures.value) in
-    let f = found cs c.deref.result.now c.args.i c.chunk_of-chunk.result c.start_of.result c.index.result.now is c.chunk_of-chunk.ensures begins c.index.ensures in
-    c.get.ensures ∙ sym f.element ∙ ap (λ l. slice_get l c.args.i) seen
+    let e = even_found cs c.args.i (c.args.i / 512) (c.args.i % 512) (omega (arith, c.if-i-self.true, c.self.invariant.even_is)) (omega arith) (omega arith) in
+    let there = slice_get_read cs (length cs) (c.args.i / 512) c.index.result.now refl e.inside c.index.ensures in
+    c.get.ensures ∙ sym (e.element c.index.result.now there).1 ∙ ap (λ l. slice_get l c.args.i) seen

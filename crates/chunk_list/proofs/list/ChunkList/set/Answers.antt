@@ -40,6 +40,7 @@ invariant_of-self g c =
     let e = exchanged cs c.deref.result.now c.args.i c.chunk_of-chunk.result c.start_of-start.result c.index_mut.result.now c.set.new.self c.args.x is c.chunk_of-chunk.ensures begins c.index_mut.ensures.value c.set.ensures in
     record {
       ends_are = sym c.deref.ensures.value ∙ e.ends_are;
+      even_is = inv.even_is ∙ sym e.even_is;
       few = omega (arith, ap length e.list, length-set (flat cs) c.args.i c.args.x, inv.few);
       spare_empty = inv.spare_empty;
       spare_chunks = inv.spare_chunks;
