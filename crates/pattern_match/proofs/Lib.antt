@@ -37,3 +37,4 @@ mod VainLaws
 mod RestLaws
 mod GlanceLaws
 mod GlanceRuns
+pub mod ToEndLaws

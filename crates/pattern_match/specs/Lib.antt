@@ -19,6 +19,7 @@ pub mod Runs
 pub mod Starts
 pub mod Standing
 pub mod Walks
+pub mod ToEnd
 pub mod Told
 pub mod Tried
 pub mod FirstAtom

@@ -121,7 +121,7 @@ fn in_line<T: Lines>(lines: &T, at: Place, place: Option<Place>) -> Tried
 
 /// The lines from one to another.
 #[inline(always)]
-fn lines_from<T: Lines>(lines: &T, low: usize, high: usize) -> Looked
+pub(crate) fn lines_from<T: Lines>(lines: &T, low: usize, high: usize) -> Looked
     requires low { low ≤ length (T.lines lines.now) }
     requires high { high ≤ length (T.lines lines.now) }
     ensures { result ≡ lines_from low high }

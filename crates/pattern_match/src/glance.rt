@@ -27,6 +27,7 @@ use crate::sight::{
 use crate::spent::Spent;
 use crate::step::{Step, Test};
 use crate::task::Turns;
+use crate::to_end::is_vain_to_end;
 use crate::turns::{is_after, next_turns, one_less};
 use crate::vain::{Vain, is_refused, vain_at};
 use crate::ways::Note;
@@ -541,10 +542,34 @@ fn look_at_count<T: Lines>(
     }
 }
 
-/// A short look at the turns of a greedy count that need not be taken. Those that take a character of
-/// the line each are made at once.
+/// A short look at the turns of a greedy count that need not be taken.
 #[cycle(look)]
 fn look_at_greedy<T: Lines>(
+    lines: &T,
+    context: &Context<'_>,
+    turns: &Turns<'_>,
+    rest: &Rest<'_>,
+    sight: &mut Sight,
+) -> Saw
+    requires stands { Stands (T.lines lines.now) sight.old }
+    requires free { turns.now.least ≡ 0 }
+    requires greedy { turns.now.lazy ≡ false }
+    ensures seen { (w : Way) → w.at ≡ sight.old.at →
+        let x = context_in (T.lines lines.now) context.now in
+        IsSeen w (followed (turns_of x turns.now w) (marks_behind x rest.now))
+        sight.old sight.new result }
+    ensures goes { GoesOn (T.lines lines.now) sight.old sight.new }
+{
+    if is_vain_to_end(lines, context, turns, rest, sight) {
+        return Saw::InVain;
+    }
+    look_at_runs(lines, context, turns, rest, sight)
+}
+
+/// The same, where not all of them are in vain. Those that take a character of
+/// the line each are made at once.
+#[cycle(look)]
+fn look_at_runs<T: Lines>(
     lines: &T,
     context: &Context<'_>,
     turns: &Turns<'_>,

@@ -33,6 +33,7 @@ mod step;
 mod tables;
 mod task;
 mod tick;
+mod to_end;
 mod told;
 mod turns;
 mod vain;

@@ -68,7 +68,7 @@ pub(crate) fn part_of_line<T: Lines>(lines: &T, from: Place, stop: usize) -> &[c
 }
 
 /// A line from a column on; a line that isn't there is empty.
-fn rest_of_line<T: Lines>(lines: &T, from: Place) -> &[char]
+pub(crate) fn rest_of_line<T: Lines>(lines: &T, from: Place) -> &[char]
     ensures { result.now ≡ drop from.col (line_at (T.lines lines.now) from.line) }
 {
     if from.line >= lines.len() {

@@ -350,8 +350,8 @@ look_at_lazy-returns-in_default-go_on g t c =
       goes = c.go_on.ensures.goes;
     }
 
-pub look_at_greedy-returns-in-InVain-clause-seen : goal.look_at_greedy-returns-in-InVain-clause-seen
-look_at_greedy-returns-in-InVain-clause-seen g t c =
+pub look_at_runs-returns-in-InVain-clause-seen : goal.look_at_runs-returns-in-InVain-clause-seen
+look_at_runs-returns-in-InVain-clause-seen g t c =
     let x : AnyContext = context_in (g.T.Lines.lines c.args.lines.now) c.args.context.now in
     let f = marks_behind x c.args.rest.now in
     let t : Turns = c.args.turns.now in
@@ -367,8 +367,8 @@ look_at_greedy-returns-in-InVain-clause-seen g t c =
     (vain_then w (followed (turns_of x (turns_less t n) (way_on w n)) f) (stops_of f w n) mid next next c.look_at_stops.new.sight c.look_at_stops.result refl refl
     (rw (c.in-InVain.is, c.less_by.ensures) at c.look_at_more-2.ensures.seen (way_on w n) at) (c.look_at_stops.ensures.seen w e))
 
-pub look_at_greedy-returns-in_default : goal.look_at_greedy-returns-in_default
-look_at_greedy-returns-in_default g t c =
+pub look_at_runs-returns-in_default : goal.look_at_runs-returns-in_default
+look_at_runs-returns-in_default g t c =
     let x : AnyContext = context_in (g.T.Lines.lines c.args.lines.now) c.args.context.now in
     let f = marks_behind x c.args.rest.now in
     let t : Turns = c.args.turns.now in
@@ -751,4 +751,20 @@ look_at_turn-returns-in_default-look_at_atom g t c =
           c.args.sight.now c.look_at_atom.new.sight c.look_at_atom.result
           c.in_default-look_at_atom.not-Reached (c.look_at_atom.ensures.seen w e)));
       goes = c.look_at_atom.ensures.goes;
+    }
+
+pub look_at_greedy-returns-then-is_vain_to_end : goal.look_at_greedy-returns-then-is_vain_to_end
+look_at_greedy-returns-then-is_vain_to_end g t c =
+    record { seen = c.is_vain_to_end.ensures.vain c.if-is_vain_to_end.true; goes = c.is_vain_to_end.ensures.goes }
+
+pub look_at_greedy-returns : goal.look_at_greedy-returns
+look_at_greedy-returns g t c =
+    let text = g.T.Lines.lines c.args.lines.now in
+    let x : AnyContext = context_in text c.args.context.now in
+    let same : c.is_vain_to_end.new.sight ≡ c.args.sight.now = c.is_vain_to_end.ensures.unchanged c.if-is_vain_to_end.false in
+    record {
+      seen = λ w e.
+          subst (λ (s : Sight). IsSeen w (followed (turns_of x c.args.turns.now w) (marks_behind x c.args.rest.now)) s c.look_at_runs.new.sight c.look_at_runs.result) same
+          (c.look_at_runs.ensures.seen w (e ∙ sym (ap (λ (s : Sight). s.at) same)));
+      goes = subst (λ (s : Sight). GoesOn text s c.look_at_runs.new.sight) same c.look_at_runs.ensures.goes;
     }

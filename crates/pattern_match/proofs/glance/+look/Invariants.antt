@@ -45,7 +45,7 @@ abbrev pub decreases-look_at_first : goal.decreases-look_at_first
 decreases-look_at_first g l = 8 * l.sight.now.left + 1
 
 abbrev pub decreases-look_at_other : goal.decreases-look_at_other
-decreases-look_at_other g l = 8 * l.sight.now.left + 5
+decreases-look_at_other g l = 8 * l.sight.now.left + 6
 
 abbrev pub decreases-look_at_either : goal.decreases-look_at_either
 decreases-look_at_either g l = 8 * l.sight.now.left + 5
@@ -60,13 +60,16 @@ abbrev pub decreases-look_at_turn : goal.decreases-look_at_turn
 decreases-look_at_turn g l = 8 * l.sight.now.left + 1
 
 abbrev pub decreases-look_at_count : goal.decreases-look_at_count
-decreases-look_at_count g l = 8 * l.sight.now.left + 4
+decreases-look_at_count g l = 8 * l.sight.now.left + 5
 
 abbrev pub decreases-look_ahead : goal.decreases-look_ahead
 decreases-look_ahead g l = 8 * l.sight.now.left + 3
 
 abbrev pub decreases-look_at_greedy : goal.decreases-look_at_greedy
-decreases-look_at_greedy g l = 8 * l.sight.now.left + 3
+decreases-look_at_greedy g l = 8 * l.sight.now.left + 4
+
+abbrev pub decreases-look_at_runs : goal.decreases-look_at_runs
+decreases-look_at_runs g l = 8 * l.sight.now.left + 3
 
 abbrev pub decreases-look_at_lazy : goal.decreases-look_at_lazy
 decreases-look_at_lazy g l = 8 * l.sight.now.left + 3
