@@ -128,18 +128,19 @@ pub fn number_line(sets: &Sets, line: &[char], numbers: &mut Vec<u16>) -> Result
         (λ _. AreNumbers sets.now line.now (length line.now + 1) numbers.new.items) }
 {
     numbers.clear();
+    numbers.reserve(line.len() + 1)?;
     let mut last = Last::Nothing;
     for col in 0..line.len() {
         let next = next_at(sets, line, col);
         let key = Key { next, last };
-        numbers.push(key.number())?;
+        numbers.push_reserved(key.number());
         last = last_of(is_keyword(sets, next));
     }
     let end = Key {
         next: Next::LineEnd,
         last,
     };
-    numbers.push(end.number())?;
+    numbers.push_reserved(end.number());
     Ok(())
 }
 

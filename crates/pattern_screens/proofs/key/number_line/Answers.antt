@@ -11,7 +11,9 @@ loop-col-preserved c =
     c.number.ensures.is ∙ (λ i. record { next = c.next_at-next.ensures i; last = c.loop-col.invariant.last i }) in
     record {
       last = c.last_of-last.ensures ∙ ap last_of (c.is_keyword.ensures ∙ ap (is_keyword sets) c.next_at-next.ensures) ∙ sym (last-after sets line col);
-      numbers = subst (AreNumbers sets line (col + 1)) (sym c.in_ok-push.ensures.items) (one-more-number sets line col c.loop-col.numbers.items c.number.result c.loop-col.invariant.numbers c.number.ensures.below is);
+      numbers = subst (AreNumbers sets line (col + 1)) (sym c.push_reserved.ensures.items) (one-more-number sets line col c.loop-col.numbers.items c.number.result c.loop-col.invariant.numbers c.number.ensures.below is);
+      count = omega (arith, c.push_reserved.ensures.len, c.loop-col.invariant.count);
+      room = omega (arith, c.push_reserved.ensures.capacity, c.loop-col.invariant.room);
     }
 
 pub returns : goal.returns
@@ -23,4 +25,4 @@ returns c =
     let last : c.loop-col.last ≡ last_in sets line (length line) = c.loop-col.invariant.last ∙ ap (last_in sets line) at in
     let is : key_numbered c.number-2.result ≡ key_of sets line (length line) =
     c.number-2.ensures.is ∙ (λ i. record { next = sym (end-key sets line) i; last = last i }) in
-    subst (AreNumbers sets line (length line + 1)) (sym c.in_ok-push-2.ensures.items) (one-more-number sets line (length line) c.loop-col.numbers.items c.number-2.result before c.number-2.ensures.below is)
+    subst (AreNumbers sets line (length line + 1)) (sym c.push_reserved-2.ensures.items) (one-more-number sets line (length line) c.loop-col.numbers.items c.number-2.result before c.number-2.ensures.below is)
