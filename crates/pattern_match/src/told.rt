@@ -47,6 +47,7 @@ impl Fit {
 }
 
 /// What a character tells of an atom, by whether it is the first of its line.
+#[inline(always)]
 pub(crate) fn fit_of(test: &Test, c: char, at_start: bool, context: &Context<'_>) -> Fit
     ensures { IsFit context.now (atom_of test.now) c at_start result }
 {
