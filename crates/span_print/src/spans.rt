@@ -65,14 +65,14 @@ fn print_span(
         ++ span_text groups.now links.now number span.now) }
 {
     push_number(out, number + 1)?;
-    push_bytes(out, b":")?;
+    out.push(b':')?;
     push_number(out, span.first + 1)?;
-    push_bytes(out, b"-")?;
+    out.push(b'-')?;
     push_number(out, span.last + 1)?;
-    push_bytes(out, b" ")?;
+    out.push(b' ')?;
     push_bytes(out, groups.name(span.group).as_bytes())?;
-    push_bytes(out, b" ")?;
+    out.push(b' ')?;
     push_bytes(out, groups.name(links.final_group(span.group)).as_bytes())?;
-    push_bytes(out, b"\n")?;
+    out.push(b'\n')?;
     Ok(())
 }
