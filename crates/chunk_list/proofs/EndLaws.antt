@@ -34,7 +34,7 @@ get-left [] ys i within = absurd (omega arith)
 get-left (x ∷ xs) ys zero within = refl
 get-left (x ∷ xs) ys (suc i) within = get-left xs ys i (omega arith)
 
-get-right : {X : Type 0} (xs ys : List X) (i j : ℕ) → i ≡ length xs + j → slice_get (xs ++ ys) i ≡ slice_get ys j
+pub get-right : {X : Type 0} (xs ys : List X) (i j : ℕ) → i ≡ length xs + j → slice_get (xs ++ ys) i ≡ slice_get ys j
 get-right [] ys i j e = let f : i ≡ j = omega arith in ap (slice_get ys) f
 get-right (x ∷ xs) ys zero j e = absurd (omega arith)
 get-right (x ∷ xs) ys (suc i) j e = get-right xs ys i j (omega arith)

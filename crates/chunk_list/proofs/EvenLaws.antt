@@ -5,10 +5,10 @@ use Rattle.std.proofs.lemmas.Bool.{cases_eq, eq-eqb, ne_eqb}
 use Rattle.chunk_list.specs.Flat.{even_of, flat}
 use Rattle.chunk_list.proofs.EndLaws.{drop_here, element_is}
 
-even_full : {X : Type 0} (c : List X) (cs : List (List X)) → length c ≡ 512 → even_of (c ∷ cs) ≡ 512 + even_of cs
+pub even_full : {X : Type 0} (c : List X) (cs : List (List X)) → length c ≡ 512 → even_of (c ∷ cs) ≡ 512 + even_of cs
 even_full c cs full = ap (λ (b : Bool). cond b (512 + even_of cs) (min 512 (length c))) (eq-eqb (length c) 512 full)
 
-even_open : {X : Type 0} (c : List X) (cs : List (List X)) → (length c ≡ 512 → ⊥) → even_of (c ∷ cs) ≡ min 512 (length c)
+pub even_open : {X : Type 0} (c : List X) (cs : List (List X)) → (length c ≡ 512 → ⊥) → even_of (c ∷ cs) ≡ min 512 (length c)
 even_open c cs other = ap (λ (b : Bool). cond b (512 + even_of cs) (min 512 (length c))) (ne_eqb (length c) 512 other)
 
 -- the chunks from one on, which is full

@@ -44,6 +44,11 @@ pub record Holds (ends : List ℕ) (at i : ℕ) : Type 0 where
   pub from : start_in ends i ≤ at
   pub to : at < slice_index ends i
 
+-- there is a last chunk, and it has room for one more element
+pub record HasRoom {X : Type 0} (cs : List (List X)) : Type 0 where
+  pub some : 0 < length cs
+  pub room : (front : List (List X)) (last : List X) → cs ≡ front ++ last ∷ [] → length last < 512
+
 -- an element was put into the open chunk; or this one was full, went behind the others, and the element
 -- is the first of a new one, of which there were so many
 abbrev pub IsPut : {X : Type 0} → X → List (List X) → ℕ → List X → List (List X) → ℕ → List X → Type 0

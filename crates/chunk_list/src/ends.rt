@@ -1,6 +1,6 @@
 //! Where chunks end in the list that they are: the chunk of an element is found by halving.
-ghost use Rattle.std.specs.Prelude.{◌≡◌, ◌+◌, ◌<◌, ◌≤◌, ◌-◌, ◌^◌, length, slice_index, vec_capacity, vec_len};
-ghost use Rattle.chunk_list.specs.Flat.{Holds, ends_from, even_of, flat, start_in};
+ghost use Rattle.std.specs.Prelude.{◌≡◌, ◌+◌, ◌<◌, ◌≤◌, ◌-◌, ◌^◌, ◌∷◌, ◌++◌, [], IsTrue, length, slice_index, vec_capacity, vec_len};
+ghost use Rattle.chunk_list.specs.Flat.{HasRoom, Holds, ends_from, even_of, flat, start_in};
 
 use crate::chunk::{Chunk, MOST};
 
@@ -33,6 +33,49 @@ pub(crate) fn even_count<T>(chunks: &Vec<Chunk<T>>) -> usize
         }
     }
     count
+}
+
+/// Whether the last chunk has room for one more element.
+pub(crate) fn has_room<T>(chunks: &Vec<Chunk<T>>) -> bool
+    ensures { IsTrue result → HasRoom chunks.now.items }
+{
+    match chunks.last() {
+        Some(chunk) => chunk.len() < MOST,
+        None => false,
+    }
+}
+
+/// Puts an element into the last chunk, which has room for it. The answer is how many elements stand
+/// then as if all chunks were full.
+pub(crate) fn push_last<T: Drop>(
+    chunks: &mut Vec<Chunk<T>>,
+    ends: &mut Vec<usize>,
+    even: usize,
+    x: T,
+) -> usize
+    requires room { HasRoom chunks.old.items }
+    requires few { length (flat chunks.old.items) + 1 < 2 ^ 32 }
+    requires ends { ends.old.items ≡ ends_from 0 chunks.old.items }
+    requires even { even ≡ even_of chunks.old.items }
+    ensures list { flat chunks.new.items ≡ flat chunks.old.items ++ x ∷ [] }
+    ensures ends { ends.new.items ≡ ends_from 0 chunks.new.items }
+    ensures even { result ≡ even_of chunks.new.items }
+    ensures chunks { (vec_len chunks.new ≡ vec_len chunks.old)
+        × (vec_capacity chunks.new ≡ vec_capacity chunks.old) }
+    ensures ends_room { (vec_len ends.new ≡ vec_len ends.old)
+        × (vec_capacity ends.new ≡ vec_capacity ends.old) }
+{
+    let mut chunk = chunks.take_last();
+    let end = ends.take_last();
+    let are_full = end - chunk.len() == chunks.len().saturating_mul(MOST);
+    chunk.push(x);
+    chunks.push_reserved(chunk);
+    ends.push_reserved(end + 1);
+    if are_full && even == end {
+        even + 1
+    } else {
+        even
+    }
 }
 
 /// Where chunk `i` begins.

@@ -1,10 +1,10 @@
 //! The list.
-ghost use Rattle.std.specs.Prelude.{◌≡◌, ◌+◌, ◌*◌, ◌-◌, ◌<◌, ◌≤◌, ◌^◌, [], length, set, slice_get, vec_capacity, vec_len, Some, IfOk, OnOk, OnErr};
+ghost use Rattle.std.specs.Prelude.{◌≡◌, ◌+◌, ◌*◌, ◌-◌, ◌<◌, ◌≤◌, ◌^◌, [], ◌∷◌, ◌++◌, length, set, slice_get, vec_capacity, vec_len, Some, IfOk, OnOk, OnErr};
 ghost use Rattle.chunk_list.specs.Replaced.{replaced};
 
 use crate::chunk::{Chunk, MOST};
 use crate::chunks::{join_at, put_in, take_out};
-use crate::ends::{chunk_of, even_count, note_ends, start_of};
+use crate::ends::{chunk_of, even_count, has_room, note_ends, push_last, start_of};
 use std::alloc::Global;
 use std::marker::Model;
 use syn_base::{List, Memory};
@@ -121,6 +121,27 @@ impl<T: Drop> ChunkList<T> {
         let chunk = chunk_of(&self.ends, i);
         let start = start_of(&self.ends, chunk);
         self.chunks[chunk].set(i - start, x);
+    }
+
+    /// Puts an element at the end.
+    pub fn push(&mut self, x: T) -> Result<(), Memory>
+        requires { length self.old.0 + 1 < 2 ^ 32 }
+        ensures list { OnOk result (self.new.0 ≡ self.old.0 ++ x ∷ []) }
+        ensures refused { OnErr result (self.new ≡ self.old) }
+    {
+        if has_room(&self.chunks) {
+            self.even = push_last(&mut self.chunks, &mut self.ends, self.even, x);
+            return Ok(());
+        }
+        let chunk = Chunk::new(self.alloc)?;
+        self.chunks.reserve(1)?;
+        self.ends.reserve(1)?;
+        let end = self.len();
+        self.chunks.push_reserved(chunk);
+        self.ends.push_reserved(end);
+        self.even = push_last(&mut self.chunks, &mut self.ends, self.even, x);
+        self.spare = 0;
+        Ok(())
     }
 
     /// Elements `a` to `b - 1` become `new`. It takes no memory: the room was made before.
