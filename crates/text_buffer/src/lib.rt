@@ -96,9 +96,8 @@ impl Text {
         // The line of a fault is at most the one that is one too many.
         ensures near { IfErr result (λ fault. line_of_fault fault ≤ most_lines) }
     {
-        let lines = reading::read_lines(alloc, bytes)?;
         Ok(Text {
-            lines: ChunkList::from_list(alloc, List::from_vec(lines))?,
+            lines: reading::read_lines(alloc, bytes)?,
         })
     }
 

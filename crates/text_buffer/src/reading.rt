@@ -1,24 +1,25 @@
 //! Bytes to lines.
-ghost use Rattle.std.specs.Prelude.{◌≡◌, ◌≢◌, ◌<◌, ◌≤◌, ◌+◌, ◌++◌, [], ◌∷◌, Ok, Err, None, Some, IfOk, IfErr, drop, length, slice_range, vec_len};
+ghost use Rattle.std.specs.Prelude.{◌≡◌, ◌≢◌, ◌<◌, ◌≤◌, ◌+◌, ◌++◌, [], ◌∷◌, Ok, Err, None, Some, IfOk, IfErr, drop, length, slice_range};
 ghost use Rattle.std.specs.Str.{IsAscii, chars};
 ghost use Rattle.text_buffer.specs.Reading.{lines_after, read_on};
 ghost use Rattle.text_buffer.specs.TextOfBytes.{byte_lines, line_fault, line_of, line_of_fault, most_lines, numbered, text_of};
 
 use super::{LINE_BREAK, Line, LineFault, MOST_CHARS, MOST_LINES, TextError};
+use chunk_list::ChunkList;
 use memchr::memchr;
 use std::alloc::Global;
 use syn_base::{List, Memory};
 
 /// The lines of the bytes.
-pub(super) fn read_lines(alloc: Global, bytes: &[u8]) -> Result<Vec<Line>, TextError>
-    ensures lines { IfOk result (λ lines. text_of bytes.now ≡ Ok lines.items) }
-    ensures some { IfOk result (λ lines. 0 < vec_len lines) }
-    ensures few { IfOk result (λ lines. vec_len lines ≤ most_lines) }
+pub(super) fn read_lines(alloc: Global, bytes: &[u8]) -> Result<ChunkList<Line>, TextError>
+    ensures lines { IfOk result (λ lines. text_of bytes.now ≡ Ok lines.0) }
+    ensures some { IfOk result (λ lines. 0 < length lines.0) }
+    ensures few { IfOk result (λ lines. length lines.0 ≤ most_lines) }
     ensures fault { IfErr result (λ fault. fault ≢ TextError.Memory
         → text_of bytes.now ≡ Err fault) }
     ensures near { IfErr result (λ fault. line_of_fault fault ≤ most_lines) }
 {
-    let mut lines = Vec::new(alloc);
+    let mut lines = ChunkList::new(alloc);
     let mut at = push_line(alloc, &mut lines, bytes, 0)?;
     while at < bytes.len() {
         at = push_line(alloc, &mut lines, bytes, at)?;
@@ -45,19 +46,19 @@ pub fn line_end(bytes: &[u8], at: usize) -> usize
 /// break.
 fn push_line(
     alloc: Global,
-    lines: &mut Vec<Line>,
+    lines: &mut ChunkList<Line>,
     bytes: &[u8],
     at: usize,
 ) -> Result<usize, TextError>
     requires within { at ≤ length bytes.now }
-    requires few { vec_len lines.old ≤ most_lines }
+    requires few { length lines.old.0 ≤ most_lines }
     ensures further { IfOk result (λ next. at < next) }
-    ensures read { IfOk result (λ next. read_on lines.old.items (byte_lines (drop at bytes.now))
-        ≡ read_on lines.new.items (lines_after bytes.now next)) }
-    ensures some { IfOk result (λ _. 0 < vec_len lines.new) }
-    ensures few { IfOk result (λ _. vec_len lines.new ≤ most_lines) }
+    ensures read { IfOk result (λ next. read_on lines.old.0 (byte_lines (drop at bytes.now))
+        ≡ read_on lines.new.0 (lines_after bytes.now next)) }
+    ensures some { IfOk result (λ _. 0 < length lines.new.0) }
+    ensures few { IfOk result (λ _. length lines.new.0 ≤ most_lines) }
     ensures fault { IfErr result (λ fault. fault ≢ TextError.Memory
-        → read_on lines.old.items (byte_lines (drop at bytes.now)) ≡ Err fault) }
+        → read_on lines.old.0 (byte_lines (drop at bytes.now)) ≡ Err fault) }
     ensures near { IfErr result (λ fault. line_of_fault fault ≤ most_lines) }
 {
     let end = line_end(bytes, at);

@@ -8,6 +8,6 @@ use Rattle.text_buffer.proofs.reading.push_line.Goals as goal
 pub returns-clause-read : goal.returns-clause-read
 returns-clause-read c =
     let line = slice_range c.args.bytes.now c.args.at c.line_end-end.result in
-    let count : c.len.result ≡ length c.args.lines.now.items = grind (arith, common_steps) in
+    let count : c.len.result ≡ length c.args.lines.now.0 = c.len.ensures.count in
     let coming = lines_after c.args.bytes.now (c.line_end-end.result + 1) in
-    rw (c.line_end-end.ensures.lines, c.in_ok-push.ensures.items, c.in_ok-line.ensures.line) (read_further c.args.lines.now.items line coming (rw (← count) c.in_ok-line.ensures.faultless))
+    rw (c.line_end-end.ensures.lines, c.in_ok-push.ensures.list, c.in_ok-line.ensures.line) (read_further c.args.lines.now.0 line coming (rw (← count) c.in_ok-line.ensures.faultless))
