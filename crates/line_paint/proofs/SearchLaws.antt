@@ -122,6 +122,13 @@ module _ (h : Here) (c : ℕ) (popped : Frame) (below : List Frame) (item : Item
       (subst (λ (frames : Option (List Frame)). P (exposed_anew h c false (frames_or below frames))) (sym none)
       (subst P (exposed_searches h c below) a)))
 
+-- where no frames are to search over a `keepend`, all stay
+pub none_wanted : (h : Here) (c : ℕ) (below : List Frame) (wanted : Bool) (j : Looked) → wanted ≡ false →
+    AnewComes below (Ok (record { frames = None; over = false })) j j (anew_if h c wanted below)
+none_wanted h c below wanted j e =
+    subst (λ (b : Bool). AnewComes below (Ok (record { frames = None; over = false })) j j (anew_if h c b below))
+    (sym e) (refl, refl)
+
 -- the rules of frames under a top of this item, as the code goes on from those below it
 module _ (h : Here) (top : Frame) (below : List Frame) (item : Item)
     (same : item ≡ item_of h.rules.items top.item) where

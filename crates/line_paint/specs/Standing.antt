@@ -1,5 +1,6 @@
 -- Frames that are made anew: they stay of their items. Stacks stand with the top first.
 use Rattle.std.specs.Prelude.{List, Option, Some, None, Result, length, map, reverse}
+use Rattle.std.specs.Option.{option_map}
 use Rattle.syn_base.specs.declared.looked.Looked.{Looked}
 use Rattle.syn_base.specs.declared.places.ItemId.{ItemId}
 use Rattle.paint_rules.specs.Frames.{Frame}
@@ -24,9 +25,9 @@ abbrev pub items_of : List Frame → List ItemId
 items_of frames = map (λ f. f.item) frames
 
 -- a call answers what a frame becomes, or what the frames of a stack do
-abbrev pub FrameComes : Frame → Result (Option Frame) Stop → Looked → Looked →
-    Painted Cause Frame → Type 0
-FrameComes f = ComesOf (frame_or f) (λ f. f.item) f.item
+abbrev pub FrameComes : {A : Type 0} → (A → Frame) → Frame → Result (Option A) Stop → Looked →
+    Looked → Painted Cause Frame → Type 0
+FrameComes value f = ComesOf (λ a. frame_or f (option_map value a)) (λ f. f.item) f.item
 
 abbrev pub FramesCome : List Frame → Result (Option (List Frame)) Stop → Looked → Looked →
     Painted Cause (List Frame) → Type 0

@@ -187,6 +187,9 @@ pub(crate) fn frames_after<S: Site>(
     ensures memory { S.stands site.now memory.new }
 {
     let wanted = may_search(site, site.item(popped.item).extend, below);
+    if !wanted {
+        return top_searched(site, memory, Occasion::Exposed(c), below, None, looked);
+    }
     let anew = anew_over_keepend(site, memory, c, wanted, below, looked)?;
     if anew.over {
         return Ok(anew.frames);

@@ -1,5 +1,6 @@
 //! The searches of frames for their ends.
 ghost use Rattle.std.specs.Prelude.{◌≡◌, ◌<◌, IfOk, IsTrue, None, Some, length, true};
+ghost use Rattle.std.specs.Option.{option_map};
 ghost use Rattle.line_paint.specs.Common.{is_region, is_region_body, with_end, SameEnds, search_col, is_open, line_end_if, search_column, searched, searched_from, searched_on, FrameComes, frame_or};
 
 use crate::spots::spot_of;
@@ -11,29 +12,27 @@ use state_stack::Frame;
 use syn_base::{Looked, Memory};
 use syntax_set::ItemKind;
 
-/// A frame with the end that its search found, or with none.
-pub(crate) fn with_end<S: Site>(site: &S, frame: Frame, found: Option<RegionEnd>) -> Frame
-    requires { (frame.item).0 < length (S.here site.now).rules.items }
-    ensures { result ≡ with_end (S.here site.now) frame found }
+/// Puts to a frame the end that its search found, or none.
+pub(crate) fn put_end<S: Site>(site: &S, frame: &mut Frame, found: Option<RegionEnd>)
+    requires { (frame.old.item).0 < length (S.here site.now).rules.items }
+    ensures { frame.new ≡ with_end (S.here site.now) frame.old found }
 {
-    let mut searched = frame;
     match found {
         Some(e) => {
-            searched.known_end = Some(spot_of(site, e.end));
-            searched.high_to = Some(spot_of(site, e.high_to));
-            searched.area_end = e.area_end.map(|place| spot_of(site, place));
-            searched.area_high = e.area_high.map(|place| spot_of(site, place));
-            searched.area_shows = e.area_shows;
+            frame.known_end = Some(spot_of(site, e.end));
+            frame.high_to = Some(spot_of(site, e.high_to));
+            frame.area_end = e.area_end.map(|place| spot_of(site, place));
+            frame.area_high = e.area_high.map(|place| spot_of(site, place));
+            frame.area_shows = e.area_shows;
         }
         None => {
-            searched.known_end = line_end_if(site, site.item(searched.item).oneline);
-            searched.high_to = None;
-            searched.area_end = None;
-            searched.area_high = None;
-            searched.area_shows = None;
+            frame.known_end = line_end_if(site, site.item(frame.item).oneline);
+            frame.high_to = None;
+            frame.area_end = None;
+            frame.area_high = None;
+            frame.area_shows = None;
         }
     }
-    searched
 }
 
 fn line_end_if<S: Site>(site: &S, wanted: bool) -> Option<Spot>
@@ -107,16 +106,18 @@ fn ended_anew<S: Site>(
     site: &S,
     frame: &Frame,
     found: Option<RegionEnd>,
-) -> Result<Option<Frame>, Memory>
+) -> Result<Option<Box<Frame>>, Memory>
     requires { (frame.now.item).0 < length (S.here site.now).rules.items }
     ensures { IfOk result
-        (λ f. frame_or frame.now f ≡ with_end (S.here site.now) frame.now found) }
+        (λ f. frame_or frame.now (option_map (λ b. b.value) f)
+        ≡ with_end (S.here site.now) frame.now found) }
 {
     if has_end(site, frame, found) {
         return Ok(None);
     }
-    let anew = frame.copied()?;
-    Ok(Some(with_end(site, anew, found)))
+    let mut anew = frame.copied()?;
+    put_end(site, &mut anew, found);
+    Ok(Some(Box::new(site.alloc(), anew)?))
 }
 
 /// On which occasion a frame may search its end.
@@ -182,11 +183,11 @@ fn searched_at<S: Site>(
     frame: &Frame,
     c: usize,
     looked: &mut Looked,
-) -> Result<Option<Frame>, Stop>
+) -> Result<Option<Box<Frame>>, Stop>
     requires memory { S.stands site.now memory.old }
     requires is_item { (frame.now.item).0 < length (S.here site.now).rules.items }
     requires is_region { is_region_body (S.here site.now).rules frame.now ≡ true }
-    ensures comes { FrameComes frame.now result looked.old looked.new
+    ensures comes { FrameComes (λ b. b.value) frame.now result looked.old looked.new
         (searched (S.here site.now) frame.now c) }
     ensures memory { S.stands site.now memory.new }
 {
@@ -211,10 +212,10 @@ fn searched_from<S: Site>(
     frame: &Frame,
     from: Option<usize>,
     looked: &mut Looked,
-) -> Result<Option<Frame>, Stop>
+) -> Result<Option<Box<Frame>>, Stop>
     requires memory { S.stands site.now memory.old }
     requires is_item { (frame.now.item).0 < length (S.here site.now).rules.items }
-    ensures comes { FrameComes frame.now result looked.old looked.new
+    ensures comes { FrameComes (λ b. b.value) frame.now result looked.old looked.new
         (searched_from (S.here site.now) frame.now from) }
     ensures memory { S.stands site.now memory.new }
 {
@@ -231,10 +232,10 @@ pub(crate) fn searched<S: Site>(
     frame: &Frame,
     on: Occasion,
     looked: &mut Looked,
-) -> Result<Option<Frame>, Stop>
+) -> Result<Option<Box<Frame>>, Stop>
     requires memory { S.stands site.now memory.old }
     requires is_item { (frame.now.item).0 < length (S.here site.now).rules.items }
-    ensures comes { FrameComes frame.now result looked.old looked.new
+    ensures comes { FrameComes (λ b. b.value) frame.now result looked.old looked.new
         (searched_on (S.here site.now) on frame.now) }
     ensures memory { S.stands site.now memory.new }
 {

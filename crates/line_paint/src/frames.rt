@@ -1,5 +1,6 @@
 //! Stacks of which some frames were made anew.
 ghost use Rattle.std.specs.Prelude.{◌≡◌, ◌<◌, ◌∷◌, length, reverse, IfOk, None};
+ghost use Rattle.std.specs.Option.{option_map};
 ghost use Rattle.line_paint.specs.Common.{top_searched, FramesCome, MaySearch, frame_or, frames_or, rest_or, items_of};
 
 use crate::ends::{Occasion, searched};
@@ -25,24 +26,25 @@ fn remade(
     alloc: Global,
     top: &Frame,
     below: &Stack,
-    frame: Option<Frame>,
+    frame: Option<Box<Frame>>,
     rest: Option<Stack>,
 ) -> Result<Option<Stack>, Memory>
     requires room { length below.now < 1000 }
     requires items { items_of (frames_or (reverse below.now) rest) ≡ items_of (reverse below.now) }
     ensures { IfOk result
         (λ s. frames_or (top.now ∷ reverse below.now) s
-        ≡ frame_or top.now frame ∷ frames_or (reverse below.now) rest) }
+        ≡ frame_or top.now (option_map (λ b. b.value) frame)
+        ∷ frames_or (reverse below.now) rest) }
 {
     match rest {
         None => match frame {
             None => Ok(None),
-            Some(frame) => Ok(Some(below.with_top(alloc, frame)?)),
+            Some(frame) => Ok(Some(below.with_top(alloc, Box::into_inner(frame))?)),
         },
         Some(rest) => {
             let frame = match frame {
                 None => top.copied()?,
-                Some(frame) => frame,
+                Some(frame) => Box::into_inner(frame),
             };
             Ok(Some(rest.with_top(alloc, frame)?))
         }

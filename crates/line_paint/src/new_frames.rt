@@ -2,7 +2,7 @@
 ghost use Rattle.std.specs.Prelude.{◌≡◌, ◌<◌, ◌∷◌, length, reverse, IfOk};
 ghost use Rattle.line_paint.specs.Common.{word_frame, between, match_frame, body_from, body_high, body_frame, area_frame, body_with_end, pushed, Gives, plain_frame, place_at, no_externals};
 
-use crate::ends::with_end;
+use crate::ends::put_end;
 use crate::spots::spot_of;
 use crate::{Site, Stop};
 use paint_rules::{Part, RegionEnd, Spot, Which};
@@ -204,6 +204,10 @@ pub(crate) fn body_ended<S: Site>(
 {
     match end {
         None => Ok(body),
-        Some(_) => Ok(with_end(site, body, end)),
+        Some(_) => {
+            let mut ended = body;
+            put_end(site, &mut ended, end);
+            Ok(ended)
+        }
     }
 }

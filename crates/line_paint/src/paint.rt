@@ -79,20 +79,13 @@ fn columns<S: Site>(
         let stretch = shown_from(site, c, &standing.state.stack);
         let next = c + 1;
         spans.show(c, next, stretch.group)?;
-        forget_tried(site.alloc(), standing);
+        standing.forget_tried(site.alloc());
         let to = quiet_until(site, memory, next, standing)?;
         show_quiet(site, standing, &mut spans, stretch, next, to)?;
         c = to;
     }
     standing.column(site, memory, c)?;
     Ok(spans.finish()?)
-}
-
-/// The next column has tried no item yet.
-fn forget_tried(alloc: Global, standing: &mut Standing)
-    ensures { standing.new ≡ record standing.old { tried = [] } }
-{
-    standing.tried = List::new(alloc);
 }
 
 /// The characters of quiet columns, which show what stands open and change nothing else.

@@ -104,6 +104,7 @@ impl<T: Lines> Site for Painting<'_, T> {
         memory.pick(&self.query(c, at))
     }
 
+    #[inline(never)]
     fn starts_from(&self, memory: &mut PickMemory, c: usize, end: usize, at: &Standing) -> UpTo {
         memory.quiet_until(&self.query(c, at), end)
     }

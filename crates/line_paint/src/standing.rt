@@ -1,6 +1,6 @@
 //! What the painting of a line carries along, and its turns at a column: close, and then start what a
 //! pick finds, until a pick starts nothing.
-ghost use Rattle.std.specs.Prelude.{◌≡◌, ℕ, length, reverse, IfOk, Some, suc};
+ghost use Rattle.std.specs.Prelude.{◌≡◌, ℕ, [], length, reverse, IfOk, Some, suc};
 ghost use Rattle.std.specs.Option.{option_map};
 ghost use Rattle.line_paint.specs.Common.{IsPicked, looked_first, picked, stale, WaitFits, at_col, turns, column, close_once, closed, closing, closing_on, standing_of, Stands, IsAt, Leads, LeadsAt, LeadsOn, LeadsNext, next_start, turn};
 
@@ -14,6 +14,8 @@ use crate::{PaintError, Site, Stop};
 use item_pick::{PickMemory, Picked};
 use paint_rules::{Spot, Waiting};
 use state_stack::State;
+use std::alloc::Global;
+use std::mem;
 use syn_base::{ItemId, List, Looked};
 
 /// What the painting of a line carries along: the state, the column of the last start or close, the
@@ -184,6 +186,15 @@ impl Standing {
         Ok(())
     }
 
+    /// No item has started at this place yet. The list keeps its room.
+    pub(crate) fn forget_tried(&mut self, alloc: Global)
+        ensures { self.new ≡ record self.old { tried = [] } }
+    {
+        if !self.tried.is_empty() {
+            self.tried = emptied(mem::replace(&mut self.tried, List::new(alloc)));
+        }
+    }
+
     /// What closes and starts at a column.
     #[tactic(auto, using(crate::proofs::LineLaws::at_fails, crate::proofs::LineLaws::at_leads))]
     pub(crate) fn column<S: Site>(
@@ -199,13 +210,22 @@ impl Standing {
         ensures memory { S.stands site.now memory.new }
         ensures stands { IfOk result (λ _. Stands (S.here site.now) c self.new) }
     {
-        self.tried = List::new(site.alloc());
+        self.forget_tried(site.alloc());
         self.state.waiting = stale(self.state.waiting);
         match self.turns(site, memory, c) {
             Ok(()) => Ok(()),
             Err(stop) => Err(at(stop, c)),
         }
     }
+}
+
+/// A list without its elements, which keeps its room.
+fn emptied(list: List<ItemId>) -> List<ItemId>
+    ensures { result ≡ [] }
+{
+    let mut items = list.into_vec();
+    items.clear();
+    List::from_vec(items)
 }
 
 fn stale(waiting: Option<Waiting>) -> Option<Waiting>

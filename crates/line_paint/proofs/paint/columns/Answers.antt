@@ -50,7 +50,7 @@ columns-preserved g c =
           ∙ c.in_ok-show_quiet.ensures)))));
       at = at_later h at c.columns.standing c.column.new.self (at_col at (column h at s)) t
           c.columns.invariant.at c.in_ok-column.ensures.stands c.in_ok-column.ensures.leads
-          c.in_ok-to.to c.forget_tried.new.standing (omega (arith, c.in_ok-to.ensures.from))
+          c.in_ok-to.to c.forget_tried.new.self (omega (arith, c.in_ok-to.ensures.from))
           c.in_ok-to.ensures.to c.forget_tried.ensures;
       memory = c.quiet_until.ensures.memory;
     }
@@ -62,7 +62,7 @@ quiet_until-requires-clause-at g c =
     at_later h at c.columns.standing c.column.new.self
     (at_col at (column h at (standing_of c.columns.standing))) (standing_of c.column.new.self)
     c.columns.invariant.at c.in_ok-column.ensures.stands c.in_ok-column.ensures.leads (at + 1)
-    c.forget_tried.new.standing (omega arith) (omega (arith, c.columns-test.true, c.len-len.ensures))
+    c.forget_tried.new.self (omega arith) (omega (arith, c.columns-test.true, c.len-len.ensures))
     c.forget_tried.ensures
 
 pub quiet_until-requires-clause-none_tried : goal.quiet_until-requires-clause-none_tried
