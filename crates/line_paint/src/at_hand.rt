@@ -1,37 +1,17 @@
-//! A text with one of its lines, and those next to it, at hand.
+//! A text with one of its lines at hand.
 ghost use Rattle.std.specs.Prelude.{◌≡◌, ◌<◌, ◌^◌, length, slice_get, Some};
 
 use std::marker::Model;
 use syn_base::Lines;
 
 /// A text with one of its lines at hand: that line isn't looked up in the text each time that a
-/// character of it is asked for, nor are the lines next to it, where attempts begin and end as well.
+/// character of it is asked for.
 #[derive(Drop)]
 pub(crate) struct AtHand<'a, T: Lines> {
     lines: &'a T,
     count: usize,
     number: usize,
     line: &'a [char],
-    before: Numbered<'a>,
-    behind: Numbered<'a>,
-}
-
-/// A line of a text, and its number.
-#[derive(Clone, Copy)]
-struct Numbered<'a> {
-    number: usize,
-    line: &'a [char],
-}
-
-/// The line with a number.
-fn line_with<T: Lines>(lines: &T, number: usize) -> Numbered<'_>
-    requires { number < length (T.lines lines.now) }
-    ensures { Some result.line.now ≡ slice_get (T.lines lines.now) result.number }
-{
-    Numbered {
-        number,
-        line: lines.line(number),
-    }
 }
 
 impl<'a, T: Lines> Model for AtHand<'a, T> {
@@ -42,9 +22,7 @@ impl<'a, T: Lines> Model for AtHand<'a, T> {
     ghost view = { λ a. T.lines a.lines.now };
 
     ghost invariant = { λ a. (a.count ≡ length (T.lines a.lines.now)) × (0 < a.count)
-        × (a.count < 2 ^ 32) × (Some a.line.now ≡ slice_get (T.lines a.lines.now) a.number)
-        × (Some a.before.line.now ≡ slice_get (T.lines a.lines.now) a.before.number)
-        × (Some a.behind.line.now ≡ slice_get (T.lines a.lines.now) a.behind.number) };
+        × (a.count < 2 ^ 32) × (Some a.line.now ≡ slice_get (T.lines a.lines.now) a.number) };
 }
 
 impl<'a, T: Lines> AtHand<'a, T> {
@@ -53,16 +31,11 @@ impl<'a, T: Lines> AtHand<'a, T> {
         requires { number < length (T.lines lines.now) }
         ensures { result ≡ T.lines lines.now }
     {
-        let count = lines.len();
-        let next = number + 1;
-        let behind = if next < count { next } else { number };
         AtHand {
             lines,
-            count,
+            count: lines.len(),
             number,
             line: lines.line(number),
-            before: line_with(lines, number.saturating_sub(1)),
-            behind: line_with(lines, behind),
         }
     }
 
@@ -72,12 +45,6 @@ impl<'a, T: Lines> AtHand<'a, T> {
         requires { i < length self.now }
         ensures { Some result.now ≡ slice_get self.now i }
     {
-        if i == self.behind.number {
-            return self.behind.line;
-        }
-        if i == self.before.number {
-            return self.before.line;
-        }
         self.lines.line(i)
     }
 }
