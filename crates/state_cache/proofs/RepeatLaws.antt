@@ -1,8 +1,8 @@
 -- Lines that stand in a text more than once.
-use Rattle.std.proofs.Common.{arith, sym, subst, ap, ◌∙◌, ◌≡◌, ◌<◌, ◌≤◌, ◌+◌, ◌-◌, ◌≤ℤ◌, ◌<ℤ◌, ◌+ℤ◌, ◌-ℤ◌, ℕ, ℤ, pos, List, [], ◌∷◌, ◌++◌, zero, suc, length, Some, Ok, true, false, refl}
-use Rattle.std.specs.Prelude.{Option, slice_get, negsuc}
+use Rattle.std.proofs.Common.{arith, sym, subst, ap, ◌∙◌, ◌≡◌, ◌<◌, ◌+◌, ◌-◌, ◌≤ℤ◌, ◌<ℤ◌, ◌+ℤ◌, ◌-ℤ◌, ℕ, ℤ, pos, List, [], ◌∷◌, ◌++◌, zero, suc, length, Some, Ok, true, false}
+use Rattle.std.specs.Prelude.{slice_get, negsuc}
 use Rattle.std.proofs.lemmas.Int.{by_lt_z, ints}
-use Rattle.syn_base.specs.Agreement.{Agree, AgreeAt, or_behind, seen_at}
+use Rattle.syn_base.specs.Agreement.{AgreeAt, or_behind, seen_at}
 use Rattle.syn_base.specs.Looked.{moved_by}
 use Rattle.syn_base.specs.declared.looked.Looked.{Looked}
 use Rattle.match_rules.specs.Ways.{Text}

@@ -1,5 +1,5 @@
 -- Lines that stand in a text more than once.
-use Rattle.std.specs.Prelude.{◌≡◌, ◌<◌, ℕ, pos, ◌-ℤ◌, List, length, slice_get}
+use Rattle.std.specs.Prelude.{◌≡◌, ◌<◌, ℕ, pos, ◌-ℤ◌, length, slice_get}
 use Rattle.syn_base.specs.Agreement.{Agree}
 use Rattle.syn_base.specs.Looked.{moved_by}
 use Rattle.syn_base.specs.declared.looked.Looked.{Looked}

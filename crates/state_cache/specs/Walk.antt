@@ -10,12 +10,12 @@ use Rattle.state_stack.specs.TopFirst.{top_first}
 
 -- all states belong to so many items
 pub record Stands (n : ℕ) (walk : Walk) : Type 0 where
-  pub notes : All (NoteFits n) walk.notes
+  pub notes : All (NoteFits n) walk.notes.0
   pub state : StateFits n (top_first walk.state)
 
 -- one more line stands, and this is its note
 pub record IsNext (expected : Result KeptNote Refusal) (before after : Walk) : Type 0 where
   pub note : KeptNote
   pub noted : expected ≡ Ok note
-  pub notes : after.notes ≡ before.notes ++ note ∷ []
+  pub notes : after.notes.0 ≡ before.notes.0 ++ note ∷ []
   pub state : top_first after.state ≡ next_line note.after

@@ -20,7 +20,7 @@ use crate::change::Changed;
 use crate::commit::{commit, make_room};
 use crate::edit::{Edit, Made};
 use crate::kept::Kept;
-use crate::reach::reach_of;
+use crate::reach::reach_of_text;
 use crate::shown::Exchange;
 use crate::walk::paint_all;
 use chunk_list::ChunkList;
@@ -365,8 +365,7 @@ fn notes_of<L: Ledger>(
     };
     let _lines = text.len();
     let notes = paint_all(&brush, text, memory, steps)?;
-    let reach = reach_of(&notes, Looked::one(0));
-    let notes = ChunkList::from_list(alloc, notes)?;
+    let reach = reach_of_text(&notes);
     Ok(Noted { notes, reach })
 }
 

@@ -5,6 +5,7 @@ ghost use Rattle.state_cache.specs.Reach.{IsWithin, LooksWithin};
 
 use crate::edit::Patch;
 use crate::kept::Kept;
+use chunk_list::ChunkList;
 use paint_reuse::Change;
 use syn_base::{List, Looked};
 
@@ -17,6 +18,17 @@ pub(crate) fn reach_of(notes: &List<Kept>, reach: Looked) -> Looked
     let mut all = reach;
     for note in notes.as_slice() {
         all = all.join(note.looked());
+    }
+    all
+}
+
+/// The same of all lines of a text.
+pub(crate) fn reach_of_text(notes: &ChunkList<Kept>) -> Looked
+    ensures { All (LooksWithin result) notes.now.0 }
+{
+    let mut all = Looked::one(0);
+    for line in 0..notes.len() {
+        all = all.join(notes.get(line).looked());
     }
     all
 }

@@ -1,5 +1,5 @@
 //! The painting of all lines of a text, from the first one on.
-ghost use Rattle.std.specs.Prelude.{◌≡◌, ◌≤◌, ◌<◌, ◌+◌, ◌-◌, ◌∷◌, ◌++◌, ℕ, [], length, IfOk, IfErr, IfSome, OnOk, Ok};
+ghost use Rattle.std.specs.Prelude.{◌≡◌, ◌≤◌, ◌<◌, ◌+◌, ◌-◌, ◌∷◌, ◌++◌, ◌^◌, ℕ, [], length, IfOk, IfErr, IfSome, OnOk, Ok};
 ghost use Rattle.std.specs.List.{All};
 ghost use Rattle.item_pick.specs.Tables.{TablesStand};
 ghost use Rattle.paint_reuse.specs.Kept.{line_note, text_notes};
@@ -17,16 +17,17 @@ use crate::EditError;
 use crate::brush::Brush;
 use crate::kept::Kept;
 use crate::repeat::{LastLines, stands_also};
+use chunk_list::ChunkList;
 use item_pick::PickMemory;
 use state_stack::State;
 use std::alloc::Global;
-use syn_base::{Ledger, Lines, List, Memory, Steps};
+use syn_base::{Ledger, Lines, Memory, Steps};
 
 /// The notes of the lines so far, the state before the line that follows them, and where an equal
 /// line may stand.
 #[derive(Drop)]
 pub(crate) struct Walk {
-    notes: List<Kept>,
+    notes: ChunkList<Kept>,
     state: State,
     last: LastLines,
 }
@@ -37,19 +38,19 @@ pub(crate) fn paint_all<T: Lines, L: Ledger>(
     text: &T,
     memory: &mut PickMemory,
     steps: &mut Steps<L>,
-) -> Result<List<Kept>, EditError>
+) -> Result<ChunkList<Kept>, EditError>
     requires budget { 1 ≤ brush.now.budget }
     requires memory { TablesStand (rules_by brush.now) memory.old }
     ensures notes { IfOk result (λ notes.
-        text_notes (rules_by brush.now) (T.lines text.now) ≡ Ok notes) }
-    ensures fits { IfOk result (All (NoteFits (items_by brush.now))) }
-    ensures count { IfOk result (λ notes. length notes ≡ length (T.lines text.now)) }
+        text_notes (rules_by brush.now) (T.lines text.now) ≡ Ok notes.0) }
+    ensures fits { IfOk result (λ notes. All (NoteFits (items_by brush.now)) notes.0) }
+    ensures count { IfOk result (λ notes. length notes.0 ≡ length (T.lines text.now)) }
     ensures refused { IfErr result (RefusesAs (text_notes (rules_by brush.now) (T.lines text.now))) }
     ensures memory { TablesStand (rules_by brush.now) memory.new }
     ensures steps { steps.new ≤ steps.old + length (T.lines text.now) }
 {
     let mut walk = Walk {
-        notes: List::new(brush.alloc),
+        notes: ChunkList::new(brush.alloc),
         state: State::new(),
         last: LastLines::new(brush.alloc, text.len())?,
     };
@@ -65,16 +66,19 @@ impl Walk {
     fn repeated<T: Lines>(&self, text: &T, line: usize, earlier: Option<usize>) -> Option<&Kept>
         requires present { line < length (T.lines text.now) }
         ensures noted { IfSome result (λ note. (r : Rules) → ArePaintedAlike r →
-            WalksOn r (T.lines text.now) line self.now.notes (top_first self.now.state) →
+            WalksOn r (T.lines text.now) line self.now.notes.0 (top_first self.now.state) →
             line_note r (T.lines text.now) line (top_first self.now.state) ≡ Ok note.now) }
-        ensures fits { IfSome result (λ note. (n : ℕ) → All (NoteFits n) self.now.notes →
+        ensures fits { IfSome result (λ note. (n : ℕ) → All (NoteFits n) self.now.notes.0 →
             NoteFits n note.now) }
     {
         let earlier = earlier?;
         if earlier >= line {
             return None;
         }
-        let note = self.notes.as_slice().get(earlier)?;
+        if earlier >= self.notes.len() {
+            return None;
+        }
+        let note = self.notes.get(earlier);
         if stands_also(text, earlier, line, note.looked())
             && note.state_before().same(&self.state)
         {
@@ -97,7 +101,7 @@ impl Walk {
         requires budget { 1 ≤ brush.now.budget }
         requires present { line < length (T.lines text.now) }
         requires stands { Stands (items_by brush.now) self.now }
-        requires walks { WalksOn (rules_by brush.now) (T.lines text.now) line self.now.notes
+        requires walks { WalksOn (rules_by brush.now) (T.lines text.now) line self.now.notes.0
             (top_first self.now.state) }
         requires memory { TablesStand (rules_by brush.now) memory.old }
         ensures noted { IfOk result (λ note.
@@ -129,8 +133,9 @@ impl Walk {
         requires budget { 1 ≤ brush.now.budget }
         requires present { line < length (T.lines text.now) }
         requires stands { Stands (items_by brush.now) self.old }
-        requires walks { WalksOn (rules_by brush.now) (T.lines text.now) line self.old.notes
+        requires walks { WalksOn (rules_by brush.now) (T.lines text.now) line self.old.notes.0
             (top_first self.old.state) }
+        requires few { length self.old.notes.0 + 1 < 2 ^ 32 }
         requires memory { TablesStand (rules_by brush.now) memory.old }
         ensures painted { OnOk result (IsNext
             (line_note (rules_by brush.now) (T.lines text.now) line (top_first self.old.state))
@@ -149,7 +154,8 @@ impl Walk {
 
     /// Puts the note of a line behind the others, and goes to the next line.
     fn push(&mut self, alloc: Global, note: Kept) -> Result<(), Memory>
-        ensures notes { OnOk result (self.new.notes ≡ self.old.notes ++ note ∷ []) }
+        requires few { length self.old.notes.0 + 1 < 2 ^ 32 }
+        ensures notes { OnOk result (self.new.notes.0 ≡ self.old.notes.0 ++ note ∷ []) }
         ensures state { OnOk result (top_first self.new.state ≡ next_line note.after) }
         ensures fits { OnOk result ((n : _) → NoteFits n note
             → Stands n self.old → Stands n self.new) }

@@ -1,7 +1,6 @@
-use Rattle.std.proofs.Common.{arith, ap, subst, sym, ◌∙◌, ◌≡◌, ◌<◌, ℕ, List, length, slice_get, Some, Ok, refl}
-use Rattle.std.proofs.lemmas.Option.{slice_get_read}
+use Rattle.std.proofs.Common.{arith, ap, subst, sym, ◌∙◌, ◌≡◌, ◌<◌, length, slice_get, Some, Ok}
 use Rattle.paint_rules.specs.States.{State}
-use Rattle.paint_reuse.specs.Kept.{KeptNote, line_note}
+use Rattle.paint_reuse.specs.Kept.{line_note}
 use Rattle.state_stack.specs.TopFirst.{top_first}
 use Rattle.syn_base.specs.declared.looked.Looked.{Looked}
 use Rattle.state_cache.specs.Repeats.{StandsAlso}
@@ -13,12 +12,10 @@ returns-then-same-clause-noted g c r alike walks =
     let t = g.T.Lines.lines c.args.text.now in
     let j = c.in_ok-earlier.earlier in
     let k = c.args.line in
-    let note = c.in_ok-note.note.now in
-    let notes = c.args.self.now.notes in
+    let note = c.get-note.result.now in
+    let notes = c.args.self.now.notes.0 in
     let state = top_first c.args.self.now.state in
-    let there : slice_get notes j ≡ Some note =
-    ap (λ (xs : List KeptNote). slice_get xs j) (sym c.as_slice.ensures)
-    ∙ slice_get_read c.as_slice.result.now (length c.as_slice.result.now) j note refl c.in_ok-note.ensures.lookup.3.0 c.in_ok-note.ensures.lookup.1 in
+    let there : slice_get notes j ≡ Some note = sym c.get-note.ensures in
     let own = made_is r t k notes state walks j note there in
     let on : j < length t = omega (arith, c.if-earlier-line.false, c.requires.present) in
     let also = subst (λ (l : Looked). StandsAlso t j k l) c.looked.ensures (c.stands_also.ensures c.if-stands_also.true) in
