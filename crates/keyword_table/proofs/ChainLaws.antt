@@ -11,7 +11,7 @@ use Rattle.syn_base.specs.declared.places.ItemId.{ItemId}
 use Rattle.keyword_table.specs.Candidates.{candidates, folded, has_fold, has_word, last_first}
 use Rattle.keyword_table.specs.Chains.{definitions, found_like, IsChained, IsTable, items_from, Knows, last_at, last_where, later}
 use Rattle.keyword_table.specs.declared.table.Definition.{Definition}
-use Rattle.keyword_table.specs.declared.table.Entry.{Entry}
+use Rattle.keyword_table.specs.declared.entry.Entry.{Entry}
 
 -- ---- the last place
 
@@ -91,9 +91,9 @@ slice_get-push (z ∷ xs) y (suc k) x e =
     elim (slice_get-push xs y k x e)
     [ inl h ↦ let within = h.0 in inl (omega arith, h.1) | inr h ↦ let at = h.0 in inr (omega arith, h.1) ]
 
-pub definitions-push : (entries : List Entry) (entry : Entry) → definitions (entries ++ entry ∷ []) ≡ definitions entries ++ entry.definition ∷ []
+pub definitions-push : (entries : List Entry) (entry : Entry) → definitions (entries ++ entry ∷ []) ≡ definitions entries ++ entry.definition.value ∷ []
 definitions-push [] entry = refl
-definitions-push (x ∷ entries) entry = ap (λ rest. x.definition ∷ rest) (definitions-push entries entry)
+definitions-push (x ∷ entries) entry = ap (λ rest. x.definition.value ∷ rest) (definitions-push entries entry)
 
 pub length-definitions : (entries : List Entry) → length (definitions entries) ≡ length entries
 length-definitions [] = refl
@@ -144,33 +144,33 @@ items_from-before test alike all k =
 
 -- a chain goes on at the definition that its last one knows
 pub items_from-step : (entries : List Entry) (k : ℕ) (entry : Entry) → IsChained entries → slice_get entries k ≡ Some entry
-    → items_from (definitions entries) (Some k) ≡ entry.definition.item ∷ items_from (definitions entries) entry.earlier
+    → items_from (definitions entries) (Some k) ≡ entry.definition.value.item ∷ items_from (definitions entries) entry.earlier
 items_from-step entries k entry chained at =
-    let here = slice_get-map (λ (e : Entry). e.definition) entries k entry at in
+    let here = slice_get-map (λ (e : Entry). e.definition.value) entries k entry at in
     let earlier = chained k entry at in
-    let before = items_from-before (found_like entry.definition) (found_like-key_test entry.definition) (definitions entries) k in
+    let before = items_from-before (found_like entry.definition.value) (found_like-key_test entry.definition.value) (definitions entries) k in
     rw (here, earlier, before) refl
 
 pub chained-earlier : (entries : List Entry) (k : ℕ) (entry : Entry) → IsChained entries → slice_get entries k ≡ Some entry → ForSome entry.earlier (λ j. j < k)
 chained-earlier entries k entry chained at = λ j e.
-    let last = last_of (found_like entry.definition) (take k (definitions entries)) j (sym (chained k entry at) ∙ e) in
+    let last = last_of (found_like entry.definition.value) (take k (definitions entries)) j (sym (chained k entry at) ∙ e) in
     let within = last.1.within in
     omega (arith, length-take k (definitions entries))
 
-chained_at : (entries : List Entry) (new : Entry) → IsChained entries → new.earlier ≡ last_where (found_like new.definition) (definitions entries)
+chained_at : (entries : List Entry) (new : Entry) → IsChained entries → new.earlier ≡ last_where (found_like new.definition.value) (definitions entries)
     → (k : ℕ) (entry : Entry) → ((k < length entries) × (slice_get entries k ≡ Some entry)) ⊎ ((k ≡ length entries) × (entry ≡ new))
-    → entry.earlier ≡ last_where (found_like entry.definition) (take k (definitions (entries ++ new ∷ [])))
+    → entry.earlier ≡ last_where (found_like entry.definition.value) (take k (definitions (entries ++ new ∷ [])))
 chained_at entries new chained knows k entry (inl h) =
     let at_most : k ≤ length (definitions entries) = let within = h.0 in omega (arith, length-definitions entries) in
-    let front = take-append-le k (definitions entries) (new.definition ∷ []) at_most in
+    let front = take-append-le k (definitions entries) (new.definition.value ∷ []) at_most in
     rw (definitions-push entries new, front) (chained k entry h.1)
 chained_at entries new chained knows k entry (inr h) =
-    let whole = take-append_seam (definitions entries) (new.definition ∷ []) in
+    let whole = take-append_seam (definitions entries) (new.definition.value ∷ []) in
     let here : k ≡ length (definitions entries) = h.0 ∙ sym (length-definitions entries) in
     rw (h.1, definitions-push entries new, here, whole) knows
 
 -- an entry that knows the last definition which is found alike goes on the chains
-pub chained-push : (entries : List Entry) (new : Entry) → IsChained entries → new.earlier ≡ last_where (found_like new.definition) (definitions entries) → IsChained (entries ++ new ∷ [])
+pub chained-push : (entries : List Entry) (new : Entry) → IsChained entries → new.earlier ≡ last_where (found_like new.definition.value) (definitions entries) → IsChained (entries ++ new ∷ [])
 chained-push entries new chained knows = λ k entry at. chained_at entries new chained knows k entry (slice_get-push entries new k entry at)
 
 -- ---- the tables
@@ -188,29 +188,30 @@ module _ {A S : Type 0} (has : List ℕ → Definition → Bool) (all : List Def
   Knows-kept knows none = λ other. rw (last_where-push (has other) all definition, none other, knows other) refl
 
 -- one more entry, for a definition that ignores case or not, whose key was put into its table
-module _ {A S : Type 0} (entries : List Entry) (definition : Definition) (earlier : Option ℕ) (by_word by_fold new : HashMap (Vec ℕ A) ℕ S) (key : List ℕ) (place : ℕ) where
-  pub IsTable-fold : IsTable entries by_word by_fold → place ≡ length entries → definition.ignore ≡ true → key ≡ folded definition.word → earlier ≡ last_at by_fold key
+module _ {A S : Type 0} (entries : List Entry) (added : Entry) (by_word by_fold new : HashMap (Vec ℕ A) ℕ S) (key : List ℕ) (place : ℕ) where
+  abbrev definition : Definition
+  definition = added.definition.value
+
+  pub IsTable-fold : IsTable entries by_word by_fold → place ≡ length entries → definition.ignore ≡ true → key ≡ folded definition.word → added.earlier ≡ last_at by_fold key
       → ((other : List ℕ) → last_at new other ≡ cond (pointwise nat_eq key other) (Some place) (last_at by_fold other))
-      → IsTable (entries ++ record { definition = definition; earlier = earlier } ∷ []) by_word new
+      → IsTable (entries ++ added ∷ []) by_word new
   IsTable-fold table at ignores fold before put =
-      let added : Entry = record { definition = definition; earlier = earlier } in
       let placed : (other : List ℕ) → last_at new other ≡ cond (pointwise nat_eq key other) (Some (length (definitions entries))) (last_at by_fold other) =
       λ other. rw (length-definitions entries, ← at) (put other) in
-      let knows : earlier ≡ last_where (found_like definition) (definitions entries) = rw (ignores, ← fold) (before ∙ table.folds key) in
+      let knows : added.earlier ≡ last_where (found_like definition) (definitions entries) = rw (ignores, ← fold) (before ∙ table.folds key) in
       let words : Knows has_word by_word (definitions entries ++ definition ∷ []) = Knows-kept has_word (definitions entries) definition by_word table.words (λ other. rw ignores refl) in
       let folds : Knows has_fold new (definitions entries ++ definition ∷ []) =
       Knows-put has_fold (definitions entries) definition by_fold new key table.folds (λ other. rw (ignores, fold) refl) placed in
       let pushed = definitions-push entries added in
       record { chained = chained-push entries added table.chained knows; words = rw pushed words; folds = rw pushed folds }
 
-  pub IsTable-word : IsTable entries by_word by_fold → place ≡ length entries → definition.ignore ≡ false → key ≡ definition.word → earlier ≡ last_at by_word key
+  pub IsTable-word : IsTable entries by_word by_fold → place ≡ length entries → definition.ignore ≡ false → key ≡ definition.word → added.earlier ≡ last_at by_word key
       → ((other : List ℕ) → last_at new other ≡ cond (pointwise nat_eq key other) (Some place) (last_at by_word other))
-      → IsTable (entries ++ record { definition = definition; earlier = earlier } ∷ []) new by_fold
+      → IsTable (entries ++ added ∷ []) new by_fold
   IsTable-word table at matches word before put =
-      let added : Entry = record { definition = definition; earlier = earlier } in
       let placed : (other : List ℕ) → last_at new other ≡ cond (pointwise nat_eq key other) (Some (length (definitions entries))) (last_at by_word other) =
       λ other. rw (length-definitions entries, ← at) (put other) in
-      let knows : earlier ≡ last_where (found_like definition) (definitions entries) = rw (matches, ← word) (before ∙ table.words key) in
+      let knows : added.earlier ≡ last_where (found_like definition) (definitions entries) = rw (matches, ← word) (before ∙ table.words key) in
       let words : Knows has_word new (definitions entries ++ definition ∷ []) =
       Knows-put has_word (definitions entries) definition by_word new key table.words (λ other. rw (matches, word) refl) placed in
       let folds : Knows has_fold by_fold (definitions entries ++ definition ∷ []) = Knows-kept has_fold (definitions entries) definition by_fold table.folds (λ other. rw matches refl) in
@@ -225,13 +226,13 @@ smaller_walk at None k is before = rw is (omega arith)
 smaller_walk at (Some j) k is before = let below : j < k = before j refl in rw is (omega arith)
 
 pub walked_on : (entries : List Entry) (at : Option ℕ) (k : ℕ) (entry : Entry) (items pushed whole : List ItemId)
-    → IsChained entries → at ≡ Some k → slice_get entries k ≡ Some entry → pushed ≡ items ++ entry.definition.item ∷ []
+    → IsChained entries → at ≡ Some k → slice_get entries k ≡ Some entry → pushed ≡ items ++ entry.definition.value.item ∷ []
     → items ++ items_from (definitions entries) at ≡ whole → pushed ++ items_from (definitions entries) entry.earlier ≡ whole
 walked_on entries at k entry items pushed whole chained is here push walked =
-    let step : items_from (definitions entries) at ≡ entry.definition.item ∷ items_from (definitions entries) entry.earlier =
+    let step : items_from (definitions entries) at ≡ entry.definition.value.item ∷ items_from (definitions entries) entry.earlier =
     ap (items_from (definitions entries)) is ∙ items_from-step entries k entry chained here in
     ap (λ l. l ++ items_from (definitions entries) entry.earlier) push
-    ∙ append_assoc items (entry.definition.item ∷ []) (items_from (definitions entries) entry.earlier)
+    ∙ append_assoc items (entry.definition.value.item ∷ []) (items_from (definitions entries) entry.earlier)
     ∙ ap (λ l. items ++ l) (sym step) ∙ walked
 
 module _ {A S : Type 0} (entries : List Entry) (by_word by_fold : HashMap (Vec ℕ A) ℕ S) (table : IsTable entries by_word by_fold) where

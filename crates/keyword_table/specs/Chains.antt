@@ -7,7 +7,7 @@ use Rattle.std.specs.declared.vec.Vec.{Vec}
 use Rattle.syn_base.specs.declared.places.ItemId.{ItemId}
 use Rattle.keyword_table.specs.Candidates.{folded, has_fold, has_word, last_first}
 use Rattle.keyword_table.specs.declared.table.Definition.{Definition}
-use Rattle.keyword_table.specs.declared.table.Entry.{Entry}
+use Rattle.keyword_table.specs.declared.entry.Entry.{Entry}
 
 -- the last place that passes, by the last one behind the front and by whether the front passes
 abbrev pub later : Option ℕ → Bool → Option ℕ
@@ -24,12 +24,12 @@ abbrev pub found_like : Definition → Definition → Bool
 found_like definition = if definition.ignore then has_fold (folded definition.word) else has_word definition.word
 
 abbrev pub definitions : List Entry → List Definition
-definitions entries = map (λ entry. entry.definition) entries
+definitions entries = map (λ entry. entry.definition.value) entries
 
 -- each entry knows the last one before it that is found alike
 abbrev pub IsChained : List Entry → Type 0
 IsChained entries = (k : ℕ) (entry : Entry) → slice_get entries k ≡ Some entry
-    → entry.earlier ≡ last_where (found_like entry.definition) (take k (definitions entries))
+    → entry.earlier ≡ last_where (found_like entry.definition.value) (take k (definitions entries))
 
 -- the items of a chain from a place back
 abbrev pub items_at : List Definition → ℕ → Option Definition → List ItemId

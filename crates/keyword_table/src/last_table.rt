@@ -57,8 +57,26 @@ fn is_folded(word: &[char]) -> bool
     word.iter().all(|c| fold_one(*c) == *c)
 }
 
+/// The word with each character folded, in its own place.
+pub(crate) fn folded(word: Vec<char>) -> Vec<char>
+    ensures { result.items ≡ folded word.items }
+{
+    let mut key = word;
+    fold_all(key.as_mut_slice());
+    key
+}
+
+/// Folds each character of a word.
+fn fold_all(word: &mut [char])
+    ensures { word.new ≡ folded word.old }
+{
+    for one in word.iter_mut() {
+        *one = fold_one(*one);
+    }
+}
+
 /// The word with each character folded.
-pub(crate) fn fold_word(alloc: Global, word: &[char]) -> Result<Vec<char>, AllocError>
+fn fold_word(alloc: Global, word: &[char]) -> Result<Vec<char>, AllocError>
     ensures { IfOk result (λ key. key.items ≡ folded word.now) }
 {
     word.iter().map(|c| fold_one(*c)).collect(alloc)

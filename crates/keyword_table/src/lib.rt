@@ -7,6 +7,7 @@
 #![tactic(auto)]
 
 mod abbreviation;
+mod entry;
 mod errors;
 mod last_table;
 mod table;

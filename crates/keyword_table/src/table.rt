@@ -5,10 +5,12 @@ ghost use Rattle.keyword_table.specs.Candidates.{candidates};
 ghost use Rattle.keyword_table.specs.Chains.{definitions, items_from, IsChained};
 
 use crate::KeywordError;
-use crate::last_table::{LastTable, fold_word, last_at, last_at_fold, put_last};
+use crate::entry::Entry;
+use crate::last_table::{LastTable, folded, last_at, last_at_fold, put_last};
 use std::alloc::Global;
 use std::collections::HashMap;
 use std::marker::Model;
+use std::snapshot::Snapshot;
 use syn_base::{ItemId, List, Memory};
 
 /// The most characters that the word of a keyword has.
@@ -23,13 +25,6 @@ pub struct Definition {
     pub item: ItemId,
     /// Whether words that differ in case alone start it too (`:syn-case`).
     pub ignore: bool,
-}
-
-#[derive(Drop)]
-pub(crate) struct Entry {
-    pub(crate) definition: Definition,
-    /// The place of the last definition before this one that is found alike.
-    pub(crate) earlier: Option<usize>,
 }
 
 /// The keywords of a syntax. A contract sees their definitions, in the order in which they were
@@ -80,7 +75,7 @@ impl Keywords {
         ensures { result ≡ option_map (λ definition. definition.item)
             (slice_get self.now number) }
     {
-        Some(self.entries.get(number)?.definition.item)
+        Some(self.entries.get(number)?.item)
     }
 
     /// Adds a definition: the word starts the item, where `ignore` says that case is ignored.
@@ -95,19 +90,17 @@ impl Keywords {
         }
         self.entries.reserve(1)?;
         let place = self.entries.len();
-        let earlier = if ignore {
-            put_last(
-                &mut self.by_fold,
-                fold_word(self.alloc, word.as_slice())?,
-                place,
-            )?
-        } else {
-            let key = Vec::from_slice(self.alloc, word.as_slice())?;
-            put_last(&mut self.by_word, key, place)?
-        };
         let definition = Definition { word, item, ignore };
+        let kept = Snapshot::of(&definition);
+        let word = definition.word.into_vec();
+        let earlier = if ignore {
+            put_last(&mut self.by_fold, folded(word), place)?
+        } else {
+            put_last(&mut self.by_word, word, place)?
+        };
         self.entries.push_reserved(Entry {
-            definition,
+            definition: kept,
+            item,
             earlier,
         });
         Ok(())
@@ -142,7 +135,7 @@ fn push_chain(
     let mut at = last;
     while let Some(k) = at {
         let entry = &entries[k];
-        items.push(entry.definition.item)?;
+        items.push(entry.item)?;
         at = entry.earlier;
     }
     Ok(())

@@ -30,7 +30,7 @@ pub asks_for_none : (t : Test) → ((n : ℕ) → t ≡ test.Ref n → ⊥) → 
 asks_for_none (test.Char c) h k = refl
 asks_for_none (test.Any takes_end) h k = refl
 asks_for_none (test.Is class negative takes_end) h k = refl
-asks_for_none (test.Set ranges) h k = refl
+asks_for_none (test.Set collection) h k = refl
 asks_for_none test.LineEnd h k = refl
 asks_for_none test.LineStart h k = refl
 asks_for_none test.LineStop h k = refl

@@ -7,6 +7,7 @@ use Rattle.pattern_match.specs.StandsFor.{StandsFor}
 use Rattle.pattern_match.specs.Steps.{shape_of}
 
 pub record IsReady (program : Program) : Type 0 where
-  pub numbers : HasNumbers program.tree.node
-  pub stands : StandsFor (shape_of program.step) program.tree.node
-  pub screen : program.screen_cost ≡ first_cost program.tree.node
+  pub numbers : HasNumbers program.tree.value.node
+  pub stands : StandsFor (shape_of program.step) program.tree.value.node
+  pub case : program.case ≡ program.tree.value.case
+  pub screen : program.screen_cost ≡ first_cost program.tree.value.node

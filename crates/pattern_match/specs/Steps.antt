@@ -13,7 +13,7 @@ abbrev pub atom_of : Test → Atom
 atom_of (test.Char c) = atom.Char c
 atom_of (test.Any ends) = atom.Any ends
 atom_of (test.Is class negative ends) = atom.Is class negative ends
-atom_of (test.Set ranges) = atom.Set ranges
+atom_of (test.Set collection) = atom.Set collection.value
 atom_of test.LineEnd = atom.LineEnd
 atom_of test.LineStart = atom.LineStart
 atom_of test.LineStop = atom.LineStop

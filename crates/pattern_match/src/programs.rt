@@ -33,14 +33,16 @@ use crate::ways::Ways;
 use pattern_screens::screen_cost;
 use std::alloc::Global;
 use std::marker::Model;
+use std::snapshot::Snapshot;
 use syn_base::{Lines, Looked, Memory, PatternId, Place};
 use vim_pattern::Tree;
 
-/// A pattern that is ready: its tree, of which contracts speak, and the node that stands for that of
-/// the tree.
+/// A pattern that is ready: its tree, of which contracts alone speak, whether it says of case itself,
+/// and the node that stands for that of the tree.
 #[derive(Drop)]
 struct Program {
-    tree: Tree,
+    tree: Snapshot<Tree>,
+    case: Option<bool>,
     step: Step,
     screen_cost: u64,
 }
@@ -50,15 +52,13 @@ impl Program {
     fn new(alloc: Global, tree: &Tree) -> Result<Program, Memory>
         requires { HasNumbers tree.now.node }
         ensures ready { IfOk result IsReady }
-        ensures tree { IfOk result (λ program. program.tree ≡ tree.now) }
+        ensures tree { IfOk result (λ program. program.tree.value ≡ tree.now) }
     {
-        let step = ready(alloc, &tree.node)?;
-        let screen_cost = screen_cost(tree)?;
-        let tree = tree.copy(alloc)?;
         Ok(Program {
-            tree,
-            step,
-            screen_cost,
+            tree: Snapshot::of(tree),
+            case: tree.case,
+            step: ready(alloc, &tree.node)?,
+            screen_cost: screen_cost(tree)?,
         })
     }
 
@@ -73,12 +73,12 @@ impl Program {
         budget: u64,
     ) -> Result<Attempt, Memory>
         requires place { IsPlaceOf (T.lines lines.now) start }
-        requires numbers { HasNumbers self.now.tree.node }
-        requires stands { StandsFor (shape_of self.now.step) self.now.tree.node }
+        requires numbers { HasNumbers self.now.tree.value.node }
+        requires stands { StandsFor (shape_of self.now.step) self.now.tree.value.node }
         requires budget { 1 ≤ budget }
         ensures { let x = context_in (T.lines lines.now) context.now in
             IfOk result (λ told. told ≡ answered budget (T.lines lines.now) start
-            (answer_of (visits x self.now.tree.node (way_from start)))) }
+            (answer_of (visits x self.now.tree.value.node (way_from start)))) }
     {
         let sight = &mut scratch.sight;
         match first_way(lines, context, &self.step, start, budget, sight) {
@@ -136,7 +136,7 @@ impl Model for Programs {
 
     ghost coded = { coded_list coded_tree };
 
-    ghost view = { λ p. map (λ program. program.tree) p.programs.items };
+    ghost view = { λ p. map (λ program. program.tree.value) p.programs.items };
 
     ghost invariant = { λ p. All IsReady p.programs.items };
 }
@@ -208,7 +208,7 @@ impl Programs {
     {
         let program = &self.programs[id.0 as usize];
         let context = Context {
-            ignore: program.tree.case.unwrap_or(context.ignore),
+            ignore: program.case.unwrap_or(context.ignore),
             sets: context.sets,
             externals: context.externals,
         };
@@ -236,7 +236,7 @@ impl Programs {
             result ≡ passes_at tree context.now.sets.now context.now.ignore line.now col }
     {
         let program = &self.programs[id.0 as usize];
-        let ignore = program.tree.case.unwrap_or(context.ignore);
+        let ignore = program.case.unwrap_or(context.ignore);
         some_first_fits(&program.step, context.sets, ignore, line.get(col).copied())
     }
 

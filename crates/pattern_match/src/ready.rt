@@ -319,7 +319,10 @@ fn ready_atom(alloc: Global, atom: &Atom) -> Result<Test, Memory>
             not: *not,
             line_end: *line_end,
         }),
-        Atom::Set(ranges) => Ok(Test::Set(Collection::new(alloc, ranges)?)),
+        Atom::Set(ranges) => {
+            let collection = Collection::new(alloc, ranges)?;
+            Ok(Test::Set(Box::new(alloc, collection)?))
+        }
         Atom::LineEnd => Ok(Test::LineEnd),
         Atom::LineStart => Ok(Test::LineStart),
         Atom::LineStop => Ok(Test::LineStop),

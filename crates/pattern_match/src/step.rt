@@ -57,7 +57,7 @@ pub(crate) enum Test {
         not: bool,
         line_end: bool,
     },
-    Set(Collection),
+    Set(Box<Collection>),
     LineEnd,
     LineStart,
     LineStop,

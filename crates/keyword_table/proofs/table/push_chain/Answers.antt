@@ -1,5 +1,6 @@
-use Rattle.std.proofs.Common.{◌≡◌, sym, ◌∙◌, ap, Some, arith}
+use Rattle.std.proofs.Common.{◌≡◌, [], ◌∷◌, ◌++◌, sym, ◌∙◌, ap, Some, arith}
 use Rattle.std.specs.Prelude.{slice_get}
+use Rattle.syn_base.specs.declared.places.ItemId.{ItemId}
 use Rattle.std.proofs.lemmas.Option.{slice_get-get_or}
 use Rattle.keyword_table.proofs.ChainLaws.{chained-earlier, smaller_walk, walked_on}
 use Rattle.keyword_table.proofs.table.push_chain.Goals as goal
@@ -21,6 +22,6 @@ loop-at-preserved c =
     slice_get-get_or entries c.in-Some.k entry inside ∙ ap Some (sym c.index-entries-k.is) in
     let before = chained-earlier entries c.in-Some.k entry c.requires.chained here in
     record {
-      walked = walked_on entries c.loop-at.at c.in-Some.k entry c.loop-at.items c.push.new.self _ c.requires.chained c.in-Some.is here c.in_ok-push.ensures.ok c.loop-at.invariant.walked;
+      walked = walked_on entries c.loop-at.at c.in-Some.k entry c.loop-at.items c.push.new.self _ c.requires.chained c.in-Some.is here (c.in_ok-push.ensures.ok ∙ ap (λ (id : ItemId). c.loop-at.items ++ id ∷ []) entry.starts) c.loop-at.invariant.walked;
       within = λ j e. let below = before j e in omega arith;
     }

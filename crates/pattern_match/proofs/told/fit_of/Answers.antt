@@ -27,8 +27,8 @@ pub returns-in-Set : goal.returns-in-Set
 returns-in-Set c = λ text w behind on_text start stands.
     let x : AnyContext = context_in text c.args.context.now in
     rw (c.in-Set.is, c.takes_if-in-Set.ensures)
-    (subst (IsTold x w (atom.Set c.in-Set.collection)) (sym (takes-told c.has.result w.at behind))
-    (told_or_end x w w.at behind c.args.c refl stands (atom.Set c.in-Set.collection) c.in-Set.collection.line_end (λ d. collection_holds c.in-Set.collection d x.sets x.ignore) c.has.result refl refl c.has.ensures))
+    (subst (IsTold x w (atom.Set c.in-Set.collection.value)) (sym (takes-told c.has.result w.at behind))
+    (told_or_end x w w.at behind c.args.c refl stands (atom.Set c.in-Set.collection.value) c.in-Set.collection.value.line_end (λ d. collection_holds c.in-Set.collection.value d x.sets x.ignore) c.has.result refl refl (rw c.deref.ensures at c.has.ensures)))
 
 pub returns-in-Is : goal.returns-in-Is
 returns-in-Is c = λ text w behind on_text start stands.
