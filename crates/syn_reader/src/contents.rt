@@ -5,13 +5,14 @@ ghost use Rattle.syn_reader.specs.Clusters as clusters;
 ghost use Rattle.syn_reader.specs.Contents as spec;
 
 use crate::abbreviation::{Words, words_of};
+use crate::boxed_pattern::BoxedPattern;
 use crate::patterns::Patterns;
 use crate::read_list::{ReadList, list_read};
 use crate::refusal::Refusal;
 use std::alloc::Global;
 use syn_base::List;
 use syn_words::{Field, Flag, NamedList, Piece, Role};
-use syntax_set::{Change, Groups, Pattern};
+use syntax_set::{Change, Groups};
 
 /// A part of a cluster command, read.
 #[derive(Drop)]
@@ -28,7 +29,7 @@ pub(crate) enum Content {
     Names(Field, ReadList),
     Matchgroup(List<char>),
     /// Not yet with its matchgroup and `excludenl`.
-    Quote(Role, Pattern),
+    Quote(Role, BoxedPattern),
     /// The words that a keyword stands for.
     Words(Words),
 }
@@ -48,7 +49,8 @@ fn content_of(
         Piece::Names(field, list) => Ok(Content::Names(field, list_read(alloc, groups, list)?)),
         Piece::Matchgroup(name) => Ok(Content::Matchgroup(name)),
         Piece::Quote(role, quoted) => {
-            Ok(Content::Quote(role, patterns.read(alloc, role, quoted)?))
+            let pattern = patterns.read(alloc, role, quoted.into_quoted())?;
+            Ok(Content::Quote(role, BoxedPattern::new(alloc, pattern)?))
         }
         Piece::Word(text) => Ok(Content::Words(words_of(alloc, text)?)),
     }
@@ -63,7 +65,7 @@ pub(crate) fn contents_of(
 ) -> Result<List<Content>, Refusal>
     ensures { Makes result patterns.new (spec.contents_of groups.now patterns.old pieces) }
 {
-    let mut contents = List::new(alloc);
+    let mut contents = List::from_vec(Vec::with_capacity(alloc, pieces.len())?);
     for piece in pieces.into_vec() {
         contents.push(content_of(alloc, groups, patterns, piece)?)?;
     }

@@ -1,5 +1,5 @@
 //! An item while its pieces are put together.
-ghost use Rattle.std.specs.Prelude.{◌≡◌, OnOk};
+ghost use Rattle.std.specs.Prelude.{◌≡◌, ◌++◌, ◌∷◌, [], OnOk};
 ghost use Rattle.syn_reader.specs.Answers.{Gives, Leaves};
 ghost use Rattle.syn_reader.specs.Items as spec;
 
@@ -80,6 +80,19 @@ fn kind_of(
     }
 }
 
+/// Puts a pattern behind others. A list of one, as most are, has room for no more.
+fn put_behind(alloc: Global, patterns: &mut List<Pattern>, pattern: Pattern) -> Result<(), Memory>
+    ensures { OnOk result (patterns.new ≡ patterns.old ++ pattern ∷ []) }
+{
+    if !patterns.is_empty() {
+        return patterns.push(pattern);
+    }
+    let mut alone = Vec::with_capacity(alloc, 1)?;
+    alone.push(pattern)?;
+    *patterns = List::from_vec(alone);
+    Ok(())
+}
+
 impl Draft {
     /// An item of which nothing is said yet. It takes no memory.
     pub(crate) fn new(alloc: Global, group: GroupId, ignore: bool, include: u32) -> Draft
@@ -146,7 +159,7 @@ impl Draft {
     }
 
     /// Puts a pattern in its place, with what holds there.
-    fn put(&mut self, role: Role, pattern: Pattern) -> Result<(), Memory>
+    fn put(&mut self, alloc: Global, role: Role, pattern: Pattern) -> Result<(), Memory>
         ensures { OnOk result (self.new ≡ spec.with_quote self.old role pattern) }
     {
         let mut pattern = pattern;
@@ -162,11 +175,11 @@ impl Draft {
             }
             Role::Start => {
                 pattern.matchgroup = self.matchgroup;
-                self.starts.push(pattern)
+                put_behind(alloc, &mut self.starts, pattern)
             }
             Role::End => {
                 pattern.matchgroup = self.matchgroup;
-                self.ends.push(pattern)
+                put_behind(alloc, &mut self.ends, pattern)
             }
         }
     }
@@ -197,7 +210,7 @@ impl Draft {
                 Ok(())
             }
             Content::Matchgroup(name) => self.set_matchgroup(alloc, names, name.as_slice()),
-            Content::Quote(role, pattern) => Ok(self.put(role, pattern)?),
+            Content::Quote(role, pattern) => Ok(self.put(alloc, role, pattern.into_pattern())?),
             Content::Words(words) => Ok(self.push_words(words)?),
         }
     }

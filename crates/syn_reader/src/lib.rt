@@ -7,6 +7,7 @@
 #![tactic(auto)]
 
 mod abbreviation;
+mod boxed_pattern;
 mod clusters;
 mod contents;
 mod draft;

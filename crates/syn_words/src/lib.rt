@@ -7,6 +7,7 @@
 #![tactic(auto)]
 
 mod arguments;
+mod boxed_quoted;
 mod cause;
 mod clusters;
 mod file;
@@ -24,6 +25,7 @@ mod styles;
 mod syntax;
 mod what;
 
+pub use boxed_quoted::BoxedQuoted;
 pub use cause::Cause;
 pub use file::commands;
 pub use what::{

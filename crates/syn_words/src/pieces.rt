@@ -9,7 +9,7 @@ use crate::names::group_name;
 use crate::options::{OptionWord, option_of};
 use crate::quoted::quote;
 use crate::refusal::WordRefusal;
-use crate::{Cause, Field, Flag, ItemCommand, Piece, Role};
+use crate::{BoxedQuoted, Cause, Field, Flag, ItemCommand, Piece, Role};
 use std::alloc::Global;
 use syn_base::List;
 use text_scan::front;
@@ -143,7 +143,7 @@ fn quote_as(alloc: Global, role: Role, reader: &mut Reader<'_>) -> Result<Piece,
     ensures { TakesAs result reader.new (spec.quote_as role reader.old) }
 {
     let quoted = quote(alloc, reader)?;
-    Ok(Piece::Quote(role, quoted))
+    Ok(Piece::Quote(role, BoxedQuoted::new(alloc, quoted)?))
 }
 
 fn is_skip(role: Role) -> bool

@@ -1,5 +1,5 @@
 //! What commands say.
-use crate::Cause;
+use crate::{BoxedQuoted, Cause};
 use syn_base::List;
 use syntax_set::{Change, Offset, Special};
 
@@ -94,7 +94,7 @@ pub enum Piece {
     Names(Field, NamedList),
     /// `:syn-matchgroup`, as written; `NONE` in any case ends the one before.
     Matchgroup(List<char>),
-    Quote(Role, Quoted),
+    Quote(Role, BoxedQuoted),
     /// A keyword as written, maybe with brackets.
     Word(List<char>),
 }
